@@ -1,0 +1,43 @@
+// Sets of names as 29-bit masks (document 01, "Instants, names, predicates"): name n is the bit of value 2^n.
+// Every function here is proved, and the crate assumes nothing of its own.
+ghost use mathlib.Core.Path.{_≡_};
+ghost use Prim.Native.Nat.{_<_, _≤_, _^_};
+ghost use lib.Count.{ones};
+ghost use Rattle.names.specs.Sets.{subset as Sets·subset, union as Sets·union, has as Sets·has};
+
+// Whether each name of t is in s.
+pub fn subset(t: u32, s: u32) -> bool
+    ensures { λ r. ⌜ r ≡ Sets·subset t s ⌝ }
+{
+    t & s == t
+}
+
+// The names of s and those of t.
+pub fn union(s: u32, t: u32) -> u32
+    ensures { λ r. ⌜ r ≡ Sets·union s t ⌝ }
+{
+    s | t
+}
+
+// How many names s holds: it decides degrees, limits and the fewest failures.
+pub fn count(s: u32) -> u32
+    ensures { λ r. ⌜ (r ≡ ones s) × (r ≤ 32) ⌝ }
+{
+    u32::count_ones(s)
+}
+
+// The set of the name n alone.
+pub fn single(n: u32) -> u32
+    requires { ⌜ n < 32 ⌝ }
+    ensures { λ r. ⌜ r ≡ 2 ^ n ⌝ }
+{
+    1 << n
+}
+
+// Whether s holds the name n: the own-name test.
+pub fn has(n: u32, s: u32) -> bool
+    requires { ⌜ n < 32 ⌝ }
+    ensures { λ r. ⌜ r ≡ Sets·has n s ⌝ }
+{
+    s & single(n) != 0
+}
