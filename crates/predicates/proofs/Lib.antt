@@ -1,0 +1,5 @@
+pub mod ListLaws
+pub mod PredicateLaws
+pub mod LoopLaws
+pub mod PlaceLaws
+pub mod SumLaws

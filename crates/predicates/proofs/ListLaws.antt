@@ -1,0 +1,124 @@
+-- Boolean tests as facts, tests over lists by their elements, and a list filled up with zeros. Assumes nothing.
+use mathlib.Core.Path.{_≡_, refl, sym, ap, subst, _∙_}
+use mathlib.Core.Logic.{_⊎_, inl, inr}
+use mathlib.Core.Bool.{Bool, true, false, _&&_, _||_, not, cond}
+use mathlib.Core.List.{List, [], _∷_, _++_}
+use lib.Dec.{T}
+use Rattle.predicates.specs.Lists.{any, all, keep, In}
+
+-- ---- Boolean tests
+
+pub both : (a b : Bool) → T a → T b → T (a && b)
+both true b p q = q
+both false b p q = p
+
+pub both-l : (a b : Bool) → T (a && b) → T a
+both-l true b h = tt
+both-l false b h = h
+
+pub both-r : (a b : Bool) → T (a && b) → T b
+both-r true b h = h
+both-r false b h = absurd h
+
+pub or-l : (a b : Bool) → T a → T (a || b)
+or-l true b h = tt
+or-l false b h = absurd h
+
+pub or-r : (a b : Bool) → T b → T (a || b)
+or-r true b h = tt
+or-r false b h = h
+
+pub or-cases : (a b : Bool) → T (a || b) → T a ⊎ T b
+or-cases true b h = inl tt
+or-cases false b h = inr h
+
+pub or-swap : (a b c : Bool) → a || (b || c) ≡ b || (a || c)
+or-swap true true c = refl
+or-swap true false c = refl
+or-swap false b c = refl
+
+pub true-T : (b : Bool) → b ≡ true → T b
+true-T b e = subst (λ (x : Bool). T x) (sym e) tt
+
+pub T-true : (b : Bool) → T b → b ≡ true
+T-true true h = refl
+T-true false h = absurd h
+
+pub T-false : (b : Bool) → T (not b) → b ≡ false
+T-false true h = absurd h
+T-false false h = refl
+
+pub false-T : (b : Bool) → b ≡ false → T (not b)
+false-T b e = subst (λ (x : Bool). T (not x)) (sym e) tt
+
+-- what holds of both branches, each with its test
+pub cond-ind {ℓ} : {A : Type 0} (P : A → Type ℓ) (b : Bool) (x y : A) → (T b → P x) → (T (not b) → P y) → P (cond b x y)
+cond-ind P true x y f g = f tt
+cond-ind P false x y f g = g tt
+
+-- ---- elements
+
+module _ {A : Type 0} where
+  pub in-l : (a : A) (l m : List A) → In a l → In a (l ++ m)
+  in-l a [] m h = absurd h
+  in-l a (x ∷ l) m (inl e) = inl e
+  in-l a (x ∷ l) m (inr h) = inr (in-l a l m h)
+
+  pub in-r : (a : A) (l m : List A) → In a m → In a (l ++ m)
+  in-r a [] m h = h
+  in-r a (x ∷ l) m h = inr (in-r a l m h)
+
+  pub in-cases : (a : A) (l m : List A) → In a (l ++ m) → In a l ⊎ In a m
+  in-cases a [] m h = inr h
+  in-cases a (x ∷ l) m (inl e) = inl (inl e)
+  in-cases a (x ∷ l) m (inr h) = go (in-cases a l m h)
+    where
+      go : In a l ⊎ In a m → ((a ≡ x) ⊎ In a l) ⊎ In a m
+      go (inl k) = inl (inr k)
+      go (inr k) = inr k
+
+  pub any-in : (f : A → Bool) (l : List A) (a : A) → In a l → T (f a) → T (any f l)
+  any-in f [] a h t = h
+  any-in f (x ∷ l) a (inl e) t = or-l (f x) (any f l) (subst (λ y. T (f y)) e t)
+  any-in f (x ∷ l) a (inr h) t = or-r (f x) (any f l) (any-in f l a h t)
+
+  pub any-out : (f : A → Bool) (l : List A) → T (any f l) → (a : A) × In a l × T (f a)
+  any-out f [] t = absurd t
+  any-out f (x ∷ l) t = go (any-out f l) (or-cases (f x) (any f l) t)
+    where
+      go : (T (any f l) → (a : A) × In a l × T (f a)) → T (f x) ⊎ T (any f l) → (a : A) × In a (x ∷ l) × T (f a)
+      go rest (inl h) = (x, inl refl, h)
+      go rest (inr h) = let r = rest h in (r .0, inr (r .1), r .2)
+
+  pub all-out : (f : A → Bool) (l : List A) → T (all f l) → (a : A) → In a l → T (f a)
+  all-out f [] t a h = absurd h
+  all-out f (x ∷ l) t a (inl e) = subst (λ y. T (f y)) (sym e) (both-l (f x) (all f l) t)
+  all-out f (x ∷ l) t a (inr h) = all-out f l (both-r (f x) (all f l) t) a h
+
+  pub all-in : (f : A → Bool) (l : List A) → ((a : A) → In a l → T (f a)) → T (all f l)
+  all-in f [] h = tt
+  all-in f (x ∷ l) h = both (f x) (all f l) (h x (inl refl)) (all-in f l (λ a k. h a (inr k)))
+
+  pub keep-in : (f : A → Bool) (l : List A) (a : A) → In a l → T (f a) → In a (keep f l)
+  keep-in f [] a h t = h
+  keep-in f (x ∷ l) a (inl e) t =
+      cond-ind (λ m. In a m) (f x) (x ∷ keep f l) (keep f l) (λ _. inl e) (λ n. absurd (no-T (f x) n (subst (λ y. T (f y)) e t)))
+    where
+      no-T : (b : Bool) → T (not b) → T b → ⊥
+      no-T true p q = p
+      no-T false p q = q
+  keep-in f (x ∷ l) a (inr h) t =
+      let r = keep-in f l a h t in cond-ind (λ m. In a m) (f x) (x ∷ keep f l) (keep f l) (λ _. inr r) (λ _. r)
+
+  pub keep-out : (f : A → Bool) (l : List A) (a : A) → In a (keep f l) → In a l × T (f a)
+  keep-out f [] a = λ h. absurd h
+  keep-out f (x ∷ l) a =
+      let rest = keep-out f l a in
+      cond-ind (λ m. In a m → In a (x ∷ l) × T (f a)) (f x) (x ∷ keep f l) (keep f l) (λ t h. first rest t h) (λ t h. later rest h)
+    where
+      later : (In a (keep f l) → In a l × T (f a)) → In a (keep f l) → In a (x ∷ l) × T (f a)
+      later rest h = let r = rest h in (inr (r .0), r .1)
+
+      first : (In a (keep f l) → In a l × T (f a)) → T (f x) → In a (x ∷ keep f l) → In a (x ∷ l) × T (f a)
+      first rest t (inl e) = (inl e, subst (λ y. T (f y)) (sym e) t)
+      first rest t (inr h) = later rest h

@@ -1,0 +1,82 @@
+// Predicates over failed names (document 01, "Instants, names, predicates"): a predicate is a slice of masks, its terms.
+// Every function here is proved, and the crate assumes nothing of its own.
+pub mod normal;
+pub mod sums;
+
+ghost use mathlib.Core.Path.{_≡_};
+ghost use Prim.Native.Nat.{_≤_};
+ghost use Rattle.predicates.specs.Lists.{all};
+ghost use Rattle.predicates.specs.Predicates.{before as Predicates·before, degree as Predicates·degree, holds as Predicates·holds, implies as Predicates·implies, isNormal};
+
+// Whether the set s makes p true.
+pub fn holds(p: &[u32], s: u32) -> bool
+    ensures { λ r. ⌜ r ≡ Predicates·holds s (now (p .entry)) ⌝ }
+{
+    let mut i: usize = 0;
+    while i < p.len() {
+        if names::subset(p[i], s) {
+            return true;
+        }
+        i += 1;
+    }
+    false
+}
+
+// Whether p implies q.
+pub fn implies(p: &[u32], q: &[u32]) -> bool
+    ensures { λ r. ⌜ r ≡ Predicates·implies (now (p .entry)) (now (q .entry)) ⌝ }
+{
+    let mut i: usize = 0;
+    while i < p.len() {
+        if !holds(q, p[i]) {
+            return false;
+        }
+        i += 1;
+    }
+    true
+}
+
+// The number of names in the smallest term of p; 30 where there is none.
+pub fn degree(p: &[u32]) -> u32
+    ensures { λ r. ⌜ (r ≡ Predicates·degree (now (p .entry))) × (r ≤ 30) ⌝ }
+{
+    let mut least: u32 = 30;
+    let mut i: usize = 0;
+    while i < p.len() {
+        let count = names::count(p[i]);
+        if count < least {
+            least = count;
+        }
+        i += 1;
+    }
+    least
+}
+
+// Whether t may stand before each term of p.
+fn before_all(t: u32, p: &[u32]) -> bool
+    ensures { λ r. ⌜ r ≡ all (λ u. Predicates·before t u) (now (p .entry)) ⌝ }
+{
+    let mut ok = true;
+    let mut i: usize = 0;
+    while i < p.len() {
+        let u = p[i];
+        ok = ok & ((t < u) & !names::subset(t, u));
+        i += 1;
+    }
+    ok
+}
+
+// Whether p is in normal form.
+pub fn is_normal(p: &[u32]) -> bool
+    ensures { λ r. ⌜ r ≡ isNormal (now (p .entry)) ⌝ }
+{
+    let mut i: usize = 0;
+    while i < p.len() {
+        let next = i + 1;
+        if !before_all(p[i], &p[next..]) {
+            return false;
+        }
+        i = next;
+    }
+    true
+}

@@ -1,0 +1,78 @@
+// Predicates made from others, in a lent array: struck, the sum of two, and what a receiver forms.
+ghost use mathlib.Core.Path.{_≡_};
+ghost use mathlib.Core.List.{_++_};
+ghost use Prim.Native.Nat.{_+_, _-_, _<_, _≤_};
+ghost use lib.ListN.{length, take, drop, replicate};
+ghost use lib.Seq.{sets};
+ghost use Rattle.predicates.specs.Lists.{padded};
+ghost use Rattle.predicates.specs.Predicates.{formed as Predicates·formed, normal as Predicates·normal, struck};
+
+// Puts zeros into the places from `from` up to n.
+fn clear(terms: &mut [u32], from: usize, n: usize)
+    requires { ⌜ (from ≤ n) × (n ≤ length (now terms)) ⌝ }
+    ensures { λ _. ⌜ now (terms .exit) ≡ sets (now (terms .entry)) from (replicate (n - from) 0) ⌝ }
+{
+    let mut i = from;
+    while i < n {
+        terms[i] = 0;
+        i += 1;
+    }
+}
+
+// Strikes out, of the first n terms, those that name `name`, with zeros in the places given up. Answers how many are left.
+pub fn strike(terms: &mut [u32], n: usize, name: u32) -> usize
+    requires { ⌜ (n ≤ length (now terms)) × (name < 32) ⌝ }
+    ensures { λ r. ⌜ (r ≡ length (struck name (take n (now (terms .entry))))) × (r ≤ n) ⌝ }
+    ensures { λ _. ⌜ now (terms .exit) ≡ padded n (struck name (take n (now (terms .entry)))) ++ drop n (now (terms .entry)) ⌝ }
+{
+    let mut kept: usize = 0;
+    let mut i: usize = 0;
+    while i < n {
+        let t = terms[i];
+        if !names::has(name, t) {
+            terms[kept] = t;
+            kept += 1;
+        }
+        i += 1;
+    }
+    clear(terms, kept, n);
+    kept
+}
+
+// Copies the terms of p to the places from `at` on.
+fn copy(terms: &mut [u32], at: usize, p: &[u32])
+    requires { ⌜ at + length (now p) ≤ length (now terms) ⌝ }
+    ensures { λ _. ⌜ now (terms .exit) ≡ sets (now (terms .entry)) at (now (p .entry)) ⌝ }
+{
+    let mut i: usize = 0;
+    while i < p.len() {
+        terms[at + i] = p[i];
+        i += 1;
+    }
+}
+
+// Makes the sum of p and q, in normal form, at the front of `terms`; of the places that both need, those left over are zero.
+// Answers how many terms it has.
+pub fn sum(terms: &mut [u32], p: &[u32], q: &[u32]) -> usize
+    requires { ⌜ length (now p) + length (now q) ≤ length (now terms) ⌝ }
+    ensures { λ r. ⌜ (r ≡ length (Predicates·normal (now (p .entry) ++ now (q .entry)))) × (r ≤ length (now (p .entry)) + length (now (q .entry))) ⌝ }
+    ensures { λ _. ⌜ now (terms .exit) ≡ padded (length (now (p .entry)) + length (now (q .entry))) (Predicates·normal (now (p .entry) ++ now (q .entry))) ++ drop (length (now (p .entry)) + length (now (q .entry))) (now (terms .entry)) ⌝ }
+{
+    let n = p.len();
+    copy(terms, 0, p);
+    copy(terms, n, q);
+    super::normal::normal_form(terms, n + q.len())
+}
+
+// Makes of the first n terms, a sender's predicate, what the receiver `own` forms of it; of n + 1 places those left over are zero.
+// Answers how many terms it has.
+pub fn form(terms: &mut [u32], n: usize, own: u32, sender: u32) -> usize
+    requires { ⌜ (n < length (now terms)) × (own < 32) × (sender < 32) ⌝ }
+    ensures { λ r. ⌜ (r ≡ length (Predicates·formed own sender (take n (now (terms .entry))))) × (r ≤ n + 1) ⌝ }
+    ensures { λ _. ⌜ now (terms .exit) ≡ padded (n + 1) (Predicates·formed own sender (take n (now (terms .entry)))) ++ drop (n + 1) (now (terms .entry)) ⌝ }
+{
+    terms[n] = 0;
+    let kept = strike(terms, n, own);
+    terms[kept] = names::single(sender);
+    super::normal::normal_form(terms, kept + 1)
+}
