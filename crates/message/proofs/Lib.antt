@@ -1,0 +1,4 @@
+pub mod Cases
+pub mod WordLaws
+pub mod ReadLaws
+pub mod MessageLaws

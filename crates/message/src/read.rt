@@ -1,0 +1,193 @@
+// Reading: a function for each test of document 01, in its order 10, 12, 11, 13 to 17.
+ghost use mathlib.Core.Path.{_≡_};
+ghost use Prim.Native.Nat.{_+_, _≤_, _<_, _^_};
+ghost use lib.ListN.{length};
+ghost use Rattle.message.specs.Words.{kindOf, payload as Words·payload, ofKind, check};
+ghost use Rattle.message.specs.Read.{headFits, start as Read·start, spanKinds, kindsFit, checkFits, pair as Read·pair, span as Read·span, readForm, readWords, termWords, numberOf};
+use super::Interval;
+use super::Reading;
+
+fn kind(w: u32) -> u32
+    ensures { λ r. ⌜ (r ≡ kindOf w) × (r < 8) ⌝ }
+{
+    w / 536870912
+}
+
+fn payload(w: u32) -> u32
+    ensures { λ r. ⌜ (r ≡ Words·payload w) × (r < 2 ^ 29) ⌝ }
+{
+    w % 536870912
+}
+
+// Whether each word is of kind k.
+fn of_kind(words: &[u32], k: u32) -> bool
+    ensures { λ r. ⌜ r ≡ ofKind k (now (words .entry)) ⌝ }
+{
+    let mut ok = true;
+    let mut i: usize = 0;
+    while i < words.len() {
+        ok = ok & (kind(words[i]) == k);
+        i += 1;
+    }
+    ok
+}
+
+// The check word's payload: the sum of the words, wrapping, modulo 2^29.
+pub fn check_of(words: &[u32]) -> u32
+    ensures { λ r. ⌜ (r ≡ check (now (words .entry))) × (r < 2 ^ 29) ⌝ }
+{
+    let mut sum: u32 = 0;
+    let mut from: usize = 0;
+    while from < words.len() {
+        sum = std::num::wrapping_add_u32(sum, words[from]);
+        from += 1;
+    }
+    sum % 536870912
+}
+
+fn head_fits(head: u32) -> bool
+    ensures { λ r. ⌜ r ≡ headFits head ⌝ }
+{
+    (kind(head) == 1) & ((head % 32 <= 28) & ((head / 32 % 32 <= 8) & (payload(head) / 1024 == 0)))
+}
+
+fn start(ends: bool) -> usize
+    ensures { λ r. ⌜ (r ≡ Read·start ends) × (4 ≤ r) × (r ≤ 5) ⌝ }
+{
+    if ends {
+        return 5;
+    }
+    4
+}
+
+// Whether the words of the interval are of their kinds.
+fn span_kinds(words: &[u32], ends: bool) -> bool
+    requires { ⌜ 5 ≤ length (now words) ⌝ }
+    ensures { λ r. ⌜ r ≡ spanKinds ends (now (words .entry)) ⌝ }
+{
+    if ends {
+        return of_kind(&words[1..3], 2) & of_kind(&words[3..5], 3);
+    }
+    of_kind(&words[1..3], 4) & of_kind(&words[3..4], 5)
+}
+
+// Whether each word behind the head is of its kind.
+fn kinds_fit(words: &[u32], ends: bool) -> bool
+    requires { ⌜ (5 ≤ length (now words)) × (Read·start ends + 1 ≤ length (now words)) ⌝ }
+    ensures { λ r. ⌜ r ≡ kindsFit ends (now (words .entry)) ⌝ }
+{
+    let from = start(ends);
+    let last = words.len() - 1;
+    span_kinds(words, ends) & (of_kind(&words[from..last], 6) & of_kind(&words[last..], 7))
+}
+
+fn check_fits(words: &[u32]) -> bool
+    requires { ⌜ 1 ≤ length (now words) ⌝ }
+    ensures { λ r. ⌜ r ≡ checkFits (now (words .entry)) ⌝ }
+{
+    let last = words.len() - 1;
+    payload(words[last]) == check_of(&words[..last])
+}
+
+// The number in the words at i and i + 1.
+fn pair(words: &[u32], i: usize) -> u64
+    requires { ⌜ i + 1 < length (now words) ⌝ }
+    ensures { λ r. ⌜ (r ≡ Read·pair (now (words .entry)) i) × (r < 2 ^ 58) ⌝ }
+{
+    (payload(words[i]) as u64) * 536870912 + (payload(words[i + 1]) as u64)
+}
+
+fn span(words: &[u32], ends: bool) -> Interval
+    requires { ⌜ 5 ≤ length (now words) ⌝ }
+    ensures { λ r. ⌜ r ≡ Read·span ends (now (words .entry)) ⌝ }
+{
+    let a = pair(words, 1);
+    if ends {
+        let b = pair(words, 3);
+        if a <= b {
+            return Interval::Span(a, b);
+        }
+        return Interval::Bad;
+    }
+    let half = payload(words[3]) as u64;
+    if half <= a {
+        if a + half < 288230376151711744 {
+            return Interval::Span(a - half, a + half);
+        }
+    }
+    Interval::Bad
+}
+
+// From the word count on.
+fn read_form(words: &[u32], ends: bool) -> Reading
+    requires { ⌜ 5 ≤ length (now words) ⌝ }
+    ensures { λ r. ⌜ r ≡ readForm ends (now (words .entry)) ⌝ }
+{
+    let head = words[0];
+    let last = words.len() - 1;
+    let from = start(ends);
+    let count = head / 32 % 32;
+    if last != from + count as usize {
+        return Reading::Refused(13);
+    }
+    if !kinds_fit(words, ends) {
+        return Reading::Refused(14);
+    }
+    if !check_fits(words) {
+        return Reading::Refused(15);
+    }
+    let interval = span(words, ends);
+    let Interval::Span(left, right) = interval else {
+        return Reading::Refused(16);
+    };
+    if !predicates::is_normal(&words[from..last]) {
+        return Reading::Refused(17);
+    }
+    Reading::Message(head % 32, left, right, count)
+}
+
+// The message in the words, or its first refusal.
+pub fn read(words: &[u32]) -> Reading
+    ensures { λ r. ⌜ r ≡ readWords (now (words .entry)) ⌝ }
+{
+    let n = words.len();
+    if n < 5 {
+        return Reading::Refused(10);
+    }
+    if 14 < n {
+        return Reading::Refused(10);
+    }
+    let head = head_fits(words[0]);
+    let second = kind(words[1]);
+    let form = (second == 2) | (second == 4);
+    if !head {
+        return Reading::Refused(12);
+    }
+    if !form {
+        return Reading::Refused(11);
+    }
+    read_form(words, second == 2)
+}
+
+// The number of a refusal, 0 for a message that is taken.
+pub fn refusal(got: Reading) -> u32
+    ensures { λ r. ⌜ r ≡ numberOf got ⌝ }
+{
+    match got {
+        Reading::Refused(number) => number,
+        Reading::Message(_, _, _, _) => 0,
+    }
+}
+
+// The term words of a message that was read: exactly its words of kind 6, as a part of the caller's slice.
+pub fn term_words(words: &[u32], got: Reading) -> &[u32]
+    requires { ⌜ got ≡ readWords (now words) ⌝ }
+    ensures { λ r. ⌜ now r ≡ termWords got (now (words .entry)) ⌝ }
+{
+    let Reading::Message(_, _, _, count) = got else {
+        return &words[..0];
+    };
+    let from = words.len() - 1 - count as usize;
+    let end = words.len() - 1;
+    &words[from..end]
+}

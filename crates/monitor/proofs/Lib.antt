@@ -1,0 +1,2 @@
+pub mod MessageCalls
+pub mod Demand2

@@ -1,0 +1,95 @@
+-- The calls on messages alone, on plain values: bytes that cannot be a message's are read as no words, and what the exits of the calls leave.
+-- No contract cites this file. Assumes nothing.
+use Prim.Native.Nat.{ℕ, _+_, _*_, _/_, _%_, _≤_, _<_}
+use mathlib.Core.Path.{_≡_, refl, sym, ap, _∙_}
+use mathlib.Core.Bool.{Bool, true, false, cond}
+use mathlib.Core.List.{List, [], _∷_, _++_}
+use native.Mathlib.Omega.{arith}
+use borrow.Author.Tests.{lt-ltb, le-ltb, eq-eqb, ne-eqb, eqb-true, eqb-false, ltb-true, ltb-false}
+use lib.Dec.{ltb, eqb}
+use lib.ListN.{length, take, drop}
+use lib.Seq.{take-at}
+use Rattle.numbers.specs.Numbers.{tab, num, wordsOf, bytesOf, put}
+use Rattle.numbers.proofs.NumberLaws.{length-tab, length-bytesOf, take-put}
+use Rattle.message.specs.Read.{readWords}
+use Rattle.message.specs.Write.{rewritten, rewrittenAs}
+use Rattle.message.specs.declared.Reading.{Reading}
+use Rattle.message.specs.declared.Reading.the-variants.{Message, Refused}
+use Rattle.message.proofs.ReadLaws.{read-out}
+use Rattle.message.proofs.MessageLaws.{rewrite-length}
+use Rattle.monitor.specs.Messages.{readBytes, wordsIn, rewrittenBytes}
+
+-- more than 14 words, or none, are 10
+read-many : (ws : List ℕ) → 14 < length ws → readWords ws ≡ Refused 10
+unfolding readWords
+read-many ws h = rw (le-ltb (length ws) 5 (omega arith), lt-ltb 14 (length ws) h)
+
+length-words : (m : List ℕ) → length (wordsOf m) ≡ length m / 4
+unfolding wordsOf
+length-words m = length-tab (length m / 4) (λ i. num (i * 4) 4 m)
+
+too-many : (m : List ℕ) → eqb (length m % 4) 0 ≡ true → ltb 56 (length m) ≡ true → readWords (wordsOf m) ≡ Refused 10
+too-many m e f = read-many (wordsOf m) (omega (arith, length-words m, eqb-true (length m % 4) 0 e, ltb-true 56 (length m) f))
+
+pub read-words-in : (m : List ℕ) → readWords (wordsIn m) ≡ readBytes m
+unfolding readBytes wordsIn readWords
+read-words-in m = go (eqb (length m % 4) 0) (ltb 56 (length m)) refl refl
+  where
+    go : (a b : Bool) → eqb (length m % 4) 0 ≡ a → ltb 56 (length m) ≡ b → readWords (cond a (cond b [] (wordsOf m)) []) ≡ cond a (readWords (wordsOf m)) (Refused 10)
+    go true true e f = sym (too-many m e f)
+    go true false e f = refl
+    go false b e f = refl
+
+pub rewritten-words-in : (m : List ℕ) → rewritten (wordsIn m) ≡ rewrittenAs (readBytes m) (wordsOf m)
+unfolding rewritten rewrittenAs readBytes wordsIn
+rewritten-words-in m = ap (λ (r : Reading). rewrittenAs r (wordsIn m)) (read-words-in m) ∙ go (eqb (length m % 4) 0) (ltb 56 (length m)) refl refl
+  where
+    go : (a b : Bool) → eqb (length m % 4) 0 ≡ a → ltb 56 (length m) ≡ b → rewrittenAs (readBytes m) (wordsIn m) ≡ rewrittenAs (readBytes m) (wordsOf m)
+    go true true e f = rw (e, f, too-many m e f)
+    go true false e f = rw (e, f)
+    go false b e f = rw e
+
+-- ---- the words in bytes
+
+module _ (m : List ℕ) where
+  pub words-in-rest : (length m % 4 ≡ 0 → ⊥) → wordsIn m ≡ []
+  unfolding wordsIn
+  words-in-rest h = rw (ne-eqb _ _ h)
+
+  pub words-in-many : length m % 4 ≡ 0 → 56 < length m → wordsIn m ≡ []
+  unfolding wordsIn
+  words-in-many h k = rw (eq-eqb _ _ h, lt-ltb _ _ k)
+
+  pub words-in-all : length m % 4 ≡ 0 → length m ≤ 56 → wordsIn m ≡ tab (length m / 4) (λ i. num (i * 4) 4 m)
+  unfolding wordsIn wordsOf
+  words-in-all h k = rw (eq-eqb _ _ h, le-ltb _ _ k)
+
+-- ---- what the calls before the reading leave
+
+module _ (m words rest : List ℕ) (n : ℕ) (e : words ≡ wordsIn m ++ rest) (f : n ≡ length (wordsIn m)) where
+  pub words-taken : take n words ≡ wordsIn m
+  words-taken = ap (λ (x : List ℕ). take n x) e ∙ take-at (wordsIn m) rest n (sym f)
+
+  pub got-read : (got : Reading) → got ≡ readWords (take n words) → got ≡ readBytes m
+  got-read got p = p ∙ ap (λ (x : List ℕ). readWords x) words-taken ∙ read-words-in m
+
+-- ---- what rewriting leaves: `words` were taken from m, and `written` holds at its front what was written of them
+
+module _ {s l r n : ℕ} (m : List ℕ) (e : readBytes m ≡ Message s l r n) where
+  again : readWords (wordsIn m) ≡ Message s l r n
+  again = read-words-in m ∙ e
+
+  pub rewritten-few : n ≤ 8
+  rewritten-few = read-out (wordsIn m) again .count-le
+
+  pub length-rewritten-bytes : length (rewrittenBytes m) ≡ (n + 6) * 4
+  unfolding rewrittenBytes
+  length-rewritten-bytes =
+      length-bytesOf (rewrittenAs (readBytes m) (wordsOf m))
+      ∙ ap (λ (x : ℕ). x * 4) (ap length (sym (rewritten-words-in m)) ∙ rewrite-length (wordsIn m) again)
+
+  pub written-bytes : (words written : List ℕ) → n + 6 ≤ length words → written ≡ put 0 (rewritten (wordsIn m)) words
+      → bytesOf (take (n + 6) written) ≡ rewrittenBytes m
+  unfolding rewrittenBytes
+  written-bytes words written h p =
+      ap bytesOf (ap (λ (x : List ℕ). take (n + 6) x) p ∙ take-put (n + 6) (rewritten (wordsIn m)) words (rewrite-length (wordsIn m) again) h ∙ rewritten-words-in m)

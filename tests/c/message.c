@@ -1,0 +1,129 @@
+/* The calls on messages alone, as a C program sees them: monitor.h and the archive, nothing else. Every buffer has its exact size between
+ * guard bytes, so that a byte written beside it shows. */
+#include <stdio.h>
+#include <string.h>
+
+#include "monitor.h"
+
+#define GUARD 16
+#define MOST 96
+
+static int passed, failed;
+
+static void check(int ok, const char *what)
+{
+    if (ok) {
+        passed++;
+    } else {
+        failed++;
+        printf("FAILED: %s\n", what);
+    }
+}
+
+/* A lent buffer of n bytes between guards; all bytes start as a pattern. */
+struct lent {
+    uint8_t all[GUARD + MOST + GUARD];
+    size_t n;
+};
+
+static uint8_t pattern(size_t i)
+{
+    return (uint8_t)(0x5a ^ (i * 7));
+}
+
+static uint8_t *lend(struct lent *b, size_t n)
+{
+    for (size_t i = 0; i < sizeof b->all; i++)
+        b->all[i] = pattern(i);
+    b->n = n;
+    return b->all + GUARD;
+}
+
+/* Whether every byte but the first `written` of the buffer is as it was lent. */
+static int untouched(const struct lent *b, size_t written)
+{
+    for (size_t i = 0; i < sizeof b->all; i++)
+        if ((i < GUARD || i >= GUARD + written) && b->all[i] != pattern(i))
+            return 0;
+    return 1;
+}
+
+static size_t bytes_of(uint8_t *out, const uint32_t *words, size_t n)
+{
+    for (size_t i = 0; i < n * 4; i++)
+        out[i] = (uint8_t)(words[i / 4] >> (8 * (i % 4)));
+    return n * 4;
+}
+
+static uint64_t number(const uint8_t *bytes)
+{
+    uint64_t x = 0;
+    for (int i = 7; i >= 0; i--)
+        x = x << 8 | bytes[i];
+    return x;
+}
+
+/* Document 01's first message: sender 1, from 1,000,000 to 1,000,200, no terms. */
+static const uint32_t ends_form[] = {536870913u, 1073741824u, 1074741824u, 1610612736u, 1611612936u, 3760096585u};
+
+/* The same interval in centre form, from sender 2 with the terms {1, 2} and {3}. */
+static const uint32_t centre_form[] = {536870978u, 2147483648u, 2148483748u, 2684354660u, 3221225478u, 3221225480u, 3759096664u};
+
+static void reading(void)
+{
+    struct lent m, r;
+    uint8_t *message = lend(&m, 24), *out = lend(&r, MONITOR_READING_BYTES);
+    size_t len = bytes_of(message, ends_form, 6);
+
+    check(message_read(message, len, out, r.n) == MONITOR_TAKEN, "document 01's first message is taken");
+    check(number(out) == 1 && number(out + 8) == 1000000 && number(out + 16) == 1000200 && number(out + 24) == 0,
+          "sender, left, right and term count");
+    check(untouched(&r, 32), "nothing beside the 32 bytes is written");
+
+    for (size_t n = 0; n < MONITOR_READING_BYTES; n++) {
+        out = lend(&r, n);
+        check(message_read(message, len, out, n) == MONITOR_BUFFER && untouched(&r, 0), "a short output is 24, unchanged");
+    }
+    for (size_t cut = 1; cut < 4; cut++) {
+        out = lend(&r, 0);
+        check(message_read(message, len - cut, out, 0) == MONITOR_WORD_COUNT, "a length that leaves a rest is 10, before 24");
+    }
+    message[0] ^= 2; /* another sender, the old check word */
+    out = lend(&r, 32);
+    check(message_read(message, len, out, r.n) == MONITOR_CHECK && untouched(&r, 0), "a changed head is 15, output unchanged");
+}
+
+static void rewriting(void)
+{
+    struct lent m, r;
+    uint8_t *message = lend(&m, 24), *out = lend(&r, 24);
+    size_t len = bytes_of(message, ends_form, 6);
+
+    check(message_rewrite(message, len, out, r.n) == MONITOR_TAKEN, "an ends form message is taken");
+    check(memcmp(out, message, len) == 0 && untouched(&r, len), "and comes out as the same words");
+
+    message = lend(&m, 28);
+    len = bytes_of(message, centre_form, 7);
+    for (size_t n = 0; n < 32; n++) {
+        out = lend(&r, n);
+        check(message_rewrite(message, len, out, n) == MONITOR_BUFFER && untouched(&r, 0), "8 words do not fit, nothing is written");
+    }
+    out = lend(&r, MONITOR_MESSAGE_BYTES);
+    check(message_rewrite(message, len, out, r.n) == MONITOR_TAKEN && untouched(&r, 32), "a centre form message is written as 8 words");
+
+    struct lent a, b;
+    uint8_t *before = lend(&a, 32), *after = lend(&b, 32);
+    check(message_read(message, len, before, 32) == MONITOR_TAKEN && message_read(out, 32, after, 32) == MONITOR_TAKEN,
+          "both forms are read");
+    check(memcmp(before, after, 32) == 0 && number(before + 8) == 1000000 && number(before + 16) == 1000200,
+          "with the same sender, interval and term count");
+    check(memcmp(out + 20, message + 16, 8) == 0, "and the same term words");
+}
+
+int main(void)
+{
+    reading();
+    rewriting();
+    printf("%d passed, %d failed\n", passed, failed);
+    return failed != 0;
+}
