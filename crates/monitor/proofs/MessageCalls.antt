@@ -4,6 +4,7 @@ use Prim.Native.Nat.{ℕ, _+_, _*_, _/_, _%_, _≤_, _<_}
 use mathlib.Core.Path.{_≡_, refl, sym, ap, _∙_}
 use mathlib.Core.Bool.{Bool, true, false, cond}
 use mathlib.Core.List.{List, [], _∷_, _++_}
+use native.Mathlib.Nat.{zero-add}
 use native.Mathlib.Omega.{arith}
 use borrow.Author.Tests.{lt-ltb, le-ltb, eq-eqb, ne-eqb, eqb-true, eqb-false, ltb-true, ltb-false}
 use lib.Dec.{ltb, eqb}
@@ -60,9 +61,9 @@ module _ (m : List ℕ) where
   unfolding wordsIn
   words-in-many h k = rw (eq-eqb _ _ h, lt-ltb _ _ k)
 
-  pub words-in-all : length m % 4 ≡ 0 → length m ≤ 56 → wordsIn m ≡ tab (length m / 4) (λ i. num (i * 4) 4 m)
+  pub words-in-all : length m % 4 ≡ 0 → length m ≤ 56 → wordsIn m ≡ tab (length m / 4) (λ i. num (0 + i * 4) 4 m)
   unfolding wordsIn wordsOf
-  words-in-all h k = rw (eq-eqb _ _ h, le-ltb _ _ k)
+  words-in-all h k = rw (eq-eqb _ _ h, le-ltb _ _ k) (simp zero-add)
 
 -- ---- what the calls before the reading leave
 

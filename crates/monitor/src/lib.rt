@@ -22,7 +22,7 @@ fn take_words(message: &[u8], words: &mut [u32]) -> usize
         return 0;
     }
     let n = size / 4;
-    numbers::get_words(message, words, n);
+    numbers::get_words(message, 0, words, n);
     n
 }
 
@@ -73,6 +73,6 @@ pub extern "C" fn message_rewrite(message: &[u8], out: &mut [u8]) -> u32
     if out.len() < size * 4 {
         return 24;
     }
-    numbers::put_words(out, &written, size);
+    numbers::put_words(out, 0, &written, size);
     0
 }

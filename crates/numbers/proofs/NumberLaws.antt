@@ -163,25 +163,25 @@ put-next at n i x s p =
 
 -- ---- tab: a list by its elements
 
-pub length-tab : (n : ℕ) (f : ℕ → ℕ) → length (tab n f) ≡ n
+pub length-tab : {A : Type 0} (n : ℕ) (f : ℕ → A) → length (tab n f) ≡ n
 unfolding tab
 length-tab zero f = refl
 length-tab (suc n) f = rw length-append (omega (arith, length-tab n f))
 
-pub getD-tab : (n i : ℕ) (f : ℕ → ℕ) → i < n → getD (tab n f) i 0 ≡ f i
+pub getD-tab : {A : Type 0} (n i : ℕ) (f : ℕ → A) (d : A) → i < n → getD (tab n f) i d ≡ f i
 unfolding tab
-getD-tab zero i f h = absurd (omega arith)
-getD-tab (suc n) i f h =
+getD-tab zero i f d h = absurd (omega arith)
+getD-tab (suc n) i f d h =
     ⊎-elim
-    (λ (p : i ≡ n). rw p (getD-at (tab n f) (f n) [] 0 n (length-tab n f)))
-    (λ (p : i < n). List·getD-append (tab n f) (f n ∷ []) 0 i (rw length-tab p) ∙ getD-tab n i f p)
+    (λ (p : i ≡ n). rw p (getD-at (tab n f) (f n) [] d n (length-tab n f)))
+    (λ (p : i < n). List·getD-append (tab n f) (f n ∷ []) d i (rw length-tab p) ∙ getD-tab n i f d p)
     (eq-or-lt-of-le (le-of-suc-le-suc h))
 
 -- a list is the table of its elements
-pub tab-ext : (n : ℕ) (f : ℕ → ℕ) (vs : List ℕ) → length vs ≡ n → ((i : ℕ) → i < n → f i ≡ getD vs i 0) → tab n f ≡ vs
-tab-ext n f vs e h =
-    ext-getD 0 (tab n f) vs (length-tab n f ∙ sym e)
-    (λ i p. let below : i < n = rw length-tab at p in getD-tab n i f below ∙ h i below)
+pub tab-ext : {A : Type 0} (d : A) (n : ℕ) (f : ℕ → A) (vs : List A) → length vs ≡ n → ((i : ℕ) → i < n → f i ≡ getD vs i d) → tab n f ≡ vs
+tab-ext d n f vs e h =
+    ext-getD d (tab n f) vs (length-tab n f ∙ sym e)
+    (λ i p. let below : i < n = rw length-tab at p in getD-tab n i f d below ∙ h i below)
 
 -- a turn of the loop that stores a table
 pub tab-next : (f : ℕ → ℕ) (at i k v : ℕ) (s t : List ℕ) →
@@ -206,12 +206,12 @@ bytesOf-append [] vs = refl
 bytesOf-append (w ∷ ws) vs = rw (bytesOf-append ws vs, append-assoc)
 
 -- a turn of the loop that stores words
-pub bytesOf-next : (i : ℕ) (ws s t u : List ℕ) → i < length ws →
-    t ≡ put 0 (bytesOf (take i ws)) s → u ≡ put (i * 4) (bytes 4 (getD ws i 0)) t → u ≡ put 0 (bytesOf (take (i + 1) ws)) s
+pub bytesOf-next : (at i : ℕ) (ws s t u : List ℕ) → i < length ws →
+    t ≡ put at (bytesOf (take i ws)) s → u ≡ put (at + i * 4) (bytes 4 (getD ws i 0)) t → u ≡ put at (bytesOf (take (i + 1) ws)) s
 unfolding bytesOf
-bytesOf-next i ws s t u h p q =
+bytesOf-next at i ws s t u h p q =
     let long : length (bytesOf (take i ws)) ≡ i * 4 = length-bytesOf (take i ws) ∙ rw (length-take-le i ws (omega arith)) in
-    rw (add-one, take-suc ws i 0 h, bytesOf-append, append-nil) (put-then (i * 4) 0 (i * 4) _ _ s t u long (omega arith) p q)
+    rw (add-one, take-suc ws i 0 h, bytesOf-append, append-nil) (put-then (i * 4) at (at + i * 4) _ _ s t u long refl p q)
 
 -- word i in the bytes of words
 pub num-bytesOf : (ws : List ℕ) (i : ℕ) → Words ws → i < length ws → num (i * 4) 4 (bytesOf ws) ≡ getD ws i 0
@@ -227,7 +227,7 @@ pub words-bytes : (ws : List ℕ) → Words ws → wordsOf (bytesOf ws) ≡ ws
 unfolding wordsOf
 words-bytes ws w =
     let count : length ws ≡ length (bytesOf ws) / 4 = omega (arith, length-bytesOf ws) in
-    tab-ext _ _ ws count (λ i h. num-bytesOf ws i w (omega arith))
+    tab-ext 0 _ _ ws count (λ i h. num-bytesOf ws i w (omega arith))
 
 -- words stored from the start are read back
 pub words-put : (ws s : List ℕ) → Words ws → length ws * 4 ≤ length s → wordsOf (take (length ws * 4) (put 0 (bytesOf ws) s)) ≡ ws

@@ -24,7 +24,7 @@ unfoldable pub put : ℕ → List ℕ → List ℕ → List ℕ
 put at vs s = sets s at vs
 
 -- the list f 0, f 1, .., f (n - 1)
-unfoldable pub tab : ℕ → (ℕ → ℕ) → List ℕ
+unfoldable pub tab : {A : Type 0} → ℕ → (ℕ → A) → List A
 tab zero f = []
 tab (suc n) f = tab n f ++ (f n ∷ [])
 

@@ -76,25 +76,25 @@ pub fn put64(s: &mut [u8], at: usize, x: u64)
 }
 
 // Reads the first n words in s into the front of out; the rest of out stays.
-pub fn get_words(s: &[u8], out: &mut [u32], n: usize)
-    requires { ⌜ (n ≤ length (now out)) × (n * 4 ≤ length (now s)) ⌝ }
-    ensures { λ _. ⌜ now (out .exit) ≡ tab n (λ i. num (i * 4) 4 (now (s .entry))) ++ drop n (now (out .entry)) ⌝ }
+pub fn get_words(s: &[u8], at: usize, out: &mut [u32], n: usize)
+    requires { ⌜ (n ≤ length (now out)) × (at + n * 4 ≤ length (now s)) ⌝ }
+    ensures { λ _. ⌜ now (out .exit) ≡ tab n (λ i. num (at + i * 4) 4 (now (s .entry))) ++ drop n (now (out .entry)) ⌝ }
 {
     let mut i: usize = 0;
     while i < n {
-        out[i] = get32(s, i * 4);
+        out[i] = get32(s, at + i * 4);
         i += 1;
     }
 }
 
-// Stores the bytes of the first n words at the front of out; the rest of out stays.
-pub fn put_words(out: &mut [u8], words: &[u32], n: usize)
-    requires { ⌜ (n ≤ length (now words)) × (n * 4 ≤ length (now out)) ⌝ }
-    ensures { λ _. ⌜ now (out .exit) ≡ put 0 (bytesOf (take n (now (words .entry)))) (now (out .entry)) ⌝ }
+// Stores the bytes of the first n words in out from index at on; the rest of out stays.
+pub fn put_words(out: &mut [u8], at: usize, words: &[u32], n: usize)
+    requires { ⌜ (n ≤ length (now words)) × (at + n * 4 ≤ length (now out)) ⌝ }
+    ensures { λ _. ⌜ now (out .exit) ≡ put at (bytesOf (take n (now (words .entry)))) (now (out .entry)) ⌝ }
 {
     let mut i: usize = 0;
     while i < n {
-        put32(out, i * 4, words[i]);
+        put32(out, at + i * 4, words[i]);
         i += 1;
     }
 }

@@ -1,5 +1,5 @@
 -- Tests over lists, places in a list, and a list filled up with zeros. Assumes nothing: these are definitions.
-use Prim.Native.Nat.{ℕ, _-_}
+use Prim.Native.Nat.{ℕ, zero, suc, _-_}
 use mathlib.Core.Path.{_≡_}
 use mathlib.Core.Logic.{_⊎_}
 use mathlib.Core.Bool.{Bool, true, false, _&&_, _||_, cond}
@@ -26,6 +26,11 @@ module _ {A : Type 0} where
   abbrev pub In : A → List A → Type 0
   In a [] = ⊥
   In a (x ∷ xs) = (a ≡ x) ⊎ In a xs
+
+-- the test passes for every number below n
+unfoldable pub allBelow : ℕ → (ℕ → Bool) → Bool
+allBelow zero f = true
+allBelow (suc n) f = allBelow n f && f n
 
 -- xs, then zeros up to n places
 unfoldable pub padded : ℕ → List ℕ → List ℕ

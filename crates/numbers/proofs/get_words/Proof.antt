@@ -12,11 +12,11 @@ use Rattle.numbers.proofs.get_words.Statement.{statement}
 use Rattle.numbers.proofs.get_words.Tie as tie
 
 abbrev Inv-loop : tie.InvT-loop
-Inv-loop s out₀ n i₀ out i =
-    (i ≤ n) × (length out ≡ length out₀) × (out ≡ put 0 (tab i (λ k. num (k * 4) 4 s)) out₀)
+Inv-loop s at out₀ n i₀ out i =
+    (i ≤ n) × (length out ≡ length out₀) × (out ≡ put 0 (tab i (λ k. num (at + k * 4) 4 s)) out₀)
 
 abbrev μ-loop : tie.MeasureT-loop
-μ-loop s out₀ n i₀ out i = n - i
+μ-loop s at out₀ n i₀ out i = n - i
 
 loop-holds : tie.Need-loop-holds Inv-loop μ-loop
 unfolding put tab
@@ -40,6 +40,7 @@ get-words-spec =
     Inv-loop
     μ-loop
     loop-holds
+    (λ c. search needs)
     (λ c. search needs)
     (λ c κs. search needs)
     (λ c. search needs)

@@ -1,5 +1,5 @@
 -- `numbers::put_words` meets its contract: turn i stores the four bytes of word i behind those of the words before it.
--- Invariant: out is what it was, with the bytes of the first i words stored at its front. Measure: the words still to store, n - i.
+-- Invariant: out is what it was, with the bytes of the first i words stored from index at on. Measure: the words still to store, n - i.
 -- The mathematics is `bytesOf-next` of `proofs.NumberLaws`. Assumes nothing.
 use Prim.Native.Nat.{_-_, _≤_}
 use mathlib.Core.Path.{_≡_, refl}
@@ -12,11 +12,11 @@ use Rattle.numbers.proofs.put_words.Statement.{statement}
 use Rattle.numbers.proofs.put_words.Tie as tie
 
 abbrev Inv-loop : tie.InvT-loop
-Inv-loop out₀ words n i₀ out i =
-    (i ≤ n) × (length out ≡ length out₀) × (out ≡ put 0 (bytesOf (take i words)) out₀)
+Inv-loop out₀ at words n i₀ out i =
+    (i ≤ n) × (length out ≡ length out₀) × (out ≡ put at (bytesOf (take i words)) out₀)
 
 abbrev μ-loop : tie.MeasureT-loop
-μ-loop out₀ words n i₀ out i = n - i
+μ-loop out₀ at words n i₀ out i = n - i
 
 loop-holds : tie.Need-loop-holds Inv-loop μ-loop
 unfolding put bytesOf
@@ -26,7 +26,7 @@ loop-again : tie.Need-loop-again Inv-loop μ-loop
 loop-again c =
     let at-call = c .before .before in
     let at-head = at-call .before .before .before .before in
-    (search needs, search needs, bytesOf-next (at-head .loop .i) _ _ _ _ (omega arith) (at-head .loop .inv .2) (at-call .put32 .ensures))
+    (search needs, search needs, bytesOf-next _ (at-head .loop .i) _ _ _ _ (omega arith) (at-head .loop .inv .2) (at-call .put32 .ensures))
 
 returns : tie.Need-returns Inv-loop μ-loop
 returns c =
@@ -40,6 +40,7 @@ put-words-spec =
     Inv-loop
     μ-loop
     loop-holds
+    (λ c. search needs)
     (λ c. search needs)
     (λ c. search needs)
     (λ c. search needs)
