@@ -1,0 +1,121 @@
+-- The test for form on plain values: one turn of each loop of `form`, and what the tests of a row and of the head say. No contract cites this file.
+-- Assumes nothing.
+use Prim.Native.Nat.{ℕ, zero, suc, _+_, _*_, _-_, _≤_, _<_}
+use mathlib.Core.Path.{_≡_, refl, sym, ap, _∙_}
+use mathlib.Core.Bool.{Bool, true, false, _&&_, and-assoc, and-true}
+use mathlib.Core.List.{List, _++_}
+use native.Mathlib.Nat.{add-zero}
+use native.Mathlib.Numerals.{add-one}
+use native.Mathlib.Omega.{arith}
+use borrow.Author.Tests.{lt-leb, le-leb, eq-eqb}
+use lib.Bits.{bitOr, or-add-and, and-le-l, and-le-r}
+use lib.Dec.{T, leb, leb→le, eqb, eqb→eq}
+use lib.ListN.{length, getD, take, drop, length-drop}
+use lib.Seq.{slice-cons, slice-empty, take-append-le, drop-append-le, take-at}
+use Rattle.names.proofs.SetLaws.{test-ext}
+use Rattle.predicates.specs.Lists.{all, allBelow}
+use Rattle.predicates.specs.Predicates.{isNormal}
+use Rattle.predicates.proofs.ListLaws.{both, both-l, both-r, true-T}
+use Rattle.predicates.proofs.LoopLaws.{all-turn}
+use Rattle.numbers.specs.Numbers.{num}
+use Rattle.numbers.proofs.NumberLaws.{length-tab}
+use Rattle.state.specs.Layout.{masksAt, rowAt, heldCount, entryCount}
+use Rattle.state.specs.Form.{termFits, isZero, rowFits, headFits}
+
+-- ---- zeros: what is or-ed together is zero where all of it is
+
+-- a number that is zero where two others are
+both-zero : (x v w : ℕ) → (x ≡ 0 → (v ≡ 0) × (w ≡ 0)) → (v ≡ 0 → w ≡ 0 → x ≡ 0) → eqb x 0 ≡ eqb v 0 && eqb w 0
+both-zero x v w f g =
+    test-ext (eqb x 0) (eqb v 0 && eqb w 0)
+    (λ h. let e = f (eqb→eq x 0 h) in both (eqb v 0) (eqb w 0) (true-T _ (eq-eqb v 0 (e .0))) (true-T _ (eq-eqb w 0 (e .1))))
+    (λ h. true-T _ (eq-eqb x 0 (g (eqb→eq v 0 (both-l (eqb v 0) (eqb w 0) h)) (eqb→eq w 0 (both-r (eqb v 0) (eqb w 0) h)))))
+
+or-zero : (v w : ℕ) → eqb (bitOr v w) 0 ≡ eqb v 0 && eqb w 0
+or-zero v w =
+    let sum = or-add-and v w in
+    let low = and-le-l v w in
+    let high = and-le-r v w in
+    both-zero (bitOr v w) v w (λ e. (omega arith, omega arith)) (λ a b. omega arith)
+
+-- a turn over masks
+pub masks-turn : (p : List ℕ) (i v : ℕ) (t : Bool) → i < length p → eqb v 0 && all (λ x. eqb x 0) (drop i p) ≡ t
+    → eqb (bitOr v (getD p i 0)) 0 && all (λ x. eqb x 0) (drop (i + 1) p) ≡ t
+masks-turn p i v t h e = rw (or-zero v (getD p i 0)) (all-turn (λ x. eqb x 0) p i (eqb v 0) _ t h refl e)
+
+-- a byte and the number in the bytes behind it
+sum-zero : (b m : ℕ) → eqb (b + 256 * m) 0 ≡ eqb b 0 && eqb m 0
+sum-zero b m = both-zero (b + 256 * m) b m (λ e. (omega arith, omega arith)) (λ x y. omega arith)
+
+-- n bytes are zero where the number in them is
+zero-num : (n a e : ℕ) (s : List ℕ) → a + n ≤ e → e ≤ length s → isZero a e s ≡ eqb (num a n s) 0 && isZero (a + n) e s
+unfolding isZero num
+zero-num zero a e s h l = rw add-zero
+zero-num (suc n) a e s h l =
+    let inside : a < e = omega arith in
+    let rest = zero-num n (suc a) e s (omega arith) l in
+    let place : suc a + n ≡ a + suc n = omega arith in
+    rw (slice-cons a e s 0 inside l, sum-zero (getD s a 0) (num (suc a) n s), and-assoc, ← place) (ap (λ (b : Bool). eqb (getD s a 0) 0 && b) rest)
+
+-- a turn over the words of a run of bytes
+pub run-turn : (s : List ℕ) (from words i v w : ℕ) (t : Bool) → i < words → from + words * 4 ≤ length s → w ≡ num (from + i * 4) 4 s
+    → eqb v 0 && isZero (from + i * 4) (from + words * 4) s ≡ t → eqb (bitOr v w) 0 && isZero (from + (i + 1) * 4) (from + words * 4) s ≡ t
+run-turn s from words i v w t h l e q =
+    let place : from + i * 4 + 4 ≡ from + (i + 1) * 4 = omega arith in
+    rw (or-zero v w, and-assoc, e, ← place, ← (zero-num 4 (from + i * 4) (from + words * 4) s (omega arith) l)) q
+
+pub run-done : (s : List ℕ) (from words i v : ℕ) (t : Bool) → i ≤ words → words ≤ i
+    → eqb v 0 && isZero (from + i * 4) (from + words * 4) s ≡ t → eqb v 0 ≡ t
+unfolding isZero
+run-done s from words i v t h k q =
+    let e : i ≡ words = omega arith in
+    sym (and-true (eqb v 0)) ∙ rw (e, slice-empty (from + words * 4) s) at q
+
+-- ---- places: a test that is carried along
+
+pub below-turn : (f : ℕ → Bool) (i : ℕ) (a b : Bool) → a ≡ allBelow i f → b ≡ f i → a && b ≡ allBelow (i + 1) f
+unfolding allBelow
+below-turn f i a b p q = rw (p, q, add-one)
+
+-- the places behind those in use
+pub below-done : (f : ℕ → Bool) (i n from to end : ℕ) (s : List ℕ) (a b : Bool) → i ≤ n → n ≤ i → end ≡ to → a ≡ allBelow i f → b ≡ isZero from end s
+    → a && b ≡ allBelow n f && isZero from to s
+below-done f i n from to end s a b h k e p q = let last : i ≡ n = omega arith in rw (p, q, e, last)
+
+-- ---- a row
+
+length-masksAt : (width at : ℕ) (s : List ℕ) → length (masksAt width at s) ≡ width
+unfolding masksAt
+length-masksAt width at s = length-tab width (λ j. num (at + 4 + j * 4) 4 s)
+
+module _ (own width at n : ℕ) (s : List ℕ) (e : n ≡ num at 4 s) where
+  pub row-none : n < 1 → rowFits own width at s ≡ false
+  unfolding rowFits
+  row-none h = rw (← e, lt-leb 1 n h)
+
+  pub row-many : 1 ≤ n → width < n → rowFits own width at s ≡ false
+  unfolding rowFits
+  row-many h k = rw (← e, le-leb 1 n h, lt-leb n width k)
+
+  -- the row was read into a longer array
+  pub row-tests : (row rest : List ℕ) (a b c : Bool) → 1 ≤ n → n ≤ width → row ≡ masksAt width at s ++ rest → a ≡ isNormal (take n row)
+      → b ≡ all (termFits own) (take n row) → c ≡ all (λ t. eqb t 0) (take (width - n) (drop n row)) → a && (b && c) ≡ rowFits own width at s
+  unfolding rowFits rowAt
+  row-tests row rest a b c h k m p q r =
+      let masks = masksAt width at s in
+      let long : length masks ≡ width = length-masksAt width at s in
+      let front : take n row ≡ take n masks = rw m (take-append-le n masks rest (omega arith)) in
+      let behind : take (width - n) (drop n row) ≡ drop n masks =
+      rw (m, drop-append-le n masks rest (omega arith)) (take-at (drop n masks) rest (width - n) (omega (arith, length-drop n masks))) in
+      rw (p, q, r, front, behind, ← e, le-leb 1 n h, le-leb n width k)
+
+-- ---- the head
+
+pub head-out : (s : List ℕ) → headFits s ≡ true → (num 0 4 s ≤ 28) × (heldCount s ≤ 16) × (entryCount s ≤ 32)
+unfolding headFits
+head-out s e =
+    let t = true-T _ e in
+    let own : T (leb (num 0 4 s) 28) = search both-l in
+    let held : T (leb (heldCount s) 16) = search (both-l, both-r) depth 9 in
+    let entries : T (leb (entryCount s) 32) = search (both-l, both-r) depth 9 in
+    (leb→le _ _ own, leb→le _ _ held, leb→le _ _ entries)

@@ -1,0 +1,220 @@
+-- Laws of the layout (`specs.Layout`): how long each part is, that all are bytes, and what stands at which place.
+-- The idea: `At at a s` says that the bytes a stand in s from index at on. What is written is taken apart by `at-first` and `at-then`, and
+-- a list of elements of one size by `at-joined`; the way back goes by `part at n s`, the n bytes that stand there.
+-- No contract cites this file. Assumes nothing.
+use Prim.Native.Nat.{ℕ, zero, suc, _+_, _*_, _-_, _^_, _/_, _≤_, _<_}
+use mathlib.Core.Path.{_≡_, refl, sym, ap, subst, _∙_}
+use mathlib.Core.Bool.{Bool, true}
+use mathlib.Core.List.{List, [], _∷_, _++_, append-assoc, append-nil}
+use mathlib.Core.Logic.{_⊎_, inl, inr}
+use native.Mathlib.Nat.{zero-add, add-zero, add-suc, suc-add, suc-mul, zero-mul, eq-or-lt-of-le, le-of-suc-le-suc}
+use native.Mathlib.Omega.{arith}
+use lib.Dec.{T, eqb, eqb→eq}
+use lib.ListN.{length, getD, take, drop, replicate, length-append, length-replicate, length-drop}
+use lib.Seq.{slice, take-nil, take-add, take-at, drop-at, drop-drop, getD-drop, length-take-le}
+use Rattle.numbers.specs.Numbers.{num, bytes, tab, Bytes, bytesOf}
+use Rattle.numbers.proofs.NumberLaws.{num-bytes, length-bytes, length-bytesOf}
+use Rattle.predicates.specs.Lists.{all, allBelow, padded}
+use Rattle.predicates.proofs.ListLaws.{both, both-l, both-r}
+use Rattle.state.specs.Model.{Datum, State}
+use Rattle.state.specs.Layout.{zeros, joined, rowBytes, datumBytes, entryBytes, headBytes, dataBytes, entriesBytes, stateBytes}
+
+-- ---- tests over all elements
+
+module _ {A : Type 0} where
+  pub all-mono : (f g : A → Bool) (l : List A) → ((x : A) → T (f x) → T (g x)) → T (all f l) → T (all g l)
+  all-mono f g [] h t = tt
+  all-mono f g (x ∷ l) h t = both (g x) (all g l) (h x (both-l (f x) (all f l) t)) (all-mono f g l h (both-r (f x) (all f l) t))
+
+  pub all-append : (f : A → Bool) (l m : List A) → T (all f l) → T (all f m) → T (all f (l ++ m))
+  all-append f [] m t u = u
+  all-append f (x ∷ l) m t u = both (f x) (all f (l ++ m)) (both-l (f x) (all f l) t) (all-append f l m (both-r (f x) (all f l) t) u)
+
+  pub all-replicate : (f : A → Bool) (n : ℕ) (x : A) → T (f x) → T (all f (replicate n x))
+  all-replicate f zero x t = tt
+  all-replicate f (suc n) x t = both (f x) (all f (replicate n x)) t (all-replicate f n x t)
+
+  pub all-getD : (f : A → Bool) (l : List A) (i : ℕ) (d : A) → T (all f l) → i < length l → T (f (getD l i d))
+  all-getD f [] i d t h = absurd (omega arith)
+  all-getD f (x ∷ l) zero d t h = both-l (f x) (all f l) t
+  all-getD f (x ∷ l) (suc i) d t h = all-getD f l i d (both-r (f x) (all f l) t) (omega arith)
+
+  pub all-tab : (f : A → Bool) (n : ℕ) (g : ℕ → A) → ((i : ℕ) → i < n → T (f (g i))) → T (all f (tab n g))
+  unfolding tab
+  all-tab f zero g h = tt
+  all-tab f (suc n) g h =
+      all-append f (tab n g) (g n ∷ []) (all-tab f n g (λ i k. h i (omega arith))) (both (f (g n)) true (h n (omega arith)) tt)
+
+-- a list of zeros alone
+pub all-zero : (l : List ℕ) → T (all (λ b. eqb b 0) l) → l ≡ zeros (length l)
+all-zero [] t = refl
+all-zero (b ∷ l) t =
+    let e : b ≡ 0 = eqb→eq b 0 (both-l (eqb b 0) _ t) in
+    rw (e, ← (all-zero l (both-r (eqb b 0) _ t)))
+
+pub below-in : (n : ℕ) (f : ℕ → Bool) → ((i : ℕ) → i < n → T (f i)) → T (allBelow n f)
+unfolding allBelow
+below-in zero f h = tt
+below-in (suc n) f h = both (allBelow n f) (f n) (below-in n f (λ i k. h i (omega arith))) (h n (omega arith))
+
+pub below-out : (n : ℕ) (f : ℕ → Bool) → T (allBelow n f) → (i : ℕ) → i < n → T (f i)
+unfolding allBelow
+below-out zero f t i h = absurd (omega arith)
+below-out (suc n) f t i h = last (eq-or-lt-of-le (le-of-suc-le-suc h)) (below-out n f (both-l (allBelow n f) (f n) t) i)
+  where
+    last : (i ≡ n) ⊎ (i < n) → (i < n → T (f i)) → T (f i)
+    last (inl e) rest = subst (λ (k : ℕ). T (f k)) (sym e) (both-r (allBelow n f) (f n) t)
+    last (inr k) rest = rest k
+
+-- ---- parts of a list
+
+-- the n elements from index at on
+abbrev pub part : ℕ → ℕ → List ℕ → List ℕ
+part at n s = take n (drop at s)
+
+pub length-part : (at n : ℕ) (s : List ℕ) → at + n ≤ length s → length (part at n s) ≡ n
+length-part at n s h = length-take-le n (drop at s) (omega (arith, length-drop at s))
+
+pub part-add : (at m n : ℕ) (s : List ℕ) → part at (m + n) s ≡ part at m s ++ part (at + m) n s
+part-add at m n s = rw (take-add m n (drop at s), drop-drop m at s)
+
+-- a part, by its end
+pub slice-part : (at n : ℕ) (s : List ℕ) → slice at (at + n) s ≡ part at n s
+slice-part zero n s = rw zero-add
+slice-part (suc at) n [] = rw suc-add (sym (take-nil n))
+slice-part (suc at) n (x ∷ s) = rw suc-add (slice-part at n s)
+
+-- the bytes a stand in s from index at on
+abbrev pub At : ℕ → List ℕ → List ℕ → Type 0
+At at a s = (r : List ℕ) × (drop at s ≡ a ++ r)
+
+pub at-first : (at : ℕ) (a b s : List ℕ) → At at (a ++ b) s → At at a s
+at-first at a b s h = (b ++ h .0, h .1 ∙ append-assoc a b (h .0))
+
+pub at-then : (n at : ℕ) (a b s : List ℕ) → length a ≡ n → At at (a ++ b) s → At (at + n) b s
+at-then n at a b s e h =
+    (h .0, sym (drop-drop n at s) ∙ ap (λ (t : List ℕ). drop n t) (h .1 ∙ append-assoc a b (h .0)) ∙ drop-at a (b ++ h .0) n e)
+
+pub at-part : (n at : ℕ) (a s : List ℕ) → length a ≡ n → At at a s → part at n s ≡ a
+at-part n at a s e h = ap (λ (t : List ℕ). take n t) (h .1) ∙ take-at a (h .0) n e
+
+num-drop : (n k at : ℕ) (s : List ℕ) → num at n (drop k s) ≡ num (k + at) n s
+unfolding num
+num-drop zero k at s = refl
+num-drop (suc n) k at s = rw (getD-drop, num-drop n k (suc at) s, add-suc)
+
+-- a number that stands at a place is read there
+pub num-at : (n at x : ℕ) (s : List ℕ) → x < 256 ^ n → At at (bytes n x) s → num at n s ≡ x
+num-at n at x s b h =
+    ap (λ (k : ℕ). num k n s) (sym (add-zero at)) ∙ sym (num-drop n at 0 s) ∙ ap (λ (t : List ℕ). num 0 n t) (h .1) ∙ num-bytes n x (h .0) b
+
+-- ---- joined: elements one after the other
+
+pub bytesOf-joined : (ws : List ℕ) → bytesOf ws ≡ joined (bytes 4) ws
+unfolding bytesOf joined
+bytesOf-joined [] = refl
+bytesOf-joined (w ∷ ws) = rw (bytesOf-joined ws)
+
+module _ {A : Type 0} (f : A → List ℕ) where
+  joined-append : (xs ys : List A) → joined f (xs ++ ys) ≡ joined f xs ++ joined f ys
+  unfolding joined
+  joined-append [] ys = refl
+  joined-append (x ∷ xs) ys = rw (joined-append xs ys, append-assoc)
+
+  -- the elements that stand at places, written
+  pub joined-tab : (size at n : ℕ) (g : ℕ → A) (s : List ℕ) → ((i : ℕ) → i < n → f (g i) ≡ part (at + i * size) size s)
+      → joined f (tab n g) ≡ part at (n * size) s
+  unfolding joined tab
+  joined-tab size at zero g s h = rw zero-mul
+  joined-tab size at (suc n) g s h =
+      rw (joined-append, append-nil, joined-tab size at n g s (λ i k. h i (omega arith)), h n (omega arith), suc-mul, part-add)
+
+  -- elements of one size
+  module _ (p : A → Bool) (size : ℕ) (sized : (x : A) → T (p x) → length (f x) ≡ size) where
+    pub length-joined : (xs : List A) → T (all p xs) → length (joined f xs) ≡ length xs * size
+    unfolding joined
+    length-joined [] t = rw zero-mul
+    length-joined (x ∷ xs) t =
+        rw (length-append, sized x (both-l (p x) (all p xs) t), length-joined xs (both-r (p x) (all p xs) t), suc-mul) (omega arith)
+
+    -- element i stands i sizes on
+    pub at-joined : (d : A) (at i : ℕ) (xs : List A) (s : List ℕ) → T (all p xs) → i < length xs → At at (joined f xs) s
+        → At (at + i * size) (f (getD xs i d)) s
+    unfolding joined
+    at-joined d at i [] s t k h = absurd (omega arith)
+    at-joined d at zero (x ∷ xs) s t k h = rw (zero-mul, add-zero) (at-first at (f x) (joined f xs) s h)
+    at-joined d at (suc i) (x ∷ xs) s t k h =
+        let rest = at-then size at (f x) (joined f xs) s (sized x (both-l (p x) (all p xs) t)) h in
+        let e : at + suc i * size ≡ at + size + i * size = rw suc-mul (omega arith) in
+        rw e (at-joined d (at + size) i xs s (both-r (p x) (all p xs) t) (omega arith) rest)
+
+-- ---- length
+
+pub length-padded : (n : ℕ) (p : List ℕ) → length p ≤ n → length (padded n p) ≡ n
+unfolding padded
+length-padded n p h = rw (length-append, length-replicate) (omega arith)
+
+-- a count of 4 bytes and `width` masks
+pub length-row : (width : ℕ) (p : List ℕ) → length p ≤ width → length (rowBytes width p) ≡ 4 + width * 4
+unfolding rowBytes
+length-row width p h = rw (length-append, length-bytes, length-bytesOf, length-padded width p h)
+
+pub length-datum : (d : Datum) → length (d .terms) ≤ 8 → length (datumBytes d) ≡ 52
+unfolding datumBytes
+length-datum d h = simp (length-append, length-bytes, length-row 8 (d .terms) h)
+
+pub length-entry : (e : List ℕ) → length e ≤ 16 → length (entryBytes e) ≡ 68
+unfolding entryBytes
+length-entry e h = length-row 16 e h
+
+pub length-head : (st : State) → length (headBytes st) ≡ 24
+unfolding headBytes
+length-head st = simp (length-append, length-bytes)
+
+-- ---- all are bytes
+
+bytes-append : (a b : List ℕ) → Bytes a → Bytes b → Bytes (a ++ b)
+unfolding Bytes
+bytes-append [] b f g i = g i
+bytes-append (x ∷ a) b f g zero = f 0
+bytes-append (x ∷ a) b f g (suc i) = bytes-append a b (λ k. f (suc k)) g i
+
+bytes-zeros : (n : ℕ) → Bytes (zeros n)
+unfolding Bytes
+bytes-zeros zero i = omega arith
+bytes-zeros (suc n) zero = omega arith
+bytes-zeros (suc n) (suc i) = bytes-zeros n i
+
+bytes-bytes : (n x : ℕ) → Bytes (bytes n x)
+unfolding Bytes bytes
+bytes-bytes zero x i = omega arith
+bytes-bytes (suc n) x zero = omega arith
+bytes-bytes (suc n) x (suc i) = bytes-bytes n (x / 256) i
+
+bytes-joined : {A : Type 0} (f : A → List ℕ) → ((x : A) → Bytes (f x)) → (xs : List A) → Bytes (joined f xs)
+unfolding joined
+bytes-joined f h [] = bytes-zeros 0
+bytes-joined f h (x ∷ xs) = bytes-append (f x) (joined f xs) (h x) (bytes-joined f h xs)
+
+bytes-row : (width : ℕ) (p : List ℕ) → Bytes (rowBytes width p)
+unfolding rowBytes
+bytes-row width p = rw bytesOf-joined (bytes-append _ _ (bytes-bytes 4 _) (bytes-joined (bytes 4) (bytes-bytes 4) _))
+
+bytes-datum : (d : Datum) → Bytes (datumBytes d)
+unfolding datumBytes
+bytes-datum d = bytes-append _ _ (bytes-bytes 8 _) (bytes-append _ _ (bytes-bytes 8 _) (bytes-row 8 _))
+
+bytes-head : (st : State) → Bytes (headBytes st)
+unfolding headBytes
+bytes-head st =
+    bytes-append _ _ (bytes-bytes 4 _) (bytes-append _ _ (bytes-bytes 4 _)
+    (bytes-append _ _ (bytes-bytes 8 _) (bytes-append _ _ (bytes-bytes 4 _) (bytes-bytes 4 _))))
+
+pub bytes-state : (st : State) → Bytes (stateBytes st)
+unfolding stateBytes dataBytes entriesBytes entryBytes
+bytes-state st =
+    let ds = st .store .held in
+    let es = st .store .entries in
+    bytes-append (headBytes st) _ (bytes-head st) (bytes-append (dataBytes ds) (entriesBytes es)
+    (bytes-append (joined datumBytes ds) _ (bytes-joined datumBytes bytes-datum ds) (bytes-zeros ((16 - length ds) * 52)))
+    (bytes-append (joined entryBytes es) _ (bytes-joined entryBytes (bytes-row 16) es) (bytes-zeros ((32 - length es) * 68))))

@@ -1,0 +1,5 @@
+pub mod LayoutLaws
+pub mod FormLaws
+pub mod StateLaws
+pub mod FormLoops
+pub mod RowLoops

@@ -1,0 +1,79 @@
+-- A state in form (document 01, "State bytes"): "all ranges and counts above, reading below 2^58, left at most right, normal form, no empty term,
+-- no own name, zeros in all that is unused." Once as a test of the bytes, which is what each call makes first, and once of the state that
+-- they hold. Assumes nothing: these are definitions.
+use Prim.Native.Nat.{ℕ, _+_, _^_}
+use mathlib.Core.Bool.{Bool, _&&_, not}
+use mathlib.Core.List.{List}
+use lib.ListN.{length, drop}
+use lib.Seq.{slice}
+use lib.Dec.{leb, ltb, eqb}
+use Rattle.numbers.specs.Numbers.{num}
+use Rattle.names.specs.Sets.{has}
+use Rattle.predicates.specs.Lists.{all, allBelow}
+use Rattle.predicates.specs.Predicates.{isNormal}
+use Rattle.state.specs.Model.{Datum, Head, Store, State, endLimit, readingLimit}
+use Rattle.state.specs.Layout.{datumPlace, entryPlace, masksAt, rowAt, heldCount, entryCount}
+
+-- ---- terms and predicates
+
+-- a term of a state: "no empty term", names 0 to 28, "no own name"
+unfoldable pub termFits : ℕ → ℕ → Bool
+termFits own t = ltb 0 t && (ltb t (2 ^ 29) && not (has own t))
+
+-- a predicate of 1 to `width` terms: "a datum has 1 to 8 terms, an entry 1 to 16"
+unfoldable pub termsFit : ℕ → ℕ → List ℕ → Bool
+termsFit own width p = leb 1 (length p) && (leb (length p) width && (isNormal p && all (termFits own) p))
+
+-- ---- the bytes
+
+-- every byte from `from` up to `to` is zero
+unfoldable pub isZero : ℕ → ℕ → List ℕ → Bool
+isZero from to s = all (λ b. eqb b 0) (slice from to s)
+
+-- the row at `at`: its count, the terms in use, and zeros in the masks that are not
+unfoldable pub rowFits : ℕ → ℕ → ℕ → List ℕ → Bool
+rowFits own width at s =
+    leb 1 (num at 4 s) && (leb (num at 4 s) width
+    && (isNormal (rowAt width at s) && (all (termFits own) (rowAt width at s) && all (λ t. eqb t 0) (drop (num at 4 s) (masksAt width at s)))))
+
+-- "left at most right", ends below 2^58
+unfoldable pub datumFits : ℕ → List ℕ → ℕ → Bool
+datumFits own s i =
+    leb (num (datumPlace i) 8 s) (num (datumPlace i + 8) 8 s)
+    && (ltb (num (datumPlace i + 8) 8 s) endLimit && rowFits own 8 (datumPlace i + 16) s)
+
+unfoldable pub entryFits : ℕ → List ℕ → ℕ → Bool
+entryFits own s i = rowFits own 16 (entryPlace i) s
+
+-- own name at most 28, drift at most 1,000, reading below 2^58, "At most 16 data and 32 entries"
+unfoldable pub headFits : List ℕ → Bool
+headFits s =
+    leb (num 0 4 s) 28 && (leb (num 4 4 s) 1000 && (ltb (num 8 8 s) readingLimit && (leb (heldCount s) 16 && leb (entryCount s) 32)))
+
+-- the places in use fit, and the others are zero
+unfoldable pub dataFit : List ℕ → Bool
+dataFit s = allBelow (heldCount s) (datumFits (num 0 4 s) s) && isZero (datumPlace (heldCount s)) (datumPlace 16) s
+
+unfoldable pub entriesFit : List ℕ → Bool
+entriesFit s = allBelow (entryCount s) (entryFits (num 0 4 s) s) && isZero (entryPlace (entryCount s)) (entryPlace 32) s
+
+-- "In form", of a buffer of at least 3,032 bytes
+unfoldable pub inForm : List ℕ → Bool
+inForm s = headFits s && (dataFit s && entriesFit s)
+
+-- ---- the state: what being in form means of it. The head, the store and the counts stand apart, since later parts join them one by one
+
+unfoldable pub headOk : Head → Bool
+headOk h = leb (h .own) 28 && (leb (h .drift) 1000 && ltb (h .reading) readingLimit)
+
+unfoldable pub datumOk : ℕ → Datum → Bool
+datumOk own d = leb (d .left) (d .right) && (ltb (d .right) endLimit && termsFit own 8 (d .terms))
+
+unfoldable pub storeOk : ℕ → Store → Bool
+storeOk own k = all (datumOk own) (k .held) && all (termsFit own 16) (k .entries)
+
+unfoldable pub countsOk : Store → Bool
+countsOk k = leb (length (k .held)) 16 && leb (length (k .entries)) 32
+
+unfoldable pub stateOk : State → Bool
+stateOk st = headOk (st .head) && (storeOk (st .head .own) (st .store) && countsOk (st .store))

@@ -1,0 +1,87 @@
+-- The 3,032 bytes of a state (document 01, "State bytes"), both ways: `stateBytes` writes a state, `stateOf` reads one.
+-- Assumes nothing: these are definitions.
+use Prim.Native.Nat.{ℕ, _+_, _*_, _-_}
+use mathlib.Core.List.{List, [], _∷_, _++_}
+use lib.ListN.{length, take, replicate}
+use Rattle.numbers.specs.Numbers.{num, bytes, bytesOf, tab}
+use Rattle.predicates.specs.Lists.{padded}
+use Rattle.state.specs.Model.{Datum, Head, Store, State}
+
+abbrev pub stateSize : ℕ
+stateSize = 3032
+
+-- where datum i and entry i stand: "16 data of 52", "32 entries of 68"
+abbrev pub datumPlace : ℕ → ℕ
+datumPlace i = 24 + i * 52
+
+abbrev pub entryPlace : ℕ → ℕ
+entryPlace i = 856 + i * 68
+
+-- ---- writing
+
+abbrev pub zeros : ℕ → List ℕ
+zeros n = replicate n 0
+
+-- a predicate in `width` places: "term count 4, eight masks of 4" of a datum, "term count 4, sixteen masks" of an entry; unused masks are zero
+unfoldable pub rowBytes : ℕ → List ℕ → List ℕ
+rowBytes width terms = bytes 4 (length terms) ++ bytesOf (padded width terms)
+
+-- "left 8, right 8, term count 4, eight masks of 4"
+unfoldable pub datumBytes : Datum → List ℕ
+datumBytes d = bytes 8 (d .left) ++ (bytes 8 (d .right) ++ rowBytes 8 (d .terms))
+
+unfoldable pub entryBytes : List ℕ → List ℕ
+entryBytes e = rowBytes 16 e
+
+-- one after the other
+unfoldable pub joined : {A : Type 0} → (A → List ℕ) → List A → List ℕ
+joined f [] = []
+joined f (x ∷ xs) = f x ++ joined f xs
+
+-- "own name (4 bytes), drift (4), reading (8), held count (4), entry count (4)"
+unfoldable pub headBytes : State → List ℕ
+headBytes st =
+    bytes 4 (st .head .own) ++ (bytes 4 (st .head .drift) ++ (bytes 8 (st .head .reading)
+    ++ (bytes 4 (length (st .store .held)) ++ bytes 4 (length (st .store .entries)))))
+
+-- "Data and entries fill their places from the front, oldest first; unused places and masks are zero."
+unfoldable pub dataBytes : List Datum → List ℕ
+dataBytes ds = joined datumBytes ds ++ zeros ((16 - length ds) * 52)
+
+unfoldable pub entriesBytes : List (List ℕ) → List ℕ
+entriesBytes es = joined entryBytes es ++ zeros ((32 - length es) * 68)
+
+unfoldable pub stateBytes : State → List ℕ
+stateBytes st = headBytes st ++ (dataBytes (st .store .held) ++ entriesBytes (st .store .entries))
+
+-- ---- reading
+
+-- the masks of the row at `at`, used or not
+unfoldable pub masksAt : ℕ → ℕ → List ℕ → List ℕ
+masksAt width at s = tab width (λ j. num (at + 4 + j * 4) 4 s)
+
+-- the predicate of the row at `at`
+unfoldable pub rowAt : ℕ → ℕ → List ℕ → List ℕ
+rowAt width at s = take (num at 4 s) (masksAt width at s)
+
+unfoldable pub datumAt : List ℕ → ℕ → Datum
+datumAt s i = record { left = num (datumPlace i) 8 s; right = num (datumPlace i + 8) 8 s; terms = rowAt 8 (datumPlace i + 16) s }
+
+unfoldable pub entryAt : List ℕ → ℕ → List ℕ
+entryAt s i = rowAt 16 (entryPlace i) s
+
+-- the counts in the head
+abbrev pub heldCount : List ℕ → ℕ
+heldCount s = num 16 4 s
+
+abbrev pub entryCount : List ℕ → ℕ
+entryCount s = num 20 4 s
+
+unfoldable pub headOf : List ℕ → Head
+headOf s = record { own = num 0 4 s; drift = num 4 4 s; reading = num 8 8 s }
+
+unfoldable pub storeOf : List ℕ → Store
+storeOf s = record { held = tab (heldCount s) (datumAt s); entries = tab (entryCount s) (entryAt s) }
+
+unfoldable pub stateOf : List ℕ → State
+stateOf s = record { head = headOf s; store = storeOf s }

@@ -1,0 +1,33 @@
+-- What a monitor holds (document 01, "Instants, names, predicates" and "Receiving"), as numbers and lists, oldest first.
+-- Assumes nothing: these are definitions.
+use Prim.Native.Nat.{ℕ, _^_}
+use mathlib.Core.List.{List}
+
+-- "A datum is an interval (left at most right) and a predicate: true time is in the interval, or the predicate is true."
+pub record Datum : Type 0 where
+  pub left : ℕ
+  pub right : ℕ
+  pub terms : List ℕ
+
+-- what setting up enters, and what calls change of it by their arguments alone
+pub record Head : Type 0 where
+  pub own : ℕ
+  pub drift : ℕ
+  pub reading : ℕ
+
+-- the held data and the failure knowledge, a list of predicates
+pub record Store : Type 0 where
+  pub held : List Datum
+  pub entries : List (List ℕ)
+
+pub record State : Type 0 where
+  pub head : Head
+  pub store : Store
+
+-- the first end that cannot be stored: "Stored ends lie from 0 to 2^58 − 1"
+abbrev pub endLimit : ℕ
+endLimit = 2 ^ 58
+
+-- the first reading that cannot be stored: "reading below 2^58"
+abbrev pub readingLimit : ℕ
+readingLimit = 2 ^ 58
