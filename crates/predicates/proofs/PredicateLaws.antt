@@ -8,7 +8,8 @@ use mathlib.Core.List.{List, [], _∷_, _++_, append-assoc, append-nil}
 use Prim.Native.Nat.{ℕ, _^_, _≤_, _<_, min}
 use native.Mathlib.Omega.{arith}
 use lib.Dec.{T, T-not, not-T, eqb, eqb→eq, leb, leb→le, le→leb, nleb→lt, ltb, ltb→lt, lt→ltb}
-use lib.Count.{ones, ones-le}
+use lib.Count.{ones}
+use lib.ListN.{length}
 use Rattle.names.specs.Sets.{subset, has}
 use Rattle.names.proofs.SetLaws.{subset-refl, subset-trans, subset-antisym, subset-le, empty-subset, ones-mono, has-mono, single-has, test-ext}
 use Rattle.predicates.specs.Lists.{any, all, keep, In}
@@ -330,3 +331,15 @@ holds-formed own sender s p f =
 pub formed-out : (own sender : ℕ) (p : List ℕ) (t : ℕ) → In t (formed own sender p) → (t ≡ 2 ^ sender) ⊎ (In t p × T (not (has own t)))
 unfolding formed
 formed-out own sender p t m = ⊎-elim (λ e. inl e) (λ k. inr (struck-free own p t k)) (normal-out (2 ^ sender ∷ struck own p) t m)
+
+-- ---- a normal form has terms where the sum has
+
+pub normal-some : (p : List ℕ) → 0 < length p → 0 < length (normal p)
+normal-some [] h = absurd (omega arith)
+normal-some (t ∷ p) h =
+    let r = holds-out t (normal (t ∷ p)) (subst (λ (b : Bool). T b) (sym (holds-normal t (t ∷ p))) (holds-own t (t ∷ p) (inl refl))) in
+    filled (normal (t ∷ p)) (r .0) (r .1)
+  where
+    filled : (l : List ℕ) (u : ℕ) → In u l → 0 < length l
+    filled [] u m = absurd m
+    filled (v ∷ l) u m = omega arith

@@ -153,3 +153,8 @@ module _ (l s t u : List ℕ) (own sender n k : ℕ) (h : n < length l) (a : s �
       let same : r ≡ length (formed own sender (take n l)) = p .0 ∙ ap length front in
       let f : k + 1 + (n - k) ≡ n + 1 = omega arith in
       ((same, omega arith), q ∙ rw (front, rest) (padded-zeros (k + 1) (n - k) (formed own sender (take n l)) (drop (n + 1) l) (omega (arith, same)) ∙ rw f))
+
+-- what stands at the front of an array filled up with zeros
+pub padded-front : (n : ℕ) (x y : List ℕ) → take (length x) (padded n x ++ y) ≡ x
+unfolding padded
+padded-front n x y = rw (append-assoc x (replicate (n - length x) 0) y) (take-at x (replicate (n - length x) 0 ++ y) (length x) refl)

@@ -3,3 +3,5 @@ pub mod FormLaws
 pub mod StateLaws
 pub mod FormLoops
 pub mod RowLoops
+pub mod PutLaws
+pub mod KnowledgeLaws

@@ -1,3 +1,4 @@
 pub mod Model
 pub mod Layout
 pub mod Form
+pub mod Known

@@ -1,0 +1,10 @@
+pub mod TableLaws
+pub mod StepLaws
+pub mod ReceiveLaws
+pub mod CallLaws
+pub mod StoreLaws
+pub mod ReceiptLaws
+pub mod AgeLaws
+pub mod WidenLaws
+pub mod OutcomeLaws
+pub mod SetUpLaws

@@ -1,0 +1,60 @@
+-- `engine::tables::explained` meets its contract: the loop stops at the first row that implies p.
+-- Invariant: no row before i does. Measure: the rows still to try.
+use Prim.Native.Nat.{_-_, _≤_}
+use mathlib.Core.Path.{_≡_, refl, sym, _∙_}
+use mathlib.Core.Bool.{false, _&&_}
+use native.Mathlib.Omega.{arith}
+use Rattle.predicates.specs.Predicates.{implies}
+use Rattle.engine.specs.Tables.{row, some}
+use Rattle.engine.proofs.TableLaws.{anyBelow, any-below-next, any-below-here, explained-rows, table-room}
+use borrow.Author.Needs.{needs}
+use Rattle.engine.proofs.tables.explained.Statement.{statement}
+use Rattle.engine.proofs.tables.explained.Tie as tie
+
+abbrev Inv-loop : tie.InvT-loop
+Inv-loop counts masks n p i₀ i = (i ≤ n) × (anyBelow i (λ k. some (row 16 counts masks k) && implies (row 16 counts masks k) p) ≡ false)
+
+abbrev μ-loop : tie.MeasureT-loop
+μ-loop counts masks n p i₀ i = n - i
+
+loop-holds : tie.Need-loop-holds Inv-loop μ-loop
+unfolding anyBelow
+loop-holds c = (search needs, refl)
+
+row-implies-requires : tie.Need-row-implies-requires Inv-loop μ-loop
+row-implies-requires c κs =
+    let a = c .before .before .before .before .before in
+    let i = c .before .loop .i in
+    (omega (arith, a .pre .counted), table-room 16 _ _ _ (a .pre) i (c .loop-test .taken))
+
+returns : tie.Need-returns Inv-loop μ-loop
+returns c =
+    let a = c .before .before .before .before .before .before .before .args in
+    let at-head = c .before .before .before .loop in
+    sym (explained-rows (a .n) (a .counts .now) (a .masks .now) (a .p .now)
+    ∙ any-below-here (a .n) (at-head .i) _ (c .before .before .loop-test .taken) (sym (c .before .row-implies .ensures) ∙ c .if1 .taken))
+
+loop-again : tie.Need-loop-again Inv-loop μ-loop
+loop-again c =
+    let at-head = c .before .before .before .loop in
+    (search needs, any-below-next (at-head .i) _ (at-head .inv .1) (sym (c .before .row-implies .ensures) ∙ c .if1 .left))
+
+returns-2 : tie.Need-returns-2 Inv-loop μ-loop
+returns-2 c =
+    let a = c .before .before .before .before .before .args in
+    let done : c .before .loop .i ≡ a .n = omega arith in
+    sym (explained-rows (a .n) (a .counts .now) (a .masks .now) (a .p .now) ∙ rw done at (c .before .loop .inv .1))
+
+pub explained-spec : {M : Type 1} → statement M
+explained-spec =
+    tie.close
+    (tie.spec
+    Inv-loop
+    μ-loop
+    loop-holds
+    row-implies-requires
+    returns
+    (λ c. search needs)
+    (λ c. search needs)
+    loop-again
+    returns-2)

@@ -1,0 +1,6 @@
+pub mod Calls
+pub mod Ageing
+pub mod Receiving
+pub mod Refusals
+pub mod Tables
+pub mod Outcomes

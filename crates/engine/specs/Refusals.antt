@@ -1,0 +1,50 @@
+-- The refusals of setting up, ageing and receiving on the state as lists (document 01, "Who can cause which refusal"), in document 01's order.
+-- The refusals of the buffer, the form and the message's words (24, 25, 10 to 17) are tested on the bytes. 0 means taken.
+-- Assumes nothing: these are definitions.
+use Prim.Native.Nat.{ℕ, _+_}
+use mathlib.Core.Bool.{Bool, _||_, cond}
+use lib.Dec.{eqb, leb, ltb}
+use lib.ListN.{length}
+use Rattle.predicates.specs.Lists.{any}
+use Rattle.state.specs.Model.{Datum, Head, Store, State, endLimit, readingLimit}
+use Rattle.engine.specs.Ageing.{slow, fast, aged}
+use Rattle.engine.specs.Receiving.{Delivery, grown, received}
+use Rattle.engine.specs.Calls.{Setup}
+
+-- a test that fails gives its number; else what comes next decides
+abbrev pub refuse : Bool → ℕ → ℕ → ℕ
+refuse test number next = cond test number next
+
+-- "setting up 24, 1, 2, 3"
+unfoldable pub setUpRefusal : Setup → ℕ
+setUpRefusal u =
+    refuse (ltb 28 (u .own)) 1
+    (refuse (ltb 1_000 (u .drift)) 2
+    (refuse (leb readingLimit (u .reading)) 3 0))
+
+-- "30 an end would pass 2^58 − 1"
+unfoldable pub passesEnd : Store → Bool
+passesEnd k = any (λ d. leb endLimit (d .right)) (k .held)
+
+-- "Ageing 24, 25, 3, 20, 30"
+unfoldable pub ageRefusal : State → ℕ → ℕ
+ageRefusal st reading =
+    refuse (leb readingLimit reading) 3
+    (refuse (ltb reading (st .head .reading)) 20
+    (refuse (passesEnd (aged (slow (st .head) reading) (fast (st .head) reading) (st .store))) 30 0))
+
+-- "21 least delay above greatest, or greatest above 60,000,000"
+unfoldable pub delayRefusal : ℕ → ℕ → ℕ
+delayRefusal least greatest = refuse (ltb greatest least || ltb 60_000_000 greatest) 21 0
+
+-- "32 too many data or entries": "At most 16 data and 32 entries, counted at the end"
+unfoldable pub tooMany : Store → Bool
+tooMany k = ltb 16 (length (k .held)) || ltb 32 (length (k .entries))
+
+-- "18, 30, 31, 32; 30 comes also for a predicate that is true"; "31 more than 8 terms in the new predicate's normal form, stored or not"
+unfoldable pub receiptRefusal : State → Delivery → ℕ
+receiptRefusal st g =
+    refuse (eqb (g .sender) (st .head .own)) 18
+    (refuse (leb endLimit (grown (st .head .own) g .right)) 30
+    (refuse (ltb 8 (length (grown (st .head .own) g .terms))) 31
+    (refuse (tooMany (received (grown (st .head .own) g) (st .store))) 32 0)))
