@@ -1,0 +1,47 @@
+//! Ageing (document 01, "Ageing").
+
+use crate::refusal;
+use crate::state::{self, Head, GREATEST_READING, STATE_BYTES};
+
+/// By how much true time advances at least and at most while d local microseconds pass, with a
+/// drift of r parts per million.
+pub fn advance(d: u64, r: u32) -> (u64, u64) {
+    const MILLION: u128 = 1_000_000;
+    let (d, r) = (u128::from(d), u128::from(r));
+    let least = d * (MILLION - r) / MILLION;
+    let greatest = (d * (MILLION + r)).div_ceil(MILLION);
+    (least as u64, greatest as u64)
+}
+
+/// `monitor_age`: every end advanced and the new reading, or 24, 25, 3, 20, 30.
+pub fn call(lent: &mut [u8], reading: u64) -> u32 {
+    match advances(lent, reading) {
+        Ok((least, greatest)) => age(lent, reading, least, greatest),
+        Err(number) => number,
+    }
+}
+
+/// The advances since the last reading, or 24, 25, 3, 20.
+fn advances(lent: &[u8], reading: u64) -> Result<(u64, u64), u32> {
+    let head = Head::of(state::checked(lent)?);
+    if reading > GREATEST_READING {
+        return Err(refusal::READING);
+    }
+    let passed = reading.checked_sub(head.reading).ok_or(refusal::EARLIER)?;
+    Ok(advance(passed, head.drift))
+}
+
+/// Advances the ends of a state in form, unless one of them would pass the greatest.
+fn age(lent: &mut [u8], reading: u64, least: u64, greatest: u64) -> u32 {
+    let bytes = lent.first_chunk_mut::<STATE_BYTES>().expect("a checked state");
+    let rows = state::held_rows_mut(bytes);
+    if rows.iter().any(|row| state::ends(row).grown(least, greatest).is_none()) {
+        return refusal::PASSES_END;
+    }
+    for row in rows {
+        let aged = state::ends(row).grown(least, greatest).expect("ends that can be stored");
+        state::put_ends(row, aged);
+    }
+    bytes[8..16].copy_from_slice(&reading.to_le_bytes());
+    refusal::TAKEN
+}

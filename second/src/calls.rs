@@ -1,0 +1,91 @@
+//! The calls over a state as values: a run is a list of them.
+
+use crate::lent::{compare, Lent};
+use crate::receiving::Branches;
+use crate::state::STATE_BYTES;
+use crate::{ageing, engine, receiving, set_up, writing};
+use std::fmt;
+
+/// A call with its arguments, the lent bytes aside.
+#[derive(Clone, PartialEq, Eq)]
+pub enum Call {
+    SetUp { own: u32, drift: u32, reading: u64 },
+    Age { reading: u64 },
+    Receive { least: u64, greatest: u64, message: Vec<u8> },
+    Write { position: u64 },
+}
+
+/// The longest written message, in bytes.
+const MESSAGE_BYTES: usize = 4 * 14;
+
+impl Call {
+    pub const NAMES: [&str; 4] =
+        ["monitor_set_up", "monitor_age", "monitor_receive", "monitor_write"];
+
+    /// Its place in the names.
+    pub fn kind(&self) -> usize {
+        match self {
+            Call::SetUp { .. } => 0,
+            Call::Age { .. } => 1,
+            Call::Receive { .. } => 2,
+            Call::Write { .. } => 3,
+        }
+    }
+
+    /// The call by the second program, entering the branches of a receipt.
+    pub fn second(&self, state: &mut [u8], out: &mut [u8], seen: &mut Branches) -> u32 {
+        match *self {
+            Call::SetUp { own, drift, reading } => set_up::call(state, own, drift, reading),
+            Call::Age { reading } => ageing::call(state, reading),
+            Call::Receive { least, greatest, ref message } => {
+                receiving::call_seen(state, least, greatest, message, seen)
+            }
+            Call::Write { position } => writing::call(state, position, out),
+        }
+    }
+
+    /// The call by the engine.
+    pub fn engine(&self, state: &mut [u8], out: &mut [u8]) -> u32 {
+        match *self {
+            Call::SetUp { own, drift, reading } => {
+                engine::monitor_set_up(state, own, drift, reading)
+            }
+            Call::Age { reading } => engine::monitor_age(state, reading),
+            Call::Receive { least, greatest, ref message } => {
+                engine::monitor_receive(state, least, greatest, message)
+            }
+            Call::Write { position } => engine::monitor_write(state, position, out),
+        }
+    }
+
+    /// The call by both, compared: its number, or what is wrong.
+    pub fn both(
+        &self,
+        state: &mut Lent,
+        out: &mut Lent,
+        seen: &mut Branches,
+    ) -> Result<u32, String> {
+        let fronts = match self {
+            Call::Write { .. } => [0, MESSAGE_BYTES],
+            _ => [STATE_BYTES, 0],
+        };
+        compare(state, out, fronts, |s, o| self.second(s, o, seen), |s, o| self.engine(s, o))
+    }
+}
+
+impl fmt::Debug for Call {
+    fn fmt(&self, f: &mut fmt::Formatter) -> fmt::Result {
+        let name = Call::NAMES[self.kind()];
+        match self {
+            Call::SetUp { own, drift, reading } => write!(f, "{name} {own} {drift} {reading}"),
+            Call::Age { reading } => write!(f, "{name} {reading}"),
+            Call::Receive { least, greatest, message } => {
+                let words = message.chunks(4).map(|word| word.iter().rev());
+                let words = words.map(|word| word.fold(0, |w, &b| w << 8 | u32::from(b)));
+                let words: Vec<u32> = words.collect();
+                write!(f, "{name} {least} {greatest} {words:?} of {} bytes", message.len())
+            }
+            Call::Write { position } => write!(f, "{name} {position}"),
+        }
+    }
+}

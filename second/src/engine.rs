@@ -1,0 +1,89 @@
+//! The engine's calls, each behind a safe function. No other file speaks C.
+//!
+//! Lent slices do not overlap; `&` and `&mut` see to that. A test that leaves a call out links
+//! with an archive that does not have it.
+
+mod c {
+    extern "C" {
+        pub fn message_read(
+            message: *const u8,
+            message_len: usize,
+            reading: *mut u8,
+            reading_len: usize,
+        ) -> u32;
+
+        pub fn message_rewrite(
+            message: *const u8,
+            message_len: usize,
+            out: *mut u8,
+            out_len: usize,
+        ) -> u32;
+
+        pub fn monitor_set_up(
+            state: *mut u8,
+            state_len: usize,
+            own: u32,
+            drift: u32,
+            reading: u64,
+        ) -> u32;
+
+        pub fn monitor_age(state: *mut u8, state_len: usize, reading: u64) -> u32;
+
+        pub fn monitor_receive(
+            state: *mut u8,
+            state_len: usize,
+            least: u64,
+            greatest: u64,
+            message: *const u8,
+            message_len: usize,
+        ) -> u32;
+
+        pub fn monitor_write(
+            state: *const u8,
+            state_len: usize,
+            position: u64,
+            message: *mut u8,
+            message_len: usize,
+        ) -> u32;
+    }
+}
+
+/// The engine's `message_read`.
+pub fn message_read(message: &[u8], reading: &mut [u8]) -> u32 {
+    // Safe: each pointer goes with the length of its own slice.
+    unsafe { c::message_read(message.as_ptr(), message.len(), reading.as_mut_ptr(), reading.len()) }
+}
+
+/// The engine's `message_rewrite`.
+pub fn message_rewrite(message: &[u8], out: &mut [u8]) -> u32 {
+    // Safe: as above.
+    unsafe { c::message_rewrite(message.as_ptr(), message.len(), out.as_mut_ptr(), out.len()) }
+}
+
+/// The engine's `monitor_set_up`.
+pub fn monitor_set_up(state: &mut [u8], own: u32, drift: u32, reading: u64) -> u32 {
+    // Safe: as above.
+    unsafe { c::monitor_set_up(state.as_mut_ptr(), state.len(), own, drift, reading) }
+}
+
+/// The engine's `monitor_age`.
+pub fn monitor_age(state: &mut [u8], reading: u64) -> u32 {
+    // Safe: as above.
+    unsafe { c::monitor_age(state.as_mut_ptr(), state.len(), reading) }
+}
+
+/// The engine's `monitor_receive`.
+pub fn monitor_receive(state: &mut [u8], least: u64, greatest: u64, message: &[u8]) -> u32 {
+    let (state, state_len) = (state.as_mut_ptr(), state.len());
+    // Safe: as above.
+    unsafe {
+        c::monitor_receive(state, state_len, least, greatest, message.as_ptr(), message.len())
+    }
+}
+
+/// The engine's `monitor_write`.
+pub fn monitor_write(state: &[u8], position: u64, message: &mut [u8]) -> u32 {
+    let (message, message_len) = (message.as_mut_ptr(), message.len());
+    // Safe: as above.
+    unsafe { c::monitor_write(state.as_ptr(), state.len(), position, message, message_len) }
+}

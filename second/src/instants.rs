@@ -1,0 +1,43 @@
+//! Instants and intervals (document 01, "Instants, names, predicates"), in whole microseconds.
+
+/// Stored ends lie from 0 to this one.
+pub const GREATEST_END: u64 = (1 << 58) - 1;
+
+/// From `left` to `right`, both included.
+#[derive(Clone, Copy, Debug, PartialEq, Eq)]
+pub struct Interval {
+    pub left: u64,
+    pub right: u64,
+}
+
+impl Interval {
+    /// The interval of two ends; none if left is above right or an end cannot be stored.
+    pub fn of_ends(left: u64, right: u64) -> Option<Interval> {
+        (left <= right && right <= GREATEST_END).then_some(Interval { left, right })
+    }
+
+    /// The ends being centre less and plus half width; none if an end cannot be stored.
+    pub fn of_centre(centre: u64, half: u64) -> Option<Interval> {
+        Interval::of_ends(centre.checked_sub(half)?, centre.checked_add(half)?)
+    }
+
+    /// Left plus least and right plus greatest; none if an end would pass the greatest one.
+    pub fn grown(self, least: u64, greatest: u64) -> Option<Interval> {
+        Interval::of_ends(self.left.checked_add(least)?, self.right.checked_add(greatest)?)
+    }
+
+    /// Whether the two have no instant in common.
+    pub fn disjoint(self, other: Interval) -> bool {
+        self.right < other.left || other.right < self.left
+    }
+
+    /// Whether every instant of this one is in the other.
+    pub fn within(self, other: Interval) -> bool {
+        other.left <= self.left && self.right <= other.right
+    }
+
+    /// The intersection of two that are not disjoint.
+    pub fn meet(self, other: Interval) -> Interval {
+        Interval { left: self.left.max(other.left), right: self.right.min(other.right) }
+    }
+}

@@ -1,0 +1,21 @@
+//! The second program: document 01 in Rust, written from that paper alone and sharing no table or
+//! code with the engine, so that a misreading in one of them shows as a difference.
+//!
+//! A module for each section of the paper, and others to compare with: `engine` calls the archive,
+//! `calls` and `lent` lend the same bytes to both programs, `random` and `samples` make the seeded
+//! inputs.
+
+pub mod ageing;
+pub mod calls;
+pub mod engine;
+pub mod instants;
+pub mod lent;
+pub mod message;
+pub mod predicates;
+pub mod random;
+pub mod receiving;
+pub mod refusal;
+pub mod samples;
+pub mod set_up;
+pub mod state;
+pub mod writing;

@@ -1,0 +1,221 @@
+//! The radio message (document 01, "The radio message") as words, and the two calls over bytes.
+
+use crate::instants::Interval;
+use crate::predicates::{self, Term, GREATEST_NAME};
+use crate::refusal;
+
+/// The kinds of a word: its top 3 bits.
+pub mod kind {
+    pub const HEAD: u32 = 1;
+    pub const LEFT: u32 = 2;
+    pub const RIGHT: u32 = 3;
+    pub const CENTRE: u32 = 4;
+    pub const HALF: u32 = 5;
+    pub const TERM: u32 = 6;
+    pub const CHECK: u32 = 7;
+}
+
+/// The low bits of a word.
+pub const PAYLOAD_BITS: u32 = 29;
+/// The greatest payload, and the mask of one.
+pub const PAYLOAD: u32 = (1 << PAYLOAD_BITS) - 1;
+/// A message has at most this many terms.
+pub const MOST_TERMS: u32 = 8;
+
+/// What a message says, whichever form it came in.
+#[derive(Clone, Debug, PartialEq, Eq)]
+pub struct Message {
+    pub sender: u32,
+    pub interval: Interval,
+    /// In normal form.
+    pub terms: Vec<Term>,
+}
+
+impl Message {
+    /// Its bytes in ends form.
+    pub fn bytes(&self) -> Vec<u8> {
+        bytes_of(&write(self))
+    }
+}
+
+/// The word of a kind with a payload of at most 29 bits.
+pub fn word(kind: u32, payload: u32) -> u32 {
+    kind << PAYLOAD_BITS | payload
+}
+
+fn kind_of(word: u32) -> u32 {
+    word >> PAYLOAD_BITS
+}
+
+fn payload_of(word: u32) -> u32 {
+    word & PAYLOAD
+}
+
+/// The word that closes a message: the sum of all earlier words, wrapping, modulo 2^29.
+pub fn check_word(earlier: &[u32]) -> u32 {
+    let sum = earlier.iter().fold(0u32, |sum, &w| sum.wrapping_add(w));
+    word(kind::CHECK, payload_of(sum))
+}
+
+/// What the first word says.
+struct Head {
+    sender: u32,
+    count: u32,
+}
+
+impl Head {
+    fn of(word: u32) -> Option<Head> {
+        let payload = payload_of(word);
+        let head = Head { sender: payload & 31, count: payload >> 5 & 31 };
+        let sound = kind_of(word) == kind::HEAD
+            && head.sender <= GREATEST_NAME
+            && head.count <= MOST_TERMS
+            && payload >> 10 == 0;
+        sound.then_some(head)
+    }
+
+    fn word(&self) -> u32 {
+        word(kind::HEAD, self.count << 5 | self.sender)
+    }
+}
+
+/// How a message gives its interval; the second word's kind tells.
+#[derive(Clone, Copy)]
+enum Form {
+    Ends,
+    Centre,
+}
+
+impl Form {
+    fn of(second: u32) -> Option<Form> {
+        match kind_of(second) {
+            kind::LEFT => Some(Form::Ends),
+            kind::CENTRE => Some(Form::Centre),
+            _ => None,
+        }
+    }
+
+    /// The kinds of the words that give the interval.
+    fn kinds(self) -> &'static [u32] {
+        match self {
+            Form::Ends => &[kind::LEFT, kind::LEFT, kind::RIGHT, kind::RIGHT],
+            Form::Centre => &[kind::CENTRE, kind::CENTRE, kind::HALF],
+        }
+    }
+
+    /// The interval that those words give, if its ends can be stored.
+    fn interval(self, words: &[u32]) -> Option<Interval> {
+        match self {
+            Form::Ends => Interval::of_ends(joined(words[0], words[1]), joined(words[2], words[3])),
+            Form::Centre => {
+                Interval::of_centre(joined(words[0], words[1]), payload_of(words[2]).into())
+            }
+        }
+    }
+}
+
+/// The number of 58 bits in two payloads, high then low.
+fn joined(high: u32, low: u32) -> u64 {
+    u64::from(payload_of(high)) << PAYLOAD_BITS | u64::from(payload_of(low))
+}
+
+/// The two words of a kind that carry a number of 58 bits.
+pub fn split(kind: u32, number: u64) -> [u32; 2] {
+    let low = number as u32 & PAYLOAD;
+    let high = (number >> PAYLOAD_BITS) as u32;
+    [word(kind, high), word(kind, low)]
+}
+
+/// What the words of a message say, or the refusal's number in the order 10, 12, 11, 13 to 17.
+pub fn read(words: &[u32]) -> Result<Message, u32> {
+    if !(5..=14).contains(&words.len()) {
+        return Err(refusal::WORD_COUNT);
+    }
+    let head = Head::of(words[0]).ok_or(refusal::HEAD)?;
+    let form = Form::of(words[1]).ok_or(refusal::FORM)?;
+    let places = form.kinds().len();
+    if words.len() != 1 + places + head.count as usize + 1 {
+        return Err(refusal::HEAD_AND_FORM);
+    }
+    let (check, earlier) = (words[words.len() - 1], &words[..words.len() - 1]);
+    let (ends, terms) = earlier[1..].split_at(places);
+    let kinds_fit = ends.iter().map(|&w| kind_of(w)).eq(form.kinds().iter().copied())
+        && terms.iter().all(|&w| kind_of(w) == kind::TERM)
+        && kind_of(check) == kind::CHECK;
+    if !kinds_fit {
+        return Err(refusal::KIND);
+    }
+    if check != check_word(earlier) {
+        return Err(refusal::CHECK);
+    }
+    let interval = form.interval(ends).ok_or(refusal::ENDS)?;
+    let terms: Vec<Term> = terms.iter().map(|&w| payload_of(w)).collect();
+    if !predicates::is_normal(&terms) {
+        return Err(refusal::TERMS);
+    }
+    Ok(Message { sender: head.sender, interval, terms })
+}
+
+/// The words of a message, in ends form.
+pub fn write(message: &Message) -> Vec<u32> {
+    let head = Head { sender: message.sender, count: message.terms.len() as u32 };
+    let mut words = vec![head.word()];
+    words.extend(split(kind::LEFT, message.interval.left));
+    words.extend(split(kind::RIGHT, message.interval.right));
+    words.extend(message.terms.iter().map(|&t| word(kind::TERM, t)));
+    words.push(check_word(&words));
+    words
+}
+
+/// The same message in ends form, or the refusal's number as in reading.
+pub fn rewrite(words: &[u32]) -> Result<Vec<u32>, u32> {
+    read(words).map(|message| write(&message))
+}
+
+/// `message_read`: sender, left, right and term count, 8 bytes a number.
+pub fn read_call(message: &[u8], out: &mut [u8]) -> u32 {
+    let reading = words_of(message).and_then(|words| read(&words));
+    answer(reading.map(|message| reading_bytes(&message)), out)
+}
+
+/// `message_rewrite`: the message in ends form, 6 + term count words.
+pub fn rewrite_call(message: &[u8], out: &mut [u8]) -> u32 {
+    let written = words_of(message).and_then(|words| rewrite(&words));
+    answer(written.map(|words| bytes_of(&words)), out)
+}
+
+/// Four bytes make a word, little-endian; a byte length that is not a multiple of 4 is 10.
+pub fn words_of(bytes: &[u8]) -> Result<Vec<u32>, u32> {
+    let (words, rest) = bytes.as_chunks::<4>();
+    if !rest.is_empty() {
+        return Err(refusal::WORD_COUNT);
+    }
+    Ok(words.iter().map(|&word| u32::from_le_bytes(word)).collect())
+}
+
+/// The bytes of words, little-endian.
+pub fn bytes_of(words: &[u32]) -> Vec<u8> {
+    words.iter().map(|word| word.to_le_bytes()).collect::<Vec<_>>().into_flattened()
+}
+
+fn reading_bytes(message: &Message) -> Vec<u8> {
+    let Interval { left, right } = message.interval;
+    [u64::from(message.sender), left, right, message.terms.len() as u64]
+        .iter()
+        .flat_map(|number| number.to_le_bytes())
+        .collect()
+}
+
+/// Writes the result at the output's front. 24 for the output comes last, and a refusal leaves
+/// every byte as it was.
+pub(crate) fn answer(result: Result<Vec<u8>, u32>, out: &mut [u8]) -> u32 {
+    let bytes = match result {
+        Ok(bytes) => bytes,
+        Err(number) => return number,
+    };
+    let Some(front) = out.get_mut(..bytes.len()) else {
+        return refusal::BUFFER;
+    };
+    front.copy_from_slice(&bytes);
+    refusal::TAKEN
+}

@@ -1,0 +1,52 @@
+//! The numbers that calls return (document 01, "Who can cause which refusal").
+
+/// Not a refusal.
+pub const TAKEN: u32 = 0;
+
+// The installer's.
+/// Own name above 28.
+pub const OWN_NAME: u32 = 1;
+/// Drift above 1,000.
+pub const DRIFT: u32 = 2;
+/// Reading 2^58 or more.
+pub const READING: u32 = 3;
+
+// The sender's.
+/// Word count outside 5 to 14, or a byte length that is not a multiple of 4.
+pub const WORD_COUNT: u32 = 10;
+/// Second word neither kind 2 nor 4.
+pub const FORM: u32 = 11;
+/// Head not of kind 1, sender above 28, term count above 8 or bits 10–28 not zero.
+pub const HEAD: u32 = 12;
+/// Word count not that of head and form.
+pub const HEAD_AND_FORM: u32 = 13;
+/// A later word of the wrong kind.
+pub const KIND: u32 = 14;
+/// The check word.
+pub const CHECK: u32 = 15;
+/// Left above right, or an end that cannot be stored.
+pub const ENDS: u32 = 16;
+/// Terms not in normal form.
+pub const TERMS: u32 = 17;
+/// Sender is the own name.
+pub const SENDER: u32 = 18;
+
+// The host program's.
+/// Reading below the last.
+pub const EARLIER: u32 = 20;
+/// Least delay above greatest, or greatest above 60,000,000.
+pub const DELAYS: u32 = 21;
+/// No held datum there.
+pub const POSITION: u32 = 23;
+/// Buffer too short.
+pub const BUFFER: u32 = 24;
+/// State out of form.
+pub const STATE: u32 = 25;
+
+// A filling site's.
+/// An end would pass 2^58 − 1.
+pub const PASSES_END: u32 = 30;
+/// More than 8 terms in the new predicate's normal form, stored or not.
+pub const NEW_TERMS: u32 = 31;
+/// Too many data or entries.
+pub const TOO_MANY: u32 = 32;

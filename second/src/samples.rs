@@ -1,0 +1,229 @@
+//! Seeded messages to compare with: sound ones of both forms, and flawed ones that reach every
+//! refusal, also several flaws at once, so that the order of the tests shows.
+
+use crate::instants::GREATEST_END;
+use crate::message::{bytes_of, check_word, kind, split, word, MOST_TERMS, PAYLOAD};
+use crate::predicates::{normal, Term, GREATEST_NAME};
+use crate::random::Random;
+
+pub mod runs;
+pub mod states;
+
+/// A message lent from within a longer buffer, at any alignment. Where it was cut short, its last
+/// words still lie behind it, so that reading past its length shows.
+pub struct Sample {
+    buffer: Vec<u8>,
+    start: usize,
+    end: usize,
+}
+
+impl Sample {
+    pub fn message(&self) -> &[u8] {
+        &self.buffer[self.start..self.end]
+    }
+}
+
+/// The bytes of a message of any kind.
+pub fn message(random: &mut Random) -> Sample {
+    let words = if random.once_in(20) { noise(random) } else { flawed(random) };
+    let start = random.index(8);
+    let whole = 4 * words.len();
+    let mut buffer = random.bytes(start + whole + 16);
+    buffer[start..start + whole].copy_from_slice(&bytes_of(&words));
+    let len = if random.once_in(10) {
+        (whole + random.index(16)).saturating_sub(random.index(16))
+    } else {
+        whole
+    };
+    Sample { buffer, start, end: start + len }
+}
+
+/// The words of a message that is taken, in either form.
+pub fn sound(random: &mut Random) -> Vec<u32> {
+    let mut terms = normal(&any_terms(random));
+    terms.truncate(MOST_TERMS as usize);
+    let sender = random.below(u64::from(GREATEST_NAME) + 1) as u32;
+    let interval = sound_interval(random);
+    sealed(sender, &interval, &terms)
+}
+
+/// The words of a message that may have flaws in its parts, in its words, or none.
+fn flawed(random: &mut Random) -> Vec<u32> {
+    let mut words = if random.once_in(2) { sound(random) } else { flawed_parts(random) };
+    let damages = random.pick(&[0, 0, 0, 1, 1, 2]);
+    for _ in 0..damages {
+        damage(random, &mut words);
+    }
+    // Most damage would end at the check word, were it not corrected.
+    if damages > 0 && !random.once_in(3) {
+        correct(&mut words);
+    }
+    words
+}
+
+/// A message with right kinds and a right check word, each part of it flawed now and then.
+fn flawed_parts(random: &mut Random) -> Vec<u32> {
+    let terms = if random.once_in(2) { flawed_terms(random) } else { normal(&any_terms(random)) };
+    let interval = if random.once_in(2) { flawed_interval(random) } else { sound_interval(random) };
+    let sender = random.below(u64::from(GREATEST_NAME) + 1) as u32;
+    let mut words = sealed(sender, &interval, &terms);
+    if random.once_in(5) {
+        words[0] = flawed_head(random, words[0]);
+        correct(&mut words);
+    }
+    words
+}
+
+/// Head, interval and terms, closed by the check word.
+fn sealed(sender: u32, interval: &[u32], terms: &[Term]) -> Vec<u32> {
+    let mut words = vec![word(kind::HEAD, (terms.len() as u32) << 5 | sender)];
+    words.extend(interval);
+    words.extend(terms.iter().map(|&t| word(kind::TERM, t)));
+    words.push(check_word(&words));
+    words
+}
+
+/// Makes the last word's payload that of the check word, and leaves its kind.
+fn correct(words: &mut [u32]) {
+    if let Some((last, earlier)) = words.split_last_mut() {
+        *last = *last & !PAYLOAD | check_word(earlier) & PAYLOAD;
+    }
+}
+
+/// A head with another sender, another term count or a bit where zero should be.
+fn flawed_head(random: &mut Random, head: u32) -> u32 {
+    match random.below(3) {
+        0 => head & !31 | (u64::from(GREATEST_NAME) + random.below(4)) as u32,
+        1 => head & !(31 << 5) | (random.below(32) as u32) << 5,
+        _ => head | 1 << (10 + random.below(19)),
+    }
+}
+
+/// An end, often at a boundary of its range or of its two words.
+fn end(random: &mut Random) -> u64 {
+    let word_end = u64::from(PAYLOAD);
+    let (low, high) = (random.below(4), GREATEST_END - random.below(4));
+    let edges = [0, low, word_end, word_end + 1, high, GREATEST_END];
+    match random.below(3) {
+        0 => random.pick(&edges),
+        1 => random.below(2 * word_end),
+        _ => random.below(GREATEST_END + 1),
+    }
+}
+
+/// The greatest half width that the centre and a payload leave room for.
+fn room(centre: u64) -> u64 {
+    centre.min(GREATEST_END - centre).min(PAYLOAD.into())
+}
+
+fn sound_interval(random: &mut Random) -> Vec<u32> {
+    let (one, other) = (end(random), end(random));
+    if random.once_in(2) {
+        let room = room(one);
+        let half = random.below(room + 1);
+        centre_form(one, random.pick(&[0, half, room]))
+    } else {
+        ends_form(one.min(other), one.max(other))
+    }
+}
+
+/// Ends in any order, near each other too, or a half width at the edge of its room and past it.
+fn flawed_interval(random: &mut Random) -> Vec<u32> {
+    let (one, other) = (end(random), end(random));
+    if random.once_in(2) {
+        let any = random.below(u64::from(PAYLOAD) + 1);
+        let past = (room(one) + 1).min(PAYLOAD.into());
+        centre_form(one, random.pick(&[room(one), past, any]))
+    } else {
+        let below = one.saturating_sub(1);
+        ends_form(one, random.pick(&[one, below, other]))
+    }
+}
+
+fn ends_form(left: u64, right: u64) -> Vec<u32> {
+    [split(kind::LEFT, left), split(kind::RIGHT, right)].concat()
+}
+
+fn centre_form(centre: u64, half: u64) -> Vec<u32> {
+    let [high, low] = split(kind::CENTRE, centre);
+    vec![high, low, word(kind::HALF, half as u32)]
+}
+
+/// Up to 8 terms; of few names they often contain each other, pairs of many names seldom.
+fn any_terms(random: &mut Random) -> Vec<Term> {
+    let count = random.below(u64::from(MOST_TERMS) + 1);
+    let names = random.pick(&[2, 3, 5, 8, 8, 29, 29]);
+    let pairs = random.once_in(2);
+    (0..count)
+        .map(|_| {
+            if pairs {
+                1 << random.below(names) | 1 << random.below(names)
+            } else {
+                random.below(1 << names) as Term
+            }
+        })
+        .collect()
+}
+
+/// A term of one or two names below a number, or of any of them.
+fn term(random: &mut Random, names: u64) -> Term {
+    if random.once_in(4) {
+        random.below(1 << names) as Term
+    } else {
+        1 << random.below(names) | 1 << random.below(names)
+    }
+}
+
+/// Terms as they come; or rising, so that only equal or contained ones are flaws; or normal but
+/// for the empty term or one more.
+fn flawed_terms(random: &mut Random) -> Vec<Term> {
+    let mut terms = any_terms(random);
+    match random.below(4) {
+        0 => {}
+        1 => terms.sort_unstable(),
+        2 => {
+            terms.sort_unstable();
+            terms.dedup();
+        }
+        _ => {
+            terms = normal(&terms);
+            terms.truncate(MOST_TERMS as usize - 1);
+            let more = any_terms(random).first().copied().unwrap_or(0);
+            let place = random.index(terms.len() + 1);
+            terms.insert(place, random.pick(&[0, more]));
+        }
+    }
+    terms
+}
+
+/// One damage to the words: a bit, a kind, a whole word, one lost, doubled, moved, or the length.
+fn damage(random: &mut Random, words: &mut Vec<u32>) {
+    if words.is_empty() {
+        return;
+    }
+    let (one, other) = (random.index(words.len()), random.index(words.len()));
+    match random.below(8) {
+        0 => words[one] ^= 1 << random.below(32),
+        1 => words[one] = word(random.below(8) as u32, words[one] & PAYLOAD),
+        2 => words[one] = words[one] & !PAYLOAD | random.bits() as u32 & PAYLOAD,
+        3 => words[one] = random.bits() as u32,
+        4 => words.swap(one, other),
+        5 => drop(words.remove(one)),
+        6 => words.insert(one, words[other]),
+        _ => {
+            let (last, len) = (words[words.len() - 1], random.index(21));
+            words.resize(len, last);
+        }
+    }
+}
+
+/// 0 to 20 words of any bits, the first often a sound head and the second often of a form's kind.
+fn noise(random: &mut Random) -> Vec<u32> {
+    let mut words: Vec<u32> = (0..random.below(21)).map(|_| random.bits() as u32).collect();
+    if words.len() > 1 && !random.once_in(4) {
+        let (sender, count) = (random.below(29) as u32, random.below(9) as u32);
+        words[0] = word(kind::HEAD, count << 5 | sender);
+        words[1] = word(random.pick(&[kind::LEFT, kind::CENTRE, kind::HALF]), words[1] & PAYLOAD);
+    }
+    words
+}

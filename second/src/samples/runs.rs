@@ -1,0 +1,236 @@
+//! Seeded runs: worlds in which data often meet, contradict, explain and better each other.
+
+use crate::calls::Call;
+use crate::instants::{Interval, GREATEST_END};
+use crate::message::{bytes_of, MOST_TERMS};
+use crate::predicates::{normal, Term};
+use crate::random::Random;
+use crate::receiving::GREATEST_DELAY;
+use crate::state::{State, GREATEST_DRIFT, GREATEST_READING};
+
+/// What the calls of a run are drawn from.
+pub struct World {
+    pub own: u32,
+    drift: u32,
+    /// At the start of the run.
+    reading: u64,
+    /// Senders and terms name those below it.
+    names: u64,
+    /// Intervals lie from here on at the start of the run, and move on with the reading.
+    base: u64,
+    span: u64,
+    /// Disjoint places for intervals, or none where ends lie anywhere in the span.
+    places: u64,
+}
+
+impl World {
+    /// Few names and small numbers, sometimes close to the greatest end.
+    pub fn small(random: &mut Random) -> World {
+        let names = random.pick(&[3, 3, 4, 4, 5, 6, 9, 29]);
+        let span = random.pick(&[6, 12, 12, 30, 1000]);
+        let drift = random.below(u64::from(GREATEST_DRIFT) + 1) as u32;
+        World {
+            own: random.below(names) as u32,
+            drift: random.pick(&[0, 1, 100, drift, GREATEST_DRIFT]),
+            reading: random.pick(&[0, 5, 1_000_000, GREATEST_READING - 3 * span]),
+            names,
+            base: random.pick(&[0, 0, 0, 1 << 29, GREATEST_END - 3 * span]),
+            span,
+            places: 0,
+        }
+    }
+
+    /// Many names and disjoint places, so that all rows fill.
+    pub fn crowded(random: &mut Random) -> World {
+        World {
+            own: random.below(29) as u32,
+            drift: random.pick(&[0, 1, 100]),
+            reading: random.below(1_000_000),
+            names: random.pick(&[12, 20, 29]),
+            base: random.pick(&[0, 1 << 29, 1 << 40]),
+            span: 1000,
+            places: random.pick(&[8, 9, 10]),
+        }
+    }
+
+    /// Few names and small numbers in any state.
+    pub fn around(random: &mut Random, state: &State) -> World {
+        let left = state.held.first().map_or(0, |datum| datum.interval.left);
+        World {
+            own: state.own,
+            drift: state.drift,
+            reading: state.reading,
+            names: random.pick(&[3, 4, 5, 8, 29]),
+            base: random.pick(&[0, 0, left]),
+            span: random.pick(&[12, 40]),
+            places: 0,
+        }
+    }
+
+    pub fn set_up(&self) -> Call {
+        Call::SetUp { own: self.own, drift: self.drift, reading: self.reading }
+    }
+
+    /// A call in a state: mostly receipts, and flawed arguments now and then.
+    pub fn call(&self, random: &mut Random, state: &State) -> Call {
+        match random.below(40) {
+            0..=27 => self.receive(random, state),
+            28..=32 => Call::Age { reading: self.reading(random, state) },
+            33..=38 => Call::Write { position: position(random, state) },
+            _ => flawed_set_up(random),
+        }
+    }
+
+    fn receive(&self, random: &mut Random, state: &State) -> Call {
+        let (least, greatest) = self.delays(random);
+        let message = if random.once_in(12) {
+            super::message(random).message().to_vec()
+        } else {
+            self.message(random, state)
+        };
+        Call::Receive { least, greatest, message }
+    }
+
+    /// Small delays; flawed or at the edge now and then.
+    fn delays(&self, random: &mut Random) -> (u64, u64) {
+        let most = self.span / 6;
+        let (least, more) = (random.below(most + 1), random.below(most + 1));
+        let any = random.bits();
+        match random.below(40) {
+            0 => (least + 1, least),
+            1 => (any, random.pick(&[least, any, u64::MAX])),
+            2 => (least, random.pick(&[GREATEST_DELAY, GREATEST_DELAY + 1, 1 << 32, u64::MAX])),
+            3..=20 => (0, 0),
+            _ => (least, least + more),
+        }
+    }
+
+    /// The bytes of a message whose parts are small, damaged now and then.
+    fn message(&self, random: &mut Random, state: &State) -> Vec<u8> {
+        let (sender, terms) = self.predicate(random, state);
+        let interval = self.interval(random, state);
+        let mut words = super::sealed(sender, &in_any_form(random, interval), &terms);
+        if random.once_in(16) {
+            super::damage(random, &mut words);
+            if !random.once_in(4) {
+                super::correct(&mut words);
+            }
+        }
+        let mut bytes = bytes_of(&words);
+        if random.once_in(60) {
+            bytes.truncate(bytes.len().saturating_sub(1 + random.index(3)));
+        }
+        bytes
+    }
+
+    /// A sender, seldom the own name, and terms; now and then they repeat a held predicate.
+    fn predicate(&self, random: &mut Random, state: &State) -> (u32, Vec<Term>) {
+        if !state.held.is_empty() && random.once_in(10) {
+            let terms = state.held[random.index(state.held.len())].predicate.to_vec();
+            if let Some(single) = terms.iter().find(|t| t.count_ones() == 1) {
+                return (single.trailing_zeros(), terms);
+            }
+        }
+        let mut sender = random.below(self.names) as u32;
+        if sender == state.own && !random.once_in(6) {
+            sender = (sender + 1) % self.names as u32;
+        }
+        (sender, self.terms(random))
+    }
+
+    /// Mostly none or few terms, also those of all 8 and the empty one.
+    fn terms(&self, random: &mut Random) -> Vec<Term> {
+        let count = match random.below(16) {
+            0..=7 => 0,
+            8..=12 => 1 + random.index(3),
+            13 => 8,
+            14 => 16,
+            _ => return vec![0],
+        };
+        let terms: Vec<Term> = (0..count).map(|_| super::term(random, self.names)).collect();
+        let mut terms = normal(&terms);
+        // Beside others the empty term would be all that is left.
+        terms.retain(|&t| t != 0);
+        terms.truncate(MOST_TERMS as usize);
+        terms
+    }
+
+    fn interval(&self, random: &mut Random, state: &State) -> Interval {
+        let from = self.base + state.reading.saturating_sub(self.reading);
+        let Interval { left, right } = if !state.held.is_empty() && random.once_in(4) {
+            near(random, state)
+        } else if self.places > 0 {
+            self.placed(random, from)
+        } else {
+            let (left, width) = (random.below(self.span), random.pick(&[1, 4, self.span]));
+            Interval { left: from + left, right: from + left + random.below(width) }
+        };
+        let right = right.min(GREATEST_END);
+        Interval { left: left.min(right), right }
+    }
+
+    /// One place, or several beside each other, or far from all.
+    fn placed(&self, random: &mut Random, from: u64) -> Interval {
+        let place = random.below(self.places);
+        let left = from + 100 * place;
+        match random.below(10) {
+            0..=5 => Interval { left, right: left + 40 + random.below(20) },
+            6 => Interval { left, right: left + 100 * random.below(self.places) + 50 },
+            7 | 8 => Interval { left: from, right: from + 5_000 },
+            _ => Interval { left: from + 10_000, right: from + 10_000 + random.below(100) },
+        }
+    }
+
+    /// A little later; flawed or at the edge now and then.
+    fn reading(&self, random: &mut Random, state: &State) -> u64 {
+        let last = state.reading;
+        match random.below(20) {
+            0 => last.saturating_sub(1 + random.below(10)),
+            1 => random.pick(&[GREATEST_READING, GREATEST_READING + 1, u64::MAX]),
+            2 => last + random.below(3_000_000),
+            3 => last,
+            _ => last + random.below(self.span),
+        }
+    }
+}
+
+/// Ends that are those of a held datum, or next to them.
+fn near(random: &mut Random, state: &State) -> Interval {
+    let Interval { left, right } = state.held[random.index(state.held.len())].interval;
+    let (low, high) = (random.pick(&[0, 0, 1, 2]), random.pick(&[0, 0, 1, 2]));
+    let (one, other) = match random.below(5) {
+        0 => (left.saturating_sub(low), right + high),
+        1 => (left + low, right.saturating_sub(high)),
+        2 => (left + low, right + high),
+        3 => (right + low, right + low + high),
+        _ => (left.saturating_sub(low + high), left.saturating_sub(low)),
+    };
+    Interval { left: one.min(other), right: one.max(other) }
+}
+
+/// The interval's words, in centre form now and then if it has one.
+fn in_any_form(random: &mut Random, Interval { left, right }: Interval) -> Vec<u32> {
+    let width = right - left;
+    if width.is_multiple_of(2) && width < 1 << 29 && random.once_in(2) {
+        super::centre_form(left + width / 2, width / 2)
+    } else {
+        super::ends_form(left, right)
+    }
+}
+
+/// A position of a held datum, or one past them.
+fn position(random: &mut Random, state: &State) -> u64 {
+    let held = state.held.len() as u64;
+    let any = random.below(held + 2);
+    random.pick(&[any, any, any, held.saturating_sub(1), held, 1 << 32, u64::MAX])
+}
+
+/// Numbers at the edges of what is taken, and past them.
+fn flawed_set_up(random: &mut Random) -> Call {
+    let low = random.bits() as u32;
+    Call::SetUp {
+        own: random.pick(&[0, 2, 28, 28, 29, 256, low]),
+        drift: random.pick(&[0, 1, 1_000, 1_000, 1_001, 65_536, low]),
+        reading: random.pick(&[0, 9, GREATEST_READING, GREATEST_READING + 1, u64::MAX]),
+    }
+}

@@ -1,0 +1,273 @@
+//! The second program on its own: document 01's cases at the level of state, the layout of its
+//! bytes, and what a run leaves true, set by set.
+
+use second::ageing::advance;
+use second::calls::Call;
+use second::instants::Interval;
+use second::message::{self, Message};
+use second::predicates::{holds, struck, Predicate, Term};
+use second::random::Random;
+use second::receiving::Branches;
+use second::samples::runs::World;
+use second::samples::states;
+use second::state::{self, Datum, State, STATE_BYTES};
+use second::{ageing, receiving, set_up};
+
+// ---- document 01's cases
+
+fn set_up(own: u32, drift: u32) -> Vec<u8> {
+    let mut bytes = vec![99; STATE_BYTES];
+    assert_eq!(set_up::call(&mut bytes, own, drift, 0), 0);
+    bytes
+}
+
+fn get(bytes: &mut [u8], sender: u32, left: u64, right: u64, terms: &[Term]) {
+    let message = Message { sender, interval: Interval { left, right }, terms: terms.to_vec() };
+    assert_eq!(receiving::call(bytes, 0, 0, &message.bytes()), 0);
+}
+
+/// What the bytes hold.
+fn held(bytes: &[u8]) -> (Vec<Datum>, Vec<Predicate>) {
+    let state = State::of(bytes).expect("a state in form");
+    (state.held, state.entries)
+}
+
+#[test]
+fn case_overlapping_data_under_1_are_one_datum() {
+    let mut bytes = set_up(0, 100);
+    get(&mut bytes, 1, 0, 10, &[]);
+    get(&mut bytes, 1, 5, 20, &[]);
+    assert_eq!(held(&bytes), (vec![Datum::of(5, 10, &[2])], vec![]));
+}
+
+#[test]
+fn case_disjoint_data_under_1_are_the_entry_1() {
+    let mut bytes = set_up(0, 100);
+    get(&mut bytes, 1, 0, 10, &[]);
+    get(&mut bytes, 1, 11, 20, &[]);
+    let learnt = (vec![], vec![Predicate::of(&[2])]);
+    assert_eq!(held(&bytes), learnt);
+    assert_eq!(ageing::call(&mut bytes, 1_000_000), 0);
+    assert_eq!(held(&bytes), learnt);
+}
+
+#[test]
+fn case_touching_data_under_1_and_2_give_no_entry() {
+    let mut bytes = set_up(0, 100);
+    get(&mut bytes, 1, 0, 10, &[]);
+    get(&mut bytes, 2, 10, 20, &[]);
+    assert_eq!(held(&bytes), (vec![Datum::of(0, 10, &[2]), Datum::of(10, 20, &[4])], vec![]));
+}
+
+#[test]
+fn case_sender_1_with_terms_is_1_or_3_and_at_own_name_3_it_is_1() {
+    for (own, p) in [(0, &[2, 8][..]), (3, &[2])] {
+        let mut bytes = set_up(own, 100);
+        get(&mut bytes, 1, 0, 10, &[6, 8]);
+        assert_eq!(held(&bytes), (vec![Datum::of(0, 10, p)], vec![]));
+    }
+}
+
+#[test]
+fn case_disjoint_data_under_other_names_stay_and_the_sum_is_an_entry() {
+    let mut bytes = set_up(0, 100);
+    get(&mut bytes, 1, 0, 10, &[]);
+    get(&mut bytes, 2, 20, 30, &[]);
+    let data = vec![Datum::of(0, 10, &[2]), Datum::of(20, 30, &[4])];
+    assert_eq!(held(&bytes), (data, vec![Predicate::of(&[2, 4])]));
+    let mut bytes = set_up(0, 100);
+    get(&mut bytes, 1, 0, 10, &[8]);
+    get(&mut bytes, 2, 20, 30, &[8]);
+    let data = vec![Datum::of(0, 10, &[2, 8]), Datum::of(20, 30, &[4, 8])];
+    assert_eq!(held(&bytes), (data, vec![Predicate::of(&[2, 4, 8])]));
+}
+
+#[test]
+fn case_advance_of_one_microsecond_is_0_and_2_and_of_none_0_and_0() {
+    assert_eq!(advance(1, 100), (0, 2));
+    assert_eq!(advance(0, 100), (0, 0));
+}
+
+#[test]
+fn case_listing_holds_what_its_answers_say() {
+    let mut bytes = set_up(5, 100);
+    let words = [536870913, 1073741824, 1074741824, 1610612736, 1611612936, 3760096585];
+    assert_eq!(receiving::call(&mut bytes, 0, 50, &message::bytes_of(&words)), 0);
+    assert_eq!(held(&bytes), (vec![Datum::of(1_000_000, 1_000_250, &[2])], vec![]));
+    assert_eq!(ageing::call(&mut bytes, 2_000_000), 0);
+    assert_eq!(held(&bytes), (vec![Datum::of(2_999_800, 3_000_450, &[2])], vec![]));
+    let words = [536870914, 1073741824, 1076742824, 1610612736, 1613613736, 3764098386];
+    assert_eq!(receiving::call(&mut bytes, 0, 0, &message::bytes_of(&words)), 0);
+    let data = vec![Datum::of(2_999_800, 3_000_450, &[2]), Datum::of(3_001_000, 3_001_000, &[4])];
+    assert_eq!(held(&bytes), (data, vec![Predicate::of(&[2, 4])]));
+}
+
+// ---- bytes
+
+/// Every number of the layout at the place that document 01 gives it.
+#[test]
+fn bytes_of_a_state_stand_where_document_01_puts_them() {
+    let state = State {
+        own: 27,
+        drift: 0x0302,
+        reading: 0x0108_0706_0504_0302,
+        held: vec![
+            Datum::of(1, 2, &[4]),
+            Datum::of(0x0201, 0x03_0201, &[0x0102_0304, 0x1000_0000]),
+        ],
+        entries: vec![Predicate::of(&[8]), Predicate::of(&[0x0504_0302])],
+    };
+    let mut bytes = vec![0; 3032];
+    let mut put =
+        |at: usize, numbers: &[u8]| bytes[at..at + numbers.len()].copy_from_slice(numbers);
+    put(0, &[27]);
+    put(4, &[2, 3]);
+    put(8, &[2, 3, 4, 5, 6, 7, 8, 1]);
+    put(16, &[2]);
+    put(20, &[2]);
+    put(24, &[1]);
+    put(32, &[2]);
+    put(40, &[1]);
+    put(44, &[4]);
+    put(76, &[1, 2]);
+    put(84, &[1, 2, 3]);
+    put(92, &[2]);
+    put(96, &[4, 3, 2, 1]);
+    put(100, &[0, 0, 0, 16]);
+    put(856, &[1]);
+    put(860, &[8]);
+    put(924, &[1]);
+    put(928, &[2, 3, 4, 5]);
+    assert_eq!(state.bytes(), bytes);
+    assert_eq!(State::of(&bytes), Ok(state));
+}
+
+#[test]
+fn bytes_in_form_come_back_after_decoding_and_encoding() {
+    let mut damaged = [0; 2];
+    for seed in 0..50_000 {
+        let mut random = Random::new(seed);
+        let state = states::in_form(&mut random);
+        let mut bytes = state.bytes();
+        assert_eq!(State::of(&bytes).as_ref(), Ok(&state), "seed {seed}");
+        states::damage(&mut random, &mut bytes);
+        let state = State::of(&bytes);
+        damaged[usize::from(state.is_ok())] += 1;
+        assert!(state.map_or_else(|n| n == 25, |state| state.bytes() == bytes), "seed {seed}");
+    }
+    assert!(damaged.iter().all(|&count| count > 5_000), "{damaged:?}");
+}
+
+// ---- what a run leaves true
+
+/// The instants that a set allows; all of them are from the lowest to the highest number.
+type Instants = Option<(i128, i128)>;
+const EVERY: Instants = Some((i128::MIN, i128::MAX));
+
+fn common(one: Instants, other: Instants) -> Instants {
+    let ((a, b), (c, d)) = (one?, other?);
+    let (left, right) = (a.max(c), b.min(d));
+    (left <= right).then_some((left, right))
+}
+
+/// True time is in the interval, or s makes the predicate true.
+fn allowed_by(s: Term, datum: &Datum) -> Instants {
+    let Interval { left, right } = datum.interval;
+    if holds(s, &datum.predicate) {
+        EVERY
+    } else {
+        Some((left.into(), right.into()))
+    }
+}
+
+fn allowed_by_data(s: Term, state: &State) -> Instants {
+    state.held.iter().fold(EVERY, |instants, datum| common(instants, allowed_by(s, datum)))
+}
+
+/// Those at which s makes every entry true and every datum has its interval or its predicate.
+fn allowed(s: Term, state: &State) -> Instants {
+    let entries = state.entries.iter().all(|entry| holds(s, entry));
+    if entries {
+        allowed_by_data(s, state)
+    } else {
+        None
+    }
+}
+
+/// The datum that a message is to its receiver.
+fn received(own: u32, least: u64, greatest: u64, message: &[u8]) -> Datum {
+    let words = message::words_of(message).expect("whole words");
+    let message = message::read(&words).expect("a sound message");
+    let Interval { left, right } = message.interval;
+    let p = Predicate::sum(&[1 << message.sender], &struck(own, &message.terms));
+    Datum { interval: Interval { left: left + least, right: right + greatest }, predicate: p }
+}
+
+/// Runs a call, and checks that a refusal changes nothing and that the bytes stay in form.
+fn checked(call: &Call, bytes: &mut [u8], seed: u64) -> u32 {
+    let before = bytes.to_vec();
+    let number = call.second(bytes, &mut [0; 56], &mut Branches::default());
+    assert!(number == 0 || bytes == before, "seed {seed}: {call:?}");
+    let front = bytes.first_chunk().expect("a state");
+    assert!(state::in_form(front), "seed {seed}: {call:?}");
+    assert_eq!(bytes[STATE_BYTES..], before[STATE_BYTES..], "seed {seed}: {call:?}");
+    number
+}
+
+/// Every set of five names without the own one.
+fn sets(own: u32) -> impl Iterator<Item = Term> {
+    (0..1 << 5).filter(move |s| s >> own & 1 == 0)
+}
+
+/// What a taken receipt leaves: for each set just the instants that it had and the message allows.
+fn receipt_says_what_its_message_does(seed: u64, call: &Call, before: &State, after: &State) {
+    if let Call::Receive { least, greatest, message } = call {
+        let new = received(before.own, *least, *greatest, message);
+        for s in sets(before.own) {
+            let wanted = common(allowed(s, before), allowed_by(s, &new));
+            assert_eq!(allowed(s, after), wanted, "seed {seed}: set {s}, {call:?} in {before:?}");
+        }
+    }
+}
+
+#[test]
+fn receipts_in_runs_say_what_their_messages_do() {
+    let mut taken = 0;
+    for seed in 0..20_000 {
+        let mut random = Random::new(seed);
+        let world = World::small(&mut random);
+        let mut bytes = random.bytes(STATE_BYTES + 5);
+        assert_eq!(world.set_up().second(&mut bytes, &mut [], &mut Branches::default()), 0);
+        for _ in 0..random.below(40) {
+            let before = State::of(&bytes).expect("a state in form");
+            let call = world.call(&mut random, &before);
+            if checked(&call, &mut bytes, seed) == 0 {
+                let after = State::of(&bytes).expect("a state in form");
+                receipt_says_what_its_message_does(seed, &call, &before, &after);
+                taken += u64::from(matches!(call, Call::Receive { .. }));
+                // What disjoint intervals taught is in the entries: the data left agree.
+                let learnt =
+                    |s| allowed(s, &after).is_some() || after.entries.iter().any(|e| !holds(s, e));
+                assert!(sets(after.own).all(learnt), "seed {seed}: {after:?}");
+            }
+        }
+    }
+    assert!(taken > 100_000, "only {taken} receipts");
+}
+
+#[test]
+fn receipts_in_any_state_in_form_say_what_their_messages_do() {
+    let mut taken = 0;
+    for seed in 0..50_000 {
+        let mut random = Random::new(seed);
+        let before = states::in_form(&mut random);
+        let call = World::around(&mut random, &before).call(&mut random, &before);
+        let mut bytes = before.bytes();
+        if checked(&call, &mut bytes, seed) == 0 {
+            let after = State::of(&bytes).expect("a state in form");
+            receipt_says_what_its_message_does(seed, &call, &before, &after);
+            taken += u64::from(matches!(call, Call::Receive { .. }));
+        }
+    }
+    assert!(taken > 10_000, "only {taken} receipts");
+}
