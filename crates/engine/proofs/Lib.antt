@@ -8,3 +8,4 @@ pub mod AgeLaws
 pub mod WidenLaws
 pub mod OutcomeLaws
 pub mod SetUpLaws
+pub mod ReceiptCalls

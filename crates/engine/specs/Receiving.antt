@@ -19,6 +19,10 @@ pub record Delivery : Type 0 where
   pub right : ℕ
   pub terms : List ℕ
 
+abbrev pub delivery : ℕ → ℕ → ℕ → ℕ → ℕ → List ℕ → Delivery
+delivery least greatest sender left right terms =
+    record { least = least; greatest = greatest; sender = sender; left = left; right = right; terms = terms }
+
 -- "The interval grows by the channel's least and greatest delay: left plus least, right plus greatest. The predicate becomes sender + predicate
 -- with every term that names the receiver struck out, in normal form."
 unfoldable pub grown : ℕ → Delivery → Datum

@@ -33,9 +33,9 @@ ageRefusal st reading =
     (refuse (ltb reading (st .head .reading)) 20
     (refuse (passesEnd (aged (slow (st .head) reading) (fast (st .head) reading) (st .store))) 30 0))
 
--- "21 least delay above greatest, or greatest above 60,000,000"
-unfoldable pub delayRefusal : ℕ → ℕ → ℕ
-delayRefusal least greatest = refuse (ltb greatest least || ltb 60_000_000 greatest) 21 0
+-- 21: "least delay above greatest, or greatest above 60,000,000"
+abbrev pub delaysFail : ℕ → ℕ → Bool
+delaysFail least greatest = ltb greatest least || ltb 60_000_000 greatest
 
 -- "32 too many data or entries": "At most 16 data and 32 entries, counted at the end"
 unfoldable pub tooMany : Store → Bool

@@ -1,2 +1,3 @@
 pub mod MessageCalls
 pub mod Demand2
+pub mod CallLaws

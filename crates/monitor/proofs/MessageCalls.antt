@@ -1,8 +1,8 @@
 -- The calls on messages alone, on plain values: bytes that cannot be a message's are read as no words, and what the exits of the calls leave.
 -- No contract cites this file. Assumes nothing.
-use Prim.Native.Nat.{ℕ, _+_, _*_, _/_, _%_, _≤_, _<_}
+use Prim.Native.Nat.{ℕ, _+_, _*_, _/_, _%_, _^_, _≤_, _<_}
 use mathlib.Core.Path.{_≡_, refl, sym, ap, _∙_}
-use mathlib.Core.Bool.{Bool, true, false, cond}
+use mathlib.Core.Bool.{Bool, true, false, _||_, cond}
 use mathlib.Core.List.{List, [], _∷_, _++_}
 use native.Mathlib.Nat.{zero-add}
 use native.Mathlib.Omega.{arith}
@@ -12,11 +12,11 @@ use lib.ListN.{length, take, drop}
 use lib.Seq.{take-at}
 use Rattle.numbers.specs.Numbers.{tab, num, wordsOf, bytesOf, put}
 use Rattle.numbers.proofs.NumberLaws.{length-tab, length-bytesOf, take-put}
-use Rattle.message.specs.Read.{readWords}
+use Rattle.message.specs.Read.{readWords, termWords}
 use Rattle.message.specs.Write.{rewritten, rewrittenAs}
 use Rattle.message.specs.declared.Reading.{Reading}
 use Rattle.message.specs.declared.Reading.the-variants.{Message, Refused}
-use Rattle.message.proofs.ReadLaws.{read-out}
+use Rattle.message.proofs.ReadLaws.{read-out, terms-middle, length-middle}
 use Rattle.message.proofs.MessageLaws.{rewrite-length}
 use Rattle.monitor.specs.Messages.{readBytes, wordsIn, rewrittenBytes}
 
@@ -94,3 +94,31 @@ module _ {s l r n : ℕ} (m : List ℕ) (e : readBytes m ≡ Message s l r n) wh
   unfolding rewrittenBytes
   written-bytes words written h p =
       ap bytesOf (ap (λ (x : List ℕ). take (n + 6) x) p ∙ take-put (n + 6) (rewritten (wordsIn m)) words (rewrite-length (wordsIn m) again) h ∙ rewritten-words-in m)
+
+-- ---- a taken message is all of its bytes' words
+
+pub words-in-taken : {s l r n : ℕ} (m : List ℕ) → readBytes m ≡ Message s l r n → wordsIn m ≡ wordsOf m
+unfolding wordsIn readBytes
+words-in-taken {s} {l} {r} {n} m e = go (eqb (length m % 4) 0) (ltb 56 (length m)) refl refl e
+  where
+    go : (a b : Bool) → eqb (length m % 4) 0 ≡ a → ltb 56 (length m) ≡ b → cond a (readWords (wordsOf m)) (Refused 10) ≡ Message s l r n → cond a (cond b [] (wordsOf m)) [] ≡ wordsOf m
+    go true true p q e = let z : _≡_ {A = ℕ} 0 1 = cc (too-many m p q) in absurd (omega arith)
+    go true false p q e = refl
+    go false b p q e = let z : _≡_ {A = ℕ} 0 1 = cc in absurd (omega arith)
+
+-- what a taken message says
+pub taken-says : {s l r n : ℕ} (m : List ℕ) → readBytes m ≡ Message s l r n →
+    (s ≤ 28) × (l ≤ r) × (r < 2 ^ 58) × (length (termWords (Message s l r n) (wordsIn m)) ≤ 8)
+taken-says m e =
+    let t = read-out (wordsIn m) (read-words-in m ∙ e) in
+    (t .sender-le, t .left-le, t .right-lt, omega (arith, ap length (terms-middle t), length-middle t, t .count-le))
+
+-- ---- delays that pass the test for 21
+
+pub delays-fit : (least greatest : ℕ) → (ltb greatest least || ltb 60_000_000 greatest) ≡ false → (least ≤ greatest) × (greatest ≤ 60_000_000)
+delays-fit least greatest e = go (ltb greatest least) (ltb 60_000_000 greatest) refl refl e
+  where
+    go : (a b : Bool) → ltb greatest least ≡ a → ltb 60_000_000 greatest ≡ b → a || b ≡ false → (least ≤ greatest) × (greatest ≤ 60_000_000)
+    go true b p q e = let z : _≡_ {A = ℕ} 0 1 = cc in absurd (omega arith)
+    go false true p q e = let z : _≡_ {A = ℕ} 0 1 = cc in absurd (omega arith)
+    go false false p q e = (ltb-false greatest least p, ltb-false 60_000_000 greatest q)

@@ -8,6 +8,9 @@ ghost use Rattle.numbers.specs.Numbers.{bytes, put};
 ghost use Rattle.monitor.specs.Messages.{wordsIn, readNumber, readOutput, rewriteNumber, rewriteOutput};
 use message::Reading;
 
+pub mod calls;
+pub mod receive;
+
 // Puts the words of a message's bytes at the front of `words` and answers how many; none where the bytes cannot be a message's.
 fn take_words(message: &[u8], words: &mut [u32]) -> usize
     requires { ⌜ 14 ≤ length (now words) ⌝ }

@@ -1,0 +1,181 @@
+-- Writing a held datum as a message, on plain values: what is read from the state's bytes is the datum's words, and the message reads back.
+-- The idea: a state in form has an own name of at most 28, and each held datum has ends in order below 2^58 and 1 to 8 terms of 29 bits in normal
+-- form. This is all that `read-write` and `terms-write` of the crate `message` ask, so a message written from a held datum is accepted and has the
+-- own name, that interval and those terms. No contract cites this file. Assumes nothing.
+use Prim.Native.Nat.{ℕ, zero, suc, _+_, _*_, _%_, _^_, _≤_, _<_}
+use mathlib.Core.Path.{_≡_, refl, sym, ap, _∙_}
+use mathlib.Core.Bool.{Bool, true, false, not}
+use mathlib.Core.List.{List, [], _∷_, _++_}
+use native.Mathlib.Omega.{arith}
+use borrow.Author.Tests.{le-ltb, eq-eqb, not-false, leb-false, ltb-false}
+use lib.Dec.{T, leb, ltb, leb→le, ltb→lt}
+use lib.ListN.{length, take}
+use lib.Seq.{take-append-le}
+use Rattle.numbers.specs.Numbers.{num, bytes, tab, Words, wordsOf, bytesOf, put}
+use Rattle.numbers.proofs.NumberLaws.{length-tab, length-bytesOf, words-bytes, take-put}
+use Rattle.predicates.specs.Lists.{all}
+use Rattle.predicates.specs.Predicates.{isNormal}
+use Rattle.predicates.proofs.ListLaws.{both-l, both-r, true-T}
+use Rattle.message.specs.Words.{payload, masks}
+use Rattle.message.specs.Read.{termWords}
+use Rattle.message.specs.Write.{messageWords}
+use Rattle.message.specs.declared.Reading.the-variants.{Message}
+use Rattle.message.proofs.MessageLaws.{Masks, length-message, words-message, read-write, terms-write}
+use Rattle.state.specs.Layout.{stateSize, datumPlace, masksAt, rowAt, datumAt, heldCount}
+use Rattle.state.specs.Form.{termFits, termsFit, headFits, inForm}
+use Rattle.state.proofs.StateLaws.{datum-at-ok, length-datum-at}
+use Rattle.engine.specs.Refusals.{refuse}
+use Rattle.engine.proofs.ReceiveLaws.{ok-datum-out, ok-terms-out}
+use Rattle.monitor.specs.Messages.{readBytes, readNumber, readingBytes, answered}
+use Rattle.monitor.specs.Calls.{writtenWords, writtenBytes, writeNumber, writeOutput}
+
+-- ---- terms of a state
+
+-- each has 29 bits
+fit-masks : (own : ℕ) (ts : List ℕ) → T (all (termFits own) ts) → Masks ts
+unfolding termFits
+fit-masks own [] t i = omega arith
+fit-masks own (x ∷ ts) t zero = ltb→lt x (2 ^ 29) (search (both-l, both-r) depth 9)
+fit-masks own (x ∷ ts) t (suc i) = fit-masks own ts (both-r (termFits own x) (all (termFits own) ts) t) i
+
+-- so the terms that they carry as words are themselves
+masks-same : (ts : List ℕ) → Masks ts → masks ts ≡ ts
+unfolding masks
+masks-same [] m = refl
+masks-same (t ∷ ts) m = let e : payload t ≡ t = omega (arith, m 0) in rw (e, masks-same ts (λ i. m (suc i)))
+
+-- ---- the held datum at a position, in bytes in form
+
+-- the facts that the message of it asks
+pub record Held (s : List ℕ) (position : ℕ) : Type 0 where
+  pub own-le : num 0 4 s ≤ 28
+  pub ends : datumAt s position .left ≤ datumAt s position .right
+  pub below : datumAt s position .right < 2 ^ 58
+  pub few : length (datumAt s position .terms) ≤ 8
+  pub norm : T (isNormal (datumAt s position .terms))
+  pub small : Masks (datumAt s position .terms)
+  pub count : length (datumAt s position .terms) ≡ num (datumPlace position + 16) 4 s
+
+module _ (s : List ℕ) (t : T (inForm s)) (position : ℕ) (h : position < heldCount s) where
+  own-fits : num 0 4 s ≤ 28
+  unfolding inForm headFits
+  own-fits = leb→le (num 0 4 s) 28 (search (both-l, both-r) depth 9)
+
+  terms-small : T (termsFit (num 0 4 s) 8 (datumAt s position .terms)) → Masks (datumAt s position .terms)
+  unfolding termsFit
+  terms-small f = fit-masks (num 0 4 s) (datumAt s position .terms) (search (both-l, both-r) depth 9)
+
+  pub held-out : Held s position
+  held-out =
+      let d = ok-datum-out (num 0 4 s) (datumAt s position) (datum-at-ok s t position h) in
+      let p = ok-terms-out (num 0 4 s) 8 (datumAt s position .terms) (d .fit) in
+      record {
+        own-le = own-fits;
+        ends = d .ends;
+        below = d .below;
+        few = p .few;
+        norm = p .norm;
+        small = terms-small (d .fit);
+        count = length-datum-at s t position h;
+      }
+
+-- ---- what writing reads, and what it leaves
+
+module _ (s : List ℕ) (position : ℕ) where
+  pub length-written-bytes : length (writtenBytes s position) ≡ length (writtenWords s position) * 4
+  unfolding writtenBytes
+  length-written-bytes = length-bytesOf (writtenWords s position)
+
+  -- the bytes of the words at the front of an array
+  pub written-bytes : (n : ℕ) (words old : List ℕ) → n ≡ length (writtenWords s position) → n ≤ length old → words ≡ put 0 (writtenWords s position) old
+      → bytesOf (take n words) ≡ writtenBytes s position
+  unfolding writtenBytes
+  written-bytes n words old e h p =
+      ap bytesOf (ap (λ (x : List ℕ). take n x) p ∙ take-put n (writtenWords s position) old (sym e) h)
+
+module _ (s : List ℕ) (position : ℕ) (f : Held s position) where
+  pub length-written : length (writtenWords s position) ≡ num (datumPlace position + 16) 4 s + 6
+  unfolding writtenWords
+  length-written = omega (arith, length-message (num 0 4 s) (datumAt s position .left) (datumAt s position .right) (datumAt s position .terms), f .count)
+
+  -- the ends that were read
+  pub ends-lt : (left right : ℕ) → left ≡ num (datumPlace position) 8 s → right ≡ num (datumPlace position + 8) 8 s → (left < 2 ^ 58) × (right < 2 ^ 58)
+  unfolding datumAt
+  ends-lt left right a b = (omega (arith, f .ends, f .below), omega (arith, f .below))
+
+  -- the masks in use, of the eight that were read
+  pub terms-taken : (n : ℕ) (words rest : List ℕ) → n ≡ num (datumPlace position + 16) 4 s
+      → words ≡ tab 8 (λ i. num (datumPlace position + 16 + 4 + i * 4) 4 s) ++ rest → take n words ≡ datumAt s position .terms
+  unfolding datumAt rowAt masksAt
+  terms-taken n words rest e p =
+      let g : ℕ → ℕ = λ i. num (datumPlace position + 16 + 4 + i * 4) 4 s in
+      let fits : n ≤ length (tab 8 g) = omega (arith, length-tab 8 g, f .few, f .count) in
+      rw (p, take-append-le n (tab 8 g) rest fits, e)
+
+  -- the words that are written
+  pub words-written : (own left right : ℕ) (terms : List ℕ) → own ≡ num 0 4 s → left ≡ num (datumPlace position) 8 s
+      → right ≡ num (datumPlace position + 8) 8 s → terms ≡ datumAt s position .terms
+      → messageWords own left right (masks terms) ≡ writtenWords s position
+  unfolding writtenWords datumAt
+  words-written own left right terms a b c d = rw (a, b, c, d, masks-same (datumAt s position .terms) (f .small))
+
+  words-small : Words (writtenWords s position)
+  unfolding writtenWords
+  words-small = words-message _ _ _ _ (f .own-le) (f .ends) (f .below) (f .few) (f .small)
+
+  pub words-back : wordsOf (writtenBytes s position) ≡ writtenWords s position
+  unfolding writtenBytes
+  words-back = words-bytes (writtenWords s position) words-small
+
+-- ---- a message written from a held datum reads back to the own name, that interval and those terms
+
+module _ (s : List ℕ) (t : T (inForm s)) (position : ℕ) (h : position < heldCount s) where
+  pub write-reads : readBytes (writtenBytes s position)
+      ≡ Message (num 0 4 s) (datumAt s position .left) (datumAt s position .right) (length (datumAt s position .terms))
+  unfolding readBytes writtenWords
+  write-reads =
+      let f = held-out s t position h in
+      rw (eq-eqb (length (writtenBytes s position) % 4) 0 (omega (arith, length-written-bytes s position)), words-back s position f)
+      (read-write _ _ _ _ (f .own-le) (f .ends) (f .below) (f .few) (f .norm) (f .small))
+
+  pub write-terms : masks (termWords (readBytes (writtenBytes s position)) (wordsOf (writtenBytes s position))) ≡ datumAt s position .terms
+  unfolding writtenWords
+  write-terms =
+      let f = held-out s t position h in
+      rw (write-reads, words-back s position f) (terms-write _ _ _ _ (f .own-le) (f .ends) (f .below) (f .few) (f .norm) (f .small))
+
+  -- so reading it is taken, in an output of at least 32 bytes
+  pub write-accepted : (out : List ℕ) → 32 ≤ length out → readNumber (writtenBytes s position) out ≡ 0
+  unfolding readNumber answered readingBytes bytes
+  write-accepted out k = let long = le-ltb (length out) 32 k in rw (write-reads, long)
+
+-- ---- the call as a whole
+
+-- what is taken was refused by no test
+taken-tests : (a b c d : Bool) → refuse a 24 (refuse b 25 (refuse c 23 (refuse d 24 0))) ≡ 0 → (b ≡ false) × (c ≡ false) × (d ≡ false)
+taken-tests true b c d e = absurd (omega arith)
+taken-tests false true c d e = absurd (omega arith)
+taken-tests false false true d e = absurd (omega arith)
+taken-tests false false false true e = absurd (omega arith)
+taken-tests false false false false e = (refl, refl, refl)
+
+module _ (s : List ℕ) (position : ℕ) (out : List ℕ) (e : writeNumber s position out ≡ 0) where
+  tests : (not (inForm s) ≡ false) × (leb (heldCount s) position ≡ false) × (ltb (length out) (length (writtenBytes s position)) ≡ false)
+  unfolding writeNumber
+  tests = taken-tests (ltb (length s) stateSize) (not (inForm s)) (leb (heldCount s) position) (ltb (length out) (length (writtenBytes s position))) e
+
+  -- a taken writing has a state in form and a held datum at the position
+  pub write-form : T (inForm s)
+  write-form = true-T (inForm s) (not-false (inForm s) (tests .0))
+
+  pub write-held : position < heldCount s
+  write-held = leb-false (heldCount s) position (tests .1)
+
+  -- and leaves the message at the front of the output
+  pub write-front : take (length (writtenBytes s position)) (writeOutput s position out) ≡ writtenBytes s position
+  unfolding writeOutput
+  write-front = rw e (take-put (length (writtenBytes s position)) (writtenBytes s position) out refl (ltb-false _ _ (tests .2)))
+
+  pub write-front-reads : readBytes (take (length (writtenBytes s position)) (writeOutput s position out))
+      ≡ Message (num 0 4 s) (datumAt s position .left) (datumAt s position .right) (length (datumAt s position .terms))
+  write-front-reads = ap readBytes write-front ∙ write-reads s write-form position write-held

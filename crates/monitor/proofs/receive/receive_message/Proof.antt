@@ -1,0 +1,72 @@
+-- `monitor::receive::receive_message` meets its contract: refused by what was read, or received with what the message says (`taken-says`).
+use mathlib.Core.Path.{_≡_, refl, sym, ap, _∙_}
+use lib.Seq.{length-take-le}
+use Rattle.message.specs.Words.{masks}
+use Rattle.message.specs.Read.{numberOf, termWords}
+use Rattle.monitor.specs.Messages.{readBytes}
+use Rattle.monitor.specs.Receive.{receiptNumber, receiptBytes}
+use Rattle.monitor.proofs.MessageCalls.{got-read, words-taken, words-in-taken, taken-says}
+use borrow.Author.Needs.{needs}
+use Rattle.monitor.proofs.receive.receive_message.Statement.{statement}
+use Rattle.monitor.proofs.receive.receive_message.Tie as tie
+
+slice-aggregate-read : tie.Need-slice-aggregate-read
+slice-aggregate-read c = sym (length-take-le _ _ (search needs))
+
+-- what was read is the reading of the message's bytes
+same : (c : tie.After-read) → c .read .result ≡ readBytes (c .before .before .before .before .before .before .before .args .message .now)
+same c =
+    let at-take = c .before .before .before .take-words in
+    got-read _ _ _ _ (at-take .ensures .1) (at-take .ensures .0 .0) _ (c .read .ensures)
+
+returns : tie.Need-returns
+unfolding receiptNumber receiptBytes numberOf
+returns c =
+    let told = c .before .enum-told .given .1 in
+    let e = sym (same (c .before .before .before)) ∙ told in
+    (rw (c .refusal .ensures, told, e), rw e)
+
+slice-aggregate-term-words : tie.Need-slice-aggregate-term-words
+slice-aggregate-term-words c = sym (length-take-le _ _ (search needs))
+
+term-words-requires : tie.Need-term-words-requires
+term-words-requires c κs = sym (c .before .before .got .given .1) ∙ c .before .before .before .before .read .ensures
+
+receive-requires : tie.Need-receive-requires
+receive-requires c κs =
+    let a = c .before .before .before .before .before .before .before .before .before .before .before .before .before in
+    let at-take = c .before .before .before .before .before .before .before .before .before .take-words in
+    let says = taken-says (a .args .message .now) (sym (same (c .before .before .before .before .before .before)) ∙ c .before .before .before .before .got .given .1) in
+    let words = words-taken _ _ _ _ (at-take .ensures .1) (at-take .ensures .0 .0) in
+    (a .pre .0, (a .pre .1 .0, a .pre .1 .1, says .0, says .1, says .2, rw (c .before .term-words .ensures, words) (says .3)))
+
+returns-2 : tie.Need-returns-2
+unfolding receiptNumber receiptBytes
+returns-2 c =
+    let a = c .before .before .before .before .before .before .before .before .before .before .before .before .before .before .before .before in
+    let at-take = c .before .before .before .before .before .before .before .before .before .before .before .before .take-words in
+    let e = sym (same (c .before .before .before .before .before .before .before .before .before)) ∙ c .before .before .before .before .before .before .before .got .given .1 in
+    let words = words-taken _ _ _ _ (at-take .ensures .1) (at-take .ensures .0 .0) ∙ words-in-taken (a .args .message .now) e in
+    let terms = rw words at (c .before .before .before .before .term-words .ensures) in
+    let number = rw terms at (c .before .before .receive .ensures .0) in
+    (rw e number, rw e (rw number at (rw terms at (c .before .before .receive .ensures .1))))
+
+pub receive-message-spec : {M : Type 1} → statement M
+receive-message-spec =
+    tie.close
+    (tie.spec
+    (λ c. search needs)
+    (λ c κs. search needs)
+    (λ c. search needs)
+    slice-aggregate-read
+    (λ c κs. search needs)
+    (λ c. search needs)
+    (λ c. search needs)
+    (λ c κs. search needs)
+    returns
+    (λ c. search needs)
+    slice-aggregate-term-words
+    term-words-requires
+    receive-requires
+    (λ c. search needs)
+    returns-2)

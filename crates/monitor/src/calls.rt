@@ -1,0 +1,80 @@
+// The calls that set a monitor up, age it and write a held datum as a message: each tests the length of the state first, and the last two its form.
+ghost use mathlib.Core.Path.{_≡_};
+ghost use Prim.Native.Nat.{_≤_, _<_};
+ghost use lib.ListN.{length};
+ghost use lib.Dec.{T};
+ghost use Rattle.numbers.specs.Numbers.{put};
+ghost use Rattle.state.specs.Layout.{heldCount};
+ghost use Rattle.state.specs.Form.{inForm};
+ghost use Rattle.monitor.specs.Calls.{setUpNumber, setUpState, ageNumber, ageState, writtenWords, writeNumber, writeOutput};
+
+// Sets a monitor up: own name, drift in parts per million, and a reading of the own clock. Answers 0, or 24, 1, 2 or 3.
+#[no_mangle]
+pub extern "C" fn monitor_set_up(state: &mut [u8], own: u32, drift: u32, reading: u64) -> u32
+    ensures { λ r. ⌜ r ≡ setUpNumber (now (state .entry)) own drift reading ⌝ }
+    ensures { λ _. ⌜ now (state .exit) ≡ setUpState (now (state .entry)) own drift reading ⌝ }
+{
+    if state.len() < 3032 {
+        return 24;
+    }
+    engine::set_up::set_up(state, own, drift, reading)
+}
+
+// Ages the state to a reading of the own clock. Answers 0, or 24, 25, 3, 20 or 30.
+#[no_mangle]
+pub extern "C" fn monitor_age(state: &mut [u8], reading: u64) -> u32
+    ensures { λ r. ⌜ r ≡ ageNumber (now (state .entry)) reading ⌝ }
+    ensures { λ _. ⌜ now (state .exit) ≡ ageState (now (state .entry)) reading ⌝ }
+{
+    if state.len() < 3032 {
+        return 24;
+    }
+    if !state::form::in_form(state) {
+        return 25;
+    }
+    engine::ageing::age(state, reading)
+}
+
+// Writes the words of the held datum at a position to the front of `words` and answers how many.
+fn datum_words(state: &[u8], position: usize, words: &mut [u32]) -> usize
+    requires { ⌜ (3032 ≤ length (now state)) × T (inForm (now state)) ⌝ }
+    requires { ⌜ (position < heldCount (now state)) × (position < 16) × (14 ≤ length (now words)) ⌝ }
+    ensures { λ r. ⌜ (r ≡ length (writtenWords (now (state .entry)) position)) × (r ≤ 14) ⌝ }
+    ensures { λ _. ⌜ now (words .exit) ≡ put 0 (writtenWords (now (state .entry)) position) (now (words .entry)) ⌝ }
+{
+    let at = 24 + position * 52;
+    let own = numbers::get32(state, 0);
+    let left = numbers::get64(state, at);
+    let right = numbers::get64(state, at + 8);
+    let row = at + 16;
+    let count = numbers::get32(state, row) as usize;
+    let mut masks = [0u32; 8];
+    numbers::get_words(state, row + 4, &mut masks, 8);
+    message::write::write(words, own, left, right, &masks[..count]);
+    count + 6
+}
+
+// Writes the held datum at a position, 0 being the oldest, as a message from the own name. Answers 0, or 24, 25, 23 or 24 for the output.
+#[no_mangle]
+pub extern "C" fn monitor_write(state: &[u8], position: u64, message: &mut [u8]) -> u32
+    ensures { λ r. ⌜ r ≡ writeNumber (now (state .entry)) position (now (message .entry)) ⌝ }
+    ensures { λ _. ⌜ now (message .exit) ≡ writeOutput (now (state .entry)) position (now (message .entry)) ⌝ }
+{
+    if state.len() < 3032 {
+        return 24;
+    }
+    if !state::form::in_form(state) {
+        return 25;
+    }
+    let held = numbers::get32(state, 16);
+    if held as u64 <= position {
+        return 23;
+    }
+    let mut words = [0u32; 14];
+    let n = datum_words(state, position as usize, &mut words);
+    if message.len() < n * 4 {
+        return 24;
+    }
+    numbers::put_words(message, 0, &words, n);
+    0
+}
