@@ -1,10 +1,11 @@
 /** The pool monitor's time engine, for C and C++.
  *
  *  Every call takes numbers and byte slices only and returns the number of its refusal, MONITOR_TAKEN (0) if there is none. A refused call
- *  leaves every lent byte as it was; a taken one changes just the bytes that its comment names. Any bytes and numbers may be handed in, and
- *  each call returns. Slices lent to one call must not overlap, and a slice of length 0 may be any non-null pointer.
+ *  leaves every lent byte as it was; a taken one changes just the bytes that its comment names. Any bytes and numbers may be handed in, a
+ *  damaged state too, and each call returns. Slices lent to one call must not overlap, and a slice of length 0 may be any non-null pointer.
  *
- *  Numbers in bytes are little-endian. A radio message is handed in as its 32-bit words, four bytes each; docs/layouts.md has all layouts.
+ *  Instants and readings are whole microseconds. Names of monitors are 0 to 28. Numbers in bytes are little-endian. A radio message is handed
+ *  in as its 32-bit words, four bytes each; docs/layouts.md has all layouts.
  *
  *  Link with libmonitor.a, which `rt staticlib monitor` writes to target/staticlib. */
 #ifndef MONITOR_H
@@ -17,27 +18,83 @@
 extern "C" {
 #endif
 
+/** A monitor's state. A lent state may be longer; the bytes beyond stay as they are. */
+#define MONITOR_STATE_BYTES 3032
+
 /** What message_read writes: sender, left, right, term count, 8 bytes each. */
 #define MONITOR_READING_BYTES 32
 
-/** Bytes of the longest message: 14 words. An output of this size is never too short for message_rewrite. */
+/** Bytes of the longest message: 14 words. An output of this size is never too short for message_rewrite or monitor_write. */
 #define MONITOR_MESSAGE_BYTES 56
+
+/** The greatest own name, drift in parts per million and delay in microseconds. */
+#define MONITOR_GREATEST_NAME 28
+#define MONITOR_GREATEST_DRIFT 1000
+#define MONITOR_GREATEST_DELAY 60000000
 
 /** The numbers that a call can return. */
 enum monitor_refusal {
     MONITOR_TAKEN = 0,
+    /* caused by the installer */
+    MONITOR_OWN_NAME = 1,       /**< own name above 28 */
+    MONITOR_DRIFT = 2,          /**< drift above 1,000 */
+    MONITOR_READING = 3,        /**< reading 2^58 or more */
     /* caused by the sender of a message */
-    MONITOR_WORD_COUNT = 10,   /**< word count outside 5 to 14, or a byte length that is not a multiple of 4 */
-    MONITOR_FORM = 11,         /**< second word neither kind 2 nor 4 */
-    MONITOR_HEAD = 12,         /**< head not of kind 1, sender above 28, term count above 8 or bits 10 to 28 not zero */
-    MONITOR_LENGTH = 13,       /**< word count not that of head and form */
-    MONITOR_KIND = 14,         /**< a later word of the wrong kind */
-    MONITOR_CHECK = 15,        /**< check word */
-    MONITOR_INTERVAL = 16,     /**< left above right, or an end below 0 or above 2^58 - 1 */
-    MONITOR_TERMS = 17,        /**< terms not in normal form */
+    MONITOR_WORD_COUNT = 10,    /**< word count outside 5 to 14, or a byte length that is not a multiple of 4 */
+    MONITOR_FORM = 11,          /**< second word neither kind 2 nor 4 */
+    MONITOR_HEAD = 12,          /**< head not of kind 1, sender above 28, term count above 8 or bits 10 to 28 not zero */
+    MONITOR_LENGTH = 13,        /**< word count not that of head and form */
+    MONITOR_KIND = 14,          /**< a later word of the wrong kind */
+    MONITOR_CHECK = 15,         /**< check word */
+    MONITOR_INTERVAL = 16,      /**< left above right, or an end below 0 or above 2^58 - 1 */
+    MONITOR_TERMS = 17,         /**< terms not in normal form */
+    MONITOR_SENDER = 18,        /**< sender is the own name */
     /* caused by the host program */
-    MONITOR_BUFFER = 24        /**< a lent buffer is too short */
+    MONITOR_BACKWARDS = 20,     /**< reading below the last */
+    MONITOR_DELAY = 21,         /**< least delay above greatest, or greatest above 60,000,000 */
+    MONITOR_POSITION = 23,      /**< no held datum there */
+    MONITOR_BUFFER = 24,        /**< a lent buffer is too short */
+    MONITOR_STATE_FORM = 25,    /**< state out of form */
+    /* caused by a filling site */
+    MONITOR_END = 30,           /**< an end would pass 2^58 - 1 */
+    MONITOR_TERM_COUNT = 31,    /**< more than 8 terms in the new predicate's normal form, stored or not */
+    MONITOR_TOO_MANY = 32       /**< too many data or entries */
 };
+
+/** Sets a monitor up: it holds nothing.
+ *  @param state      its first MONITOR_STATE_BYTES bytes become the fresh state, whatever they were
+ *  @param state_len  how many bytes are lent
+ *  @param own        the own name, 0 to 28
+ *  @param drift      the own clock's drift in parts per million, 0 to 1,000
+ *  @param reading    the own clock's reading, below 2^58
+ *  @return 0 when taken; else, tested in this order, 24, 1, 2 or 3, and no byte has changed */
+uint32_t monitor_set_up(uint8_t *state, size_t state_len, uint32_t own, uint32_t drift, uint64_t reading);
+
+/** Ages the state to a reading of the own clock: every interval widens by what the drift can have made of the time passed.
+ *  @param state      the monitor's bytes; those beyond MONITOR_STATE_BYTES stay as they are
+ *  @param state_len  how many bytes are lent
+ *  @param reading    the own clock, not below the last reading; an equal one changes nothing
+ *  @return 0 when taken; else, tested in this order, 24, 25, 3, 20 or 30, and no byte has changed */
+uint32_t monitor_age(uint8_t *state, size_t state_len, uint64_t reading);
+
+/** Receives a message at the reading the state was last aged to. A message whose predicate is true is taken and changes nothing.
+ *  @param state        the monitor's bytes; those beyond MONITOR_STATE_BYTES stay as they are
+ *  @param state_len    how many bytes are lent
+ *  @param least        the channel's least delay
+ *  @param greatest     the channel's greatest delay, at most 60,000,000
+ *  @param message      the words, four bytes each; they are not changed
+ *  @param message_len  how many bytes they are
+ *  @return 0 when taken; else, tested in this order, 24, 25, 21, 10, 12, 11, 13, 14, 15, 16, 17, 18, 30, 31 or 32, and no byte has changed */
+uint32_t monitor_receive(uint8_t *state, size_t state_len, uint64_t least, uint64_t greatest, const uint8_t *message, size_t message_len);
+
+/** Writes a held datum as a message in ends form, with the own name as sender.
+ *  @param state        the monitor's bytes; they are not changed
+ *  @param state_len    how many bytes are lent
+ *  @param position     which datum; 0 is the oldest
+ *  @param message      the message goes to its first 4 * (6 + term count) bytes; those beyond stay as they are
+ *  @param message_len  how many bytes are lent; MONITOR_MESSAGE_BYTES are always enough
+ *  @return 0 when taken; else, tested in this order, 24 (state), 25, 23 or 24 (message), and no byte has changed */
+uint32_t monitor_write(const uint8_t *state, size_t state_len, uint64_t position, uint8_t *message, size_t message_len);
 
 /** Reads a message.
  *  @param message      the words, four bytes each

@@ -1,0 +1,72 @@
+/* Buffers of exact size between guard bytes, and a count of checks: what the C tests share. */
+#ifndef LENT_H
+#define LENT_H
+
+#include <stdint.h>
+#include <stdio.h>
+
+#define GUARD 16
+#define MOST 3072
+
+static int passed, failed;
+
+static void check(int ok, const char *what)
+{
+    if (ok) {
+        passed++;
+    } else {
+        failed++;
+        printf("FAILED: %s\n", what);
+    }
+}
+
+static int report(void)
+{
+    printf("%d passed, %d failed\n", passed, failed);
+    return failed != 0;
+}
+
+/* A lent buffer of n bytes between guards; all bytes start as a pattern. */
+struct lent {
+    uint8_t all[GUARD + MOST + GUARD];
+    size_t n;
+};
+
+static uint8_t pattern(size_t i)
+{
+    return (uint8_t)(0x5a ^ (i * 7));
+}
+
+static uint8_t *lend(struct lent *b, size_t n)
+{
+    for (size_t i = 0; i < sizeof b->all; i++)
+        b->all[i] = pattern(i);
+    b->n = n;
+    return b->all + GUARD;
+}
+
+/* Whether every byte but the first `written` of the buffer is as it was lent. */
+static int untouched(const struct lent *b, size_t written)
+{
+    for (size_t i = 0; i < sizeof b->all; i++)
+        if ((i < GUARD || i >= GUARD + written) && b->all[i] != pattern(i))
+            return 0;
+    return 1;
+}
+
+static size_t bytes_of(uint8_t *out, const uint32_t *words, size_t n)
+{
+    for (size_t i = 0; i < n * 4; i++)
+        out[i] = (uint8_t)(words[i / 4] >> (8 * (i % 4)));
+    return n * 4;
+}
+
+static uint64_t number(const uint8_t *bytes)
+{
+    uint64_t x = 0;
+    for (int i = 7; i >= 0; i--)
+        x = x << 8 | bytes[i];
+    return x;
+}
+
+#endif
