@@ -1,3 +1,4 @@
 pub mod MessageCalls
 pub mod Demand2
 pub mod CallLaws
+pub mod FormKept
