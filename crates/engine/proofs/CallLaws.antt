@@ -16,7 +16,7 @@ use Rattle.predicates.proofs.ListLaws.{both, both-l, both-r}
 use Rattle.state.specs.Model.{Datum, Head, State, endLimit, readingLimit}
 use Rattle.state.specs.Form.{headOk, datumOk, storeOk, countsOk, stateOk}
 use Rattle.engine.specs.Ageing.{leastAdvance, greatestAdvance, slow, fast, widened, aged}
-use Rattle.engine.specs.Receiving.{Delivery, grown, received, settled}
+use Rattle.engine.specs.Receiving.{Delivery, grown, received}
 use Rattle.engine.specs.Calls.{Setup, begun, setUp, age, receive, moved, made, done}
 use Rattle.engine.specs.Refusals.{refuse, setUpRefusal, passesEnd, ageRefusal, tooMany, receiptRefusal}
 use Rattle.engine.proofs.ReceiveLaws.{neither, ok-datum-out, ok-datum-in, formed-fit, received-ok}

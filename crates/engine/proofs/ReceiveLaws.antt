@@ -9,7 +9,7 @@ use mathlib.Core.Bool.{Bool, true, false, _&&_, _||_, not, cond}
 use mathlib.Core.List.{List, [], _∷_, _++_}
 use native.Mathlib.Nat.{le-refl}
 use native.Mathlib.Omega.{arith}
-use lib.Dec.{T, T-not, not-T, eqb, eqb→eq, leb, leb→le, le→leb, ltb, ltb→lt, lt→ltb, nltb→le}
+use lib.Dec.{T, T-not, not-T, eqb, eqb→eq, leb→le, le→leb, ltb, ltb→lt, lt→ltb, nltb→le}
 use lib.ListN.{length, length-append}
 use lib.Pow.{pow-lt}
 use Rattle.names.specs.Sets.{has}
@@ -54,11 +54,6 @@ formed-some own sender p = normal-some (2 ^ sender ∷ struck own p) (omega arit
 pub formed-normal : (own sender : ℕ) (p : List ℕ) → T (isNormal (formed own sender p))
 unfolding formed
 formed-normal own sender p = normal-normal (2 ^ sender ∷ struck own p)
-
-pub length-formed : (own sender : ℕ) (p : List ℕ) → length (formed own sender p) ≤ length p + 1
-unfolding formed struck
-length-formed own sender p =
-    omega (arith, length-normal (2 ^ sender ∷ struck own p), length-keep (λ t. not (has own t)) p)
 
 -- a sum of a predicate with itself
 sum-twice : (p : List ℕ) → T (implies (normal (p ++ p)) p)

@@ -1,6 +1,6 @@
 -- The four steps on data in columns: what each loop tests, gives up and leaves, as facts on the list of data that the columns hold.
 -- No contract cites this file. Assumes nothing.
-use Prim.Native.Nat.{ℕ, zero, suc, _+_, _*_, _-_, _≤_, _<_, min, max}
+use Prim.Native.Nat.{ℕ, zero, suc, _+_, _*_, _-_, _≤_, _<_}
 use mathlib.Core.Path.{_≡_, refl, sym, ap, ap₂, subst, _∙_}
 use mathlib.Core.Bool.{Bool, true, false, _&&_, _||_, not, cond}
 use mathlib.Core.List.{List, [], _∷_, _++_, append-assoc, append-nil}
@@ -9,16 +9,16 @@ use native.Mathlib.Numerals.{add-one}
 use native.Mathlib.Omega.{arith}
 use native.Mathlib.Decide.{ℕ-discrete, decLt}
 use borrow.Author.Tests.{eq-eqb, ne-eqb, eqb-true}
-use lib.Dec.{T, eqb, leb, ltb}
-use lib.ListN.{length, getD, take, drop, set, length-append, length-set, drop-of-length-le}
-use lib.Seq.{length-take-le, getD-set-same, getD-set-other, set-out}
+use lib.Dec.{eqb}
+use lib.ListN.{length, getD, drop, set, length-append, length-set, drop-of-length-le}
+use lib.Seq.{getD-set-same, getD-set-other, set-out}
 use Rattle.numbers.specs.Numbers.{tab}
-use Rattle.predicates.specs.Lists.{any, keep, padded}
-use Rattle.predicates.specs.Predicates.{implies, normal}
+use Rattle.predicates.specs.Lists.{any, keep}
+use Rattle.predicates.specs.Predicates.{normal}
 use Rattle.predicates.proofs.LoopLaws.{drop-next}
 use Rattle.state.specs.Model.{Datum}
 use Rattle.engine.specs.Receiving.{disjoint, explained, learn, learnt, unexplained, same, meet, met, without, betters, stored, heldAfter}
-use Rattle.engine.specs.Tables.{Table, Columns, First, liveBelow, row, some, entriesIn, datum, datumIn, dataIn, givenUp, newly}
+use Rattle.engine.specs.Tables.{Table, First, liveBelow, row, some, datum, datumIn, dataIn, givenUp, newly}
 use Rattle.engine.proofs.TableLaws.{tab-suc, tab-cong, keep-append, given-up-count, anyBelow, any-below-none, any-kept}
 
 -- ---- how many rows have terms

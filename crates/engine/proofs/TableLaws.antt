@@ -3,16 +3,16 @@
 use Prim.Native.Nat.{ℕ, zero, suc, _+_, _*_, _-_, _≤_, _<_}
 use mathlib.Core.Path.{_≡_, refl, sym, ap, ap₂, subst, _∙_}
 use mathlib.Core.Bool.{Bool, true, false, _&&_, _||_, not, cond, or-assoc, or-false, or-true}
-use mathlib.Core.List.{List, [], _∷_, _++_, append-assoc, append-nil}
+use mathlib.Core.List.{List, [], _∷_, _++_, append-assoc}
 use native.Mathlib.Nat.{mul-le-mul-right, suc-mul}
 use native.Mathlib.Numerals.{add-one}
 use native.Mathlib.Omega.{arith}
 use native.Mathlib.Decide.{ℕ-discrete, decLt}
-use lib.ListN.{length, getD, take, drop, set, length-append, length-take, length-drop, length-set, List·getD-append}
-use lib.Seq.{sets, sets-eq, length-sets, take-at, drop-at, take-take, take-append-le, drop-append-le, length-take-le, getD-drop, getD-append-add, set-at, getD-set-same, getD-set-other, drop-cons}
+use lib.ListN.{length, getD, take, drop, set, length-append, length-drop, length-set, List·getD-append}
+use lib.Seq.{sets, sets-eq, length-sets, take-at, drop-at, take-append-le, drop-append-le, length-take-le, getD-drop, getD-append-add, set-at, getD-set-same, getD-set-other, drop-cons}
 use Rattle.numbers.specs.Numbers.{tab}
 use Rattle.numbers.proofs.NumberLaws.{length-tab, getD-tab}
-use Rattle.predicates.specs.Lists.{any, all, keep}
+use Rattle.predicates.specs.Lists.{any, keep}
 use Rattle.predicates.specs.Predicates.{implies}
 use Rattle.engine.specs.Receiving.{explained, learn}
 use Rattle.engine.specs.Tables.{Table, row, some, entriesIn, givenUp}

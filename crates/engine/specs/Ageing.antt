@@ -1,6 +1,6 @@
 -- Ageing (document 01, "Ageing"). Assumes nothing: these are definitions.
 use Prim.Native.Nat.{ℕ, _+_, _*_, _-_, _/_}
-use mathlib.Core.List.{List, map}
+use mathlib.Core.List.{map}
 use Rattle.state.specs.Model.{Datum, Head, Store}
 
 -- "With drift r parts per million and d local microseconds passed, true time advances by at least floor(d × (1,000,000 − r) / 1,000,000)"

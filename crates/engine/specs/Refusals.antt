@@ -1,12 +1,12 @@
 -- The refusals of setting up, ageing and receiving on the state as lists (document 01, "Who can cause which refusal"), in document 01's order.
 -- The refusals of the buffer, the form and the message's words (24, 25, 10 to 17) are tested on the bytes. 0 means taken.
 -- Assumes nothing: these are definitions.
-use Prim.Native.Nat.{ℕ, _+_}
+use Prim.Native.Nat.{ℕ}
 use mathlib.Core.Bool.{Bool, _||_, cond}
 use lib.Dec.{eqb, leb, ltb}
 use lib.ListN.{length}
 use Rattle.predicates.specs.Lists.{any}
-use Rattle.state.specs.Model.{Datum, Head, Store, State, endLimit, readingLimit}
+use Rattle.state.specs.Model.{Store, State, endLimit, readingLimit}
 use Rattle.engine.specs.Ageing.{slow, fast, aged}
 use Rattle.engine.specs.Receiving.{Delivery, grown, received}
 use Rattle.engine.specs.Calls.{Setup}

@@ -5,11 +5,9 @@ use mathlib.Core.Path.{_≡_}
 use lib.Dec.{eqb}
 use mathlib.Core.Bool.{Bool, true, false, cond}
 use mathlib.Core.List.{List, [], _∷_, _++_}
-use lib.ListN.{length, getD, take, drop, set}
-use lib.Seq.{sets}
+use lib.ListN.{length, getD, take, drop}
 use Rattle.numbers.specs.Numbers.{tab}
 use Rattle.predicates.specs.Lists.{keep}
-use Rattle.predicates.specs.Predicates.{implies}
 use Rattle.state.specs.Model.{Datum, Store}
 
 -- the arrays have n rows of the width

@@ -10,7 +10,7 @@ ghost use Rattle.numbers.specs.Numbers.{tab};
 ghost use Rattle.predicates.specs.Lists.{any};
 ghost use Rattle.predicates.specs.Predicates.{normal};
 ghost use Rattle.engine.specs.Tables.{Table, Columns, First, liveBelow, row, some, entriesIn, datum, datumIn, dataIn, givenUp};
-ghost use Rattle.engine.specs.Receiving.{disjoint as Receiving·disjoint, explained, learn, learnt, unexplained, same as Receiving·same, met, without, betters as Receiving·betters};
+ghost use Rattle.engine.specs.Receiving.{disjoint as Receiving·disjoint, explained, learn, learnt, same as Receiving·same, met, without, betters as Receiving·betters};
 
 // Two ends of an interval.
 pub struct Ends {

@@ -1,7 +1,7 @@
 -- Reading a message (document 01, "The radio message" and "Who can cause which refusal"): sender, ends and term count, or the first
 -- refusal of 10, 12, 11, 13 to 17. Assumes nothing: these are definitions.
 use Prim.Native.Nat.{ℕ, _+_, _*_, _-_, _/_, _%_, _^_}
-use mathlib.Core.Bool.{Bool, true, false, cond, not, _&&_, _||_}
+use mathlib.Core.Bool.{Bool, cond, not, _&&_, _||_}
 use mathlib.Core.List.{List, []}
 use lib.ListN.{length, getD, take, drop}
 use lib.Seq.{slice}

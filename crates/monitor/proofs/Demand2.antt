@@ -2,7 +2,7 @@
 -- message as one in ends form that reads back to the same sender, interval and terms. The laws over words are `read-write`, `terms-write`,
 -- `rewrite-ends`, `rewrite-reads` and `rewrite-terms` of the crate `message`. Assumes nothing.
 use Prim.Native.Nat.{ℕ, _*_, _%_}
-use mathlib.Core.Path.{_≡_, refl, sym, ap, _∙_}
+use mathlib.Core.Path.{_≡_, refl, ap, _∙_}
 use mathlib.Core.Bool.{Bool, true, false, cond}
 use mathlib.Core.List.{List}
 use native.Mathlib.Omega.{arith}
@@ -14,7 +14,6 @@ use Rattle.numbers.proofs.NumberLaws.{bytes-words, words-bytes, length-bytesOf}
 use Rattle.message.specs.Words.{masks}
 use Rattle.message.specs.Read.{isEnds, readWords, termWords}
 use Rattle.message.specs.Write.{rewritten}
-use Rattle.message.specs.declared.Reading.{Reading}
 use Rattle.message.specs.declared.Reading.the-variants.{Message, Refused}
 use Rattle.message.proofs.MessageLaws.{rewrite-ends, rewrite-form, rewrite-reads, rewrite-terms, words-rewritten}
 use Rattle.monitor.specs.Messages.{readBytes, rewrittenBytes}

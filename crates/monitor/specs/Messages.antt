@@ -1,7 +1,7 @@
 -- The calls on messages alone, over bytes (document 01, "State bytes", last sentences, and "Who can cause which refusal"): for each call the
 -- number that it returns and the lent output afterwards. Assumes nothing: these are definitions.
 use Prim.Native.Nat.{ℕ, _%_}
-use mathlib.Core.Bool.{Bool, cond}
+use mathlib.Core.Bool.{cond}
 use mathlib.Core.List.{List, [], _++_}
 use lib.ListN.{length}
 use lib.Dec.{ltb, eqb}

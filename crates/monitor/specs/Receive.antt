@@ -1,7 +1,7 @@
 -- Receiving, over bytes (document 01, "Receiving" and "Who can cause which refusal"): the number that the call returns and the lent state
 -- afterwards. Assumes nothing: these are definitions.
 use Prim.Native.Nat.{ℕ}
-use mathlib.Core.Bool.{Bool, not, cond}
+use mathlib.Core.Bool.{not, cond}
 use mathlib.Core.List.{List}
 use lib.ListN.{length}
 use lib.Dec.{ltb}
@@ -12,7 +12,7 @@ use Rattle.message.specs.declared.Reading.{Reading}
 use Rattle.message.specs.declared.Reading.the-variants.{Message, Refused}
 use Rattle.state.specs.Layout.{stateOf}
 use Rattle.state.specs.Form.{inForm}
-use Rattle.engine.specs.Receiving.{Delivery, delivery}
+use Rattle.engine.specs.Receiving.{delivery}
 use Rattle.engine.specs.Calls.{receive, done}
 use Rattle.engine.specs.Refusals.{refuse, delaysFail, receiptRefusal}
 use Rattle.engine.specs.Outcomes.{after}

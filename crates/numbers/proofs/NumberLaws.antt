@@ -11,7 +11,7 @@ use native.Mathlib.Numerals.{add-one}
 use native.Mathlib.Omega.{arith}
 use lib.Dec.{lit<}
 use lib.ListN.{length, getD, take, drop, set, length-append, List·getD-append}
-use lib.Seq.{sets-eq, take-at, take-all, take-add, take-suc, drop-cons, drop-length, length-take-le, length-sets, getD-at, getD-set-other, set-getD, ext-getD}
+use lib.Seq.{sets-eq, take-at, take-all, take-add, take-suc, drop-cons, length-take-le, length-sets, getD-at, getD-set-other, set-getD, ext-getD}
 use Rattle.numbers.specs.Numbers.{num, bytes, put, tab, Bytes, Words, wordsOf, bytesOf}
 
 -- ---- num: a number in bytes
@@ -189,10 +189,6 @@ pub tab-next : (f : ℕ → ℕ) (at i k v : ℕ) (s t : List ℕ) →
 unfolding tab put
 tab-next f at i k v s t e q h = rw (add-one, put-append i at (tab i f) (f i ∷ []) s (length-tab i f), ← h, e, q)
 
--- a table as long as the list that it is stored in: nothing else is left
-pub tab-done : (f : ℕ → ℕ) (n : ℕ) (s t : List ℕ) → length s ≡ n → t ≡ put 0 (tab n f) s → t ≡ tab n f
-tab-done f n s t e h = rw (h, put-front n (tab n f) s (length-tab n f) (omega arith), ← e, drop-length, append-nil)
-
 -- ---- wordsOf and bytesOf: words in bytes
 
 pub length-bytesOf : (ws : List ℕ) → length (bytesOf ws) ≡ length ws * 4
@@ -228,10 +224,6 @@ unfolding wordsOf
 words-bytes ws w =
     let count : length ws ≡ length (bytesOf ws) / 4 = omega (arith, length-bytesOf ws) in
     tab-ext 0 _ _ ws count (λ i h. num-bytesOf ws i w (omega arith))
-
--- words stored from the start are read back
-pub words-put : (ws s : List ℕ) → Words ws → length ws * 4 ≤ length s → wordsOf (take (length ws * 4) (put 0 (bytesOf ws) s)) ≡ ws
-words-put ws s w h = rw (take-put (length ws * 4) (bytesOf ws) s (length-bytesOf ws) h) (words-bytes ws w)
 
 -- the bytes of the first n words in bytes
 bytesOf-tab : (n : ℕ) (s : List ℕ) → Bytes s → n * 4 ≤ length s → bytesOf (tab n (λ i. num (i * 4) 4 s)) ≡ take (n * 4) s

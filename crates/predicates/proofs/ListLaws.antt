@@ -1,5 +1,5 @@
 -- Boolean tests as facts, tests over lists by their elements, and a list filled up with zeros. Assumes nothing.
-use mathlib.Core.Path.{_≡_, refl, sym, ap, subst, _∙_}
+use mathlib.Core.Path.{_≡_, refl, sym, subst}
 use mathlib.Core.Logic.{_⊎_, inl, inr}
 use mathlib.Core.Bool.{Bool, true, false, _&&_, _||_, not, cond}
 use mathlib.Core.List.{List, [], _∷_, _++_}
@@ -47,9 +47,6 @@ T-true false h = absurd h
 pub T-false : (b : Bool) → T (not b) → b ≡ false
 T-false true h = absurd h
 T-false false h = refl
-
-pub false-T : (b : Bool) → b ≡ false → T (not b)
-false-T b e = subst (λ (x : Bool). T (not x)) (sym e) tt
 
 -- what holds of both branches, each with its test
 pub cond-ind {ℓ} : {A : Type 0} (P : A → Type ℓ) (b : Bool) (x y : A) → (T b → P x) → (T (not b) → P y) → P (cond b x y)

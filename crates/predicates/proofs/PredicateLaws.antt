@@ -2,19 +2,19 @@
 -- is in normal form and is the only one, and what striking a name and adding the sender mean to a set without that name.
 -- Above this file nothing needs the definition of `normal`. Assumes nothing.
 use mathlib.Core.Path.{_≡_, refl, sym, ap, ap₂, subst, _∙_}
-use mathlib.Core.Logic.{_↔_, _⊎_, inl, inr, ⊎-elim}
-use mathlib.Core.Bool.{Bool, true, false, _&&_, _||_, not, cond, or-assoc}
+use mathlib.Core.Logic.{_⊎_, inl, inr, ⊎-elim}
+use mathlib.Core.Bool.{Bool, true, false, _||_, not, or-assoc}
 use mathlib.Core.List.{List, [], _∷_, _++_, append-assoc, append-nil}
 use Prim.Native.Nat.{ℕ, _^_, _≤_, _<_, min}
 use native.Mathlib.Omega.{arith}
-use lib.Dec.{T, T-not, not-T, eqb, eqb→eq, leb, leb→le, le→leb, nleb→lt, ltb, ltb→lt, lt→ltb}
+use lib.Dec.{T, T-not, not-T, eqb, eqb→eq, leb, leb→le, nleb→lt, ltb, ltb→lt, lt→ltb}
 use lib.Count.{ones}
 use lib.ListN.{length}
 use Rattle.names.specs.Sets.{subset, has}
 use Rattle.names.proofs.SetLaws.{subset-refl, subset-trans, subset-antisym, subset-le, empty-subset, ones-mono, has-mono, single-has, test-ext}
-use Rattle.predicates.specs.Lists.{any, all, keep, In}
+use Rattle.predicates.specs.Lists.{all, keep, In}
 use Rattle.predicates.specs.Predicates.{holds, implies, degree, isTrue, struck, before, isNormal, insert, rising, minimal, normal, formed}
-use Rattle.predicates.proofs.ListLaws.{both, both-l, both-r, or-l, or-r, or-cases, or-swap, cond-ind, in-l, in-r, in-cases, any-in, any-out, all-in, all-out, keep-in, keep-out}
+use Rattle.predicates.proofs.ListLaws.{both, both-l, both-r, or-l, or-r, or-cases, or-swap, cond-ind, in-cases, any-in, any-out, all-in, all-out, keep-in, keep-out}
 
 -- ---- holds
 

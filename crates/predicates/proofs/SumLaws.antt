@@ -1,14 +1,14 @@
 -- Lists that are filled, filtered and joined in place: the loops and calls of `sums`, on plain values. No contract cites this file. Assumes nothing.
 use Prim.Native.Nat.{ℕ, suc, _+_, _-_, _^_, _≤_, _<_}
-use mathlib.Core.Path.{_≡_, refl, sym, ap, ap₂, _∙_}
-use mathlib.Core.Bool.{Bool, true, false, not, _||_, or-comm}
+use mathlib.Core.Path.{_≡_, refl, sym, ap, _∙_}
+use mathlib.Core.Bool.{true, false, or-comm}
 use mathlib.Core.List.{List, [], _∷_, _++_, append-assoc, append-nil}
 use native.Mathlib.Nat.{zero-add}
 use native.Mathlib.Numerals.{add-one}
 use native.Mathlib.Omega.{arith}
-use lib.ListN.{length, getD, take, drop, set, replicate, length-append, length-replicate, length-set, length-drop, replicate-append-replicate}
+use lib.ListN.{length, getD, take, drop, set, replicate, length-append, length-replicate, length-set, replicate-append-replicate}
 use lib.Seq.{sets, sets-eq, length-sets, slice, slice-cons, slice-empty, length-take-le, take-at, drop-at, set-at, drop-drop, drop-append-add, take-set-le, drop-set-lt, getD-set-same}
-use Rattle.names.specs.Sets.{has, subset}
+use Rattle.names.specs.Sets.{has}
 use Rattle.predicates.specs.Lists.{padded}
 use Rattle.predicates.specs.Predicates.{holds, struck, normal, formed}
 use Rattle.predicates.proofs.LoopLaws.{drop-next}
@@ -135,10 +135,6 @@ module _ (l s t u : List ℕ) (own sender n k : ℕ) (h : n < length l) (a : s �
       let long : t ≡ kept ++ (0 ∷ (replicate (n - k) 0 ++ drop (n + 1) l)) =
       c ∙ rw (used, behind) (padded-more n kept (drop (n + 1) l) small ∙ rw (e, append-assoc kept (0 ∷ replicate (n - k) 0) (drop (n + 1) l))) in
       d ∙ ap (λ (x : List ℕ). set x k (2 ^ sender)) long ∙ set-at kept 0 (replicate (n - k) 0 ++ drop (n + 1) l) (2 ^ sender) k (sym count)
-
-  pub form-length : length u ≡ length l
-  form-length =
-      omega (arith, ap length made, length-append kept (2 ^ sender ∷ (replicate (n - k) 0 ++ drop (n + 1) l)), length-append (replicate {A = ℕ} (n - k) 0) (drop (n + 1) l), length-replicate {A = ℕ} (n - k) 0, length-drop (n + 1) l, count)
 
   pub form-calls : (e : List ℕ) (r : ℕ) → (r ≡ length (normal (take (k + 1) u))) × (r ≤ k + 1) → e ≡ padded (k + 1) (normal (take (k + 1) u)) ++ drop (k + 1) u
       → ((r ≡ length (formed own sender (take n l))) × (r ≤ n + 1)) × (e ≡ padded (n + 1) (formed own sender (take n l)) ++ drop (n + 1) l)

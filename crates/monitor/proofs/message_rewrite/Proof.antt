@@ -1,11 +1,8 @@
 -- `monitor::message_rewrite` meets its contract: refused, by what was read; too short an output; or the words in ends form at its front.
-use mathlib.Core.Path.{_≡_, sym, ap, _∙_}
-use native.Mathlib.Omega.{arith}
+use mathlib.Core.Path.{_≡_, sym, _∙_}
 use borrow.Author.Tests.{lt-ltb, le-ltb}
 use lib.Seq.{length-take-le}
-use Rattle.numbers.specs.Numbers.{put}
 use Rattle.message.specs.Read.{numberOf}
-use Rattle.message.specs.Write.{rewritten}
 use Rattle.monitor.specs.Messages.{readBytes, answered, outputAfter, rewriteNumber, rewriteOutput}
 use Rattle.monitor.proofs.MessageCalls.{got-read, words-taken, rewritten-few, length-rewritten-bytes, written-bytes}
 use borrow.Author.Needs.{needs}

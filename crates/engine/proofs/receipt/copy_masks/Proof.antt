@@ -1,7 +1,7 @@
 -- `engine::receipt::copy_masks` meets its contract. Invariant: the terms that are still to be stored make of the row what all of them make of the first
 -- one. Measure: the words still to copy.
 use Prim.Native.Nat.{ℕ, suc, _+_, _-_, _≤_, _<_}
-use mathlib.Core.Path.{_≡_, refl, sym, _∙_}
+use mathlib.Core.Path.{_≡_, refl, _∙_}
 use mathlib.Core.List.{List}
 use native.Mathlib.Omega.{arith}
 use lib.ListN.{length, getD, drop, set, length-set, drop-of-length-le}

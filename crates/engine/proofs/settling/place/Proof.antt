@@ -1,8 +1,6 @@
 -- `engine::settling::place` meets its contract: step 3, then rule 14 both ways.
-use mathlib.Core.Path.{_≡_, sym, ap, _∙_}
+use mathlib.Core.Path.{sym, _∙_}
 use native.Mathlib.Nat.{le-refl}
-use lib.ListN.{length}
-use Rattle.engine.specs.Tables.{Columns, datum}
 use Rattle.engine.proofs.TableLaws.{table-given-up}
 use Rattle.engine.proofs.StepLaws.{data-bettered, stored-kept, stored-new}
 use borrow.Author.Needs.{needs}

@@ -1,10 +1,6 @@
 -- `engine::settling::settle` meets its contract: the four steps, one after the other; where the entries explain the new datum, the receipt ends at step 2.
-use Prim.Native.Nat.{_+_, _≤_}
-use mathlib.Core.Path.{_≡_, refl, sym, ap, _∙_}
+use mathlib.Core.Path.{sym, _∙_}
 use native.Mathlib.Nat.{le-refl}
-use native.Mathlib.Omega.{arith}
-use Rattle.engine.specs.Receiving.{learnt}
-use Rattle.engine.specs.Tables.{Table, Columns, entriesIn, datum, dataIn}
 use Rattle.engine.proofs.TableLaws.{table-given-up}
 use Rattle.engine.proofs.StepLaws.{data-unexplained, held-explained, held-placed}
 use borrow.Author.Needs.{needs}

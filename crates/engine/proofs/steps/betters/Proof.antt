@@ -1,6 +1,5 @@
 -- `engine::steps::betters` meets its contract: the intervals are compared first, since they decide most pairs.
-use mathlib.Core.Path.{_≡_, sym, ap, _∙_}
-use mathlib.Core.Bool.{_&&_, and-true, and-false}
+use mathlib.Core.Bool.{and-true, and-false}
 use Rattle.engine.specs.Receiving.{betters}
 use borrow.Author.Needs.{needs}
 use Rattle.engine.proofs.steps.betters.Statement.{statement}

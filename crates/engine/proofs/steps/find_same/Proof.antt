@@ -4,7 +4,7 @@ use mathlib.Core.Path.{_≡_, sym, _∙_}
 use mathlib.Core.Bool.{false}
 use native.Mathlib.Omega.{arith}
 use Rattle.engine.specs.Receiving.{same}
-use Rattle.engine.specs.Tables.{row, First}
+use Rattle.engine.specs.Tables.{row}
 use Rattle.engine.proofs.TableLaws.{table-room}
 use Rattle.engine.proofs.StepLaws.{below-next}
 use borrow.Author.Needs.{needs}

@@ -1,16 +1,13 @@
 -- `engine::steps::learn_all` meets its contract: held datum by held datum, oldest first.
 -- Invariant: the entries are those that the data before i have taught. Measure: the data still to take up.
-use Prim.Native.Nat.{_+_, _*_, _-_, _<_, _≤_}
-use mathlib.Core.Path.{_≡_, refl, sym, ap, _∙_}
-use mathlib.Core.List.{List}
-use native.Mathlib.Nat.{mul-le-mul-right}
+use Prim.Native.Nat.{_+_, _*_, _-_, _≤_}
+use mathlib.Core.Path.{_≡_, refl}
 use native.Mathlib.Omega.{arith}
 use lib.ListN.{length, getD}
-use lib.Seq.{length-take-le}
 use Rattle.numbers.specs.Numbers.{tab}
 use Rattle.engine.specs.Receiving.{learnt}
-use Rattle.engine.specs.Tables.{Table, row, entriesIn, datum, datumIn}
-use Rattle.engine.proofs.TableLaws.{table-room, row-part, length-row, tab-suc}
+use Rattle.engine.specs.Tables.{Table, entriesIn, datum, datumIn}
+use Rattle.engine.proofs.TableLaws.{table-room, row-part, length-row}
 use Rattle.engine.proofs.StepLaws.{table-more, learnt-next}
 use borrow.Author.Needs.{needs}
 use Rattle.engine.proofs.steps.learn_all.Statement.{statement}

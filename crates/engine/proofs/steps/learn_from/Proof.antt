@@ -1,11 +1,10 @@
 -- `engine::steps::learn_from` meets its contract: intervals that overlap teach nothing; else the sum of both predicates, in normal form, is learnt.
-use Prim.Native.Nat.{_+_, _<_, _≤_}
-use mathlib.Core.Path.{_≡_, refl, sym, ap, _∙_}
+use Prim.Native.Nat.{_<_, _≤_}
+use mathlib.Core.Path.{_≡_, sym, ap, _∙_}
 use mathlib.Core.List.{_++_}
 use native.Mathlib.Omega.{arith}
 use borrow.Author.Tests.{not-true, not-false}
 use lib.ListN.{length, take, length-append}
-use lib.Seq.{length-take-le}
 use Rattle.predicates.specs.Predicates.{normal}
 use Rattle.predicates.proofs.PredicateLaws.{normal-some}
 use Rattle.predicates.proofs.SumLaws.{padded-front}

@@ -1,6 +1,6 @@
 -- `engine::steps::meet` meets its contract: no row has the predicate and nothing changes, or the first one that has is given up and met.
 use Prim.Native.Nat.{_<_}
-use mathlib.Core.Path.{_≡_, refl, sym, ap₂, _∙_}
+use mathlib.Core.Path.{sym, ap₂, _∙_}
 use native.Mathlib.Omega.{arith}
 use lib.ListN.{length}
 use Rattle.engine.specs.Receiving.{meet}

@@ -1,7 +1,7 @@
 -- `engine::tables::append` meets its contract. Invariant: the terms that are still to be stored make of the array what all of them make of the first
 -- one. Measure: the terms still to store.
 use Prim.Native.Nat.{_+_, _*_, _-_, _≤_}
-use mathlib.Core.Path.{_≡_, refl, sym, _∙_}
+use mathlib.Core.Path.{_≡_, refl, _∙_}
 use native.Mathlib.Omega.{arith}
 use lib.ListN.{length, drop, length-set, drop-of-length-le}
 use lib.Seq.{sets}

@@ -1,6 +1,5 @@
 -- `engine::tables::learn` meets its contract: explained, nothing changes; else those that e implies are given up and e is put last (`learn-rows`).
-use Prim.Native.Nat.{_+_, _≤_}
-use mathlib.Core.Path.{_≡_, refl, sym, _∙_}
+use mathlib.Core.Path.{sym, _∙_}
 use native.Mathlib.Omega.{arith}
 use native.Mathlib.Nat.{suc-mul}
 use Rattle.engine.specs.Receiving.{learn}

@@ -1,6 +1,4 @@
 -- `engine::tables::row_implies` meets its contract: a row of no terms has been given up; else its part of the array is tested.
-use mathlib.Core.Path.{sym, _∙_}
-use mathlib.Core.Bool.{_&&_}
 use Rattle.engine.proofs.TableLaws.{row-part, row-none, row-some}
 use borrow.Author.Needs.{needs}
 use Rattle.engine.proofs.tables.row_implies.Statement.{statement}

@@ -1,8 +1,7 @@
 -- `monitor::receive::receive_message` meets its contract: refused by what was read, or received with what the message says (`taken-says`).
-use mathlib.Core.Path.{_≡_, refl, sym, ap, _∙_}
+use mathlib.Core.Path.{_≡_, sym, _∙_}
 use lib.Seq.{length-take-le}
-use Rattle.message.specs.Words.{masks}
-use Rattle.message.specs.Read.{numberOf, termWords}
+use Rattle.message.specs.Read.{numberOf}
 use Rattle.monitor.specs.Messages.{readBytes}
 use Rattle.monitor.specs.Receive.{receiptNumber, receiptBytes}
 use Rattle.monitor.proofs.MessageCalls.{got-read, words-taken, words-in-taken, taken-says}
