@@ -22,21 +22,8 @@ const NUMBERS: [&[u32]; 4] = [
     &[0, 23, 24, 25],
 ];
 
-/// The branches that few names and small numbers meet; crowded places meet all.
-const MOST_BRANCHES: [Branch; 12] = [
-    Branch::Struck,
-    Branch::True,
-    Branch::Disjoint,
-    Branch::EntryImplied,
-    Branch::EntryAdded,
-    Branch::EntriesGone,
-    Branch::HeldExplained,
-    Branch::NewExplained,
-    Branch::Met,
-    Branch::NotStored,
-    Branch::HeldBettered,
-    Branch::Stored,
-];
+/// The branches that only crowded places have to meet.
+const CROWDED: [Branch; 3] = [Branch::EntriesOver, Branch::TooManyData, Branch::TooManyEntries];
 
 /// Fewer of a number or of a branch would be too few to have met its cases.
 const ENOUGH: u64 = 100;
@@ -95,8 +82,8 @@ impl Seen {
     }
 
     /// Prints the report, and checks that each call met all of its numbers and no others, and that
-    /// receipts met these branches, as often as is enough.
-    fn check(&self, title: &str, branches: &[Branch]) {
+    /// receipts met all branches but the exempt ones, as often as is enough.
+    fn check(&self, title: &str, exempt: &[Branch]) {
         // Written past the capture of a passing test's output: each run shows what it reached.
         std::io::stderr().write_all(self.report(title).as_bytes()).expect("standard error");
         for (name, (met, wanted)) in Call::NAMES.iter().zip(self.numbers.iter().zip(NUMBERS)) {
@@ -106,7 +93,7 @@ impl Seen {
             }
             assert!(met.keys().all(|number| wanted.contains(number)), "{title}: {name}: {met:?}");
         }
-        for &branch in branches {
+        for branch in Branch::ALL.into_iter().filter(|branch| !exempt.contains(branch)) {
             let count = self.branches[branch as usize];
             assert!(count >= ENOUGH, "{title}: {branch:?} came {count} times");
         }
@@ -208,7 +195,7 @@ fn runs_of_few_names_and_small_numbers_are_answered_alike() {
         let (world, steps) = (World::small(&mut random), random.below(40));
         Run::new(seed, random, world, &mut seen).start_set_up(steps);
     }
-    seen.check("few names and small numbers", &MOST_BRANCHES);
+    seen.check("few names and small numbers", &CROWDED);
     assert!(seen.runs >= 20_000, "only {} runs", seen.runs);
 }
 
@@ -220,7 +207,7 @@ fn runs_that_fill_all_places_are_answered_alike() {
         let (world, steps) = (World::crowded(&mut random), 40 + random.below(160));
         Run::new(seed, random, world, &mut seen).start_set_up(steps);
     }
-    seen.check("many names and crowded places", &Branch::ALL);
+    seen.check("many names and crowded places", &[]);
     for count in [seen.crowded_at_step_2, seen.all_data, seen.all_entries] {
         assert!(count >= ENOUGH, "too seldom full");
     }
@@ -235,5 +222,5 @@ fn runs_from_any_state_in_form_are_answered_alike() {
         let (world, steps) = (World::around(&mut random, &state), 1 + random.below(4));
         Run::new(seed, random, world, &mut seen).start_in(&state, steps);
     }
-    seen.check("from any state in form", &MOST_BRANCHES);
+    seen.check("from any state in form", &CROWDED);
 }

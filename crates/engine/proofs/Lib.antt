@@ -1,3 +1,4 @@
+-- The laws that the proofs of `engine` share, lowest first: tables, steps, the receipt, and ageing and setting up beside them.
 pub mod TableLaws
 pub mod StepLaws
 pub mod ReceiveLaws

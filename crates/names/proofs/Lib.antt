@@ -1,1 +1,2 @@
+-- The laws of sets of names.
 pub mod SetLaws

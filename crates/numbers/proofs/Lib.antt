@@ -1,1 +1,2 @@
+-- The laws of numbers and words in bytes.
 pub mod NumberLaws

@@ -1,3 +1,4 @@
+-- The laws of predicates, from lists up to the normal form in place and the sum.
 pub mod ListLaws
 pub mod PredicateLaws
 pub mod LoopLaws

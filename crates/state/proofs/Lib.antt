@@ -1,3 +1,4 @@
+-- The laws of the state's bytes: their layout, their form, and what the loops over them leave.
 pub mod LayoutLaws
 pub mod FormLaws
 pub mod StateLaws
