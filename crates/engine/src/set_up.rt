@@ -8,7 +8,7 @@ ghost use Rattle.engine.specs.Calls.{setUp};
 ghost use Rattle.engine.specs.Refusals.{setUpRefusal};
 ghost use Rattle.engine.specs.Outcomes.{setUpBytes};
 
-// Puts the fresh state of an own name, a drift and a reading: zeros in the places of the data, and the fresh knowledge.
+// Puts the fresh state of an own name, a drift and a reading: its head, the fresh held data and the fresh knowledge.
 fn put_fresh(s: &mut [u8], own: u32, drift: u32, reading: u64)
     requires { ⌜ 3032 ≤ length (now s) ⌝ }
     ensures { λ _. ⌜ now (s .exit) ≡ put 0 (stateBytes (setUp (record { own = own; drift = drift; reading = reading }))) (now (s .entry)) ⌝ }
@@ -16,8 +16,7 @@ fn put_fresh(s: &mut [u8], own: u32, drift: u32, reading: u64)
     numbers::put32(s, 0, own);
     numbers::put32(s, 4, drift);
     numbers::put64(s, 8, reading);
-    numbers::put32(s, 16, 0);
-    state::rows::clear(s, 24, 856);
+    state::held::put_held(s, state::held::fresh());
     state::knowledge::put_knowledge(s, state::knowledge::fresh());
 }
 

@@ -5,4 +5,5 @@ pub mod StateLaws
 pub mod FormLoops
 pub mod RowLoops
 pub mod PutLaws
+pub mod HeldLaws
 pub mod KnowledgeLaws

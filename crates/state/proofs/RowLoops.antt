@@ -36,11 +36,16 @@ row-put width at ts s a b c h p q r =
 
 -- ---- a datum
 
--- both ends and the row behind them
+-- both ends and a row behind them
+pub ends-put : (at left right : ℕ) (row s a b c : List ℕ) → a ≡ put at (bytes 8 left) s → b ≡ put (at + 8) (bytes 8 right) a
+    → c ≡ put (at + 16) row b → c ≡ put at (bytes 8 left ++ (bytes 8 right ++ row)) s
+ends-put at left right row s a b c p q r =
+    let behind : c ≡ put (at + 8) (bytes 8 right ++ row) a =
+    put-then 8 (at + 8) (at + 16) (bytes 8 right) row a b c (length-bytes 8 right) (omega arith) q r in
+    put-then 8 at (at + 8) (bytes 8 left) (bytes 8 right ++ row) s a c (length-bytes 8 left) refl p behind
+
+-- the row being that of a predicate
 pub datum-put : (at left right : ℕ) (ts s a b c : List ℕ) → a ≡ put at (bytes 8 left) s → b ≡ put (at + 8) (bytes 8 right) a
     → c ≡ put (at + 16) (rowBytes 8 ts) b → c ≡ put at (datumBytes (record { left = left; right = right; terms = ts })) s
 unfolding datumBytes
-datum-put at left right ts s a b c p q r =
-    let behind : c ≡ put (at + 8) (bytes 8 right ++ rowBytes 8 ts) a =
-    put-then 8 (at + 8) (at + 16) (bytes 8 right) (rowBytes 8 ts) a b c (length-bytes 8 right) (omega arith) q r in
-    put-then 8 at (at + 8) (bytes 8 left) (bytes 8 right ++ rowBytes 8 ts) s a c (length-bytes 8 left) refl p behind
+datum-put at left right ts s a b c p q r = ends-put at left right (rowBytes 8 ts) s a b c p q r

@@ -24,8 +24,8 @@ pub fn fresh() -> Knowledge
     }
 }
 
-// Puts a count and masks from index at on.
-fn put_masks(s: &mut [u8], at: usize, count: u32, masks: &[u32])
+// Puts a count and masks from index at on: an entry, or what stands behind the two ends of a datum.
+pub fn put_masks(s: &mut [u8], at: usize, count: u32, masks: &[u32])
     requires { ⌜ at + 4 + length (now masks) * 4 ≤ length (now s) ⌝ }
     ensures { λ _. ⌜ now (s .exit) ≡ put at (bytes 4 count ++ bytesOf (now (masks .entry))) (now (s .entry)) ⌝ }
 {
