@@ -12,14 +12,14 @@ use lib.Dec.{T, T-not, eqb, eqb-refl, leb, le→leb, nleb→lt, ltb, lt→ltb, n
 use lib.ListN.{length, length-map}
 use Rattle.predicates.specs.Lists.{any, all, In}
 use Rattle.predicates.specs.Predicates.{isTrue, isNormal}
-use Rattle.predicates.proofs.ListLaws.{both, both-l, both-r}
+use Rattle.predicates.proofs.ListLaws.{both, both-l, both-r, neither}
 use Rattle.state.specs.Model.{Datum, Head, State, endLimit, readingLimit}
 use Rattle.state.specs.Form.{headOk, datumOk, storeOk, countsOk, stateOk}
 use Rattle.engine.specs.Ageing.{leastAdvance, greatestAdvance, slow, fast, widened, aged}
 use Rattle.engine.specs.Receiving.{Delivery, grown, received}
 use Rattle.engine.specs.Calls.{Setup, begun, setUp, age, receive, moved, made, done}
 use Rattle.engine.specs.Refusals.{refuse, setUpRefusal, passesEnd, ageRefusal, tooMany, receiptRefusal}
-use Rattle.engine.proofs.ReceiveLaws.{neither, ok-datum-out, ok-datum-in, formed-fit, received-ok}
+use Rattle.engine.proofs.ReceiveLaws.{ok-datum-out, ok-datum-in, formed-fit, received-ok}
 
 -- no refusal: the test did not pass, nor did those behind it
 pub refuse-none : (test : Bool) (number next : ℕ) → 0 < number → refuse test number next ≡ 0 → T (not test) × (next ≡ 0)

@@ -10,7 +10,7 @@ use borrow.Author.Tests.{eq-eqb, ne-eqb, ltb-false}
 use lib.Dec.{T, eqb, ltb, leb, leb→le, le→leb}
 use lib.ListN.{length, getD, take, drop, length-append, length-take, length-replicate}
 use Rattle.predicates.specs.Lists.{all}
-use Rattle.predicates.proofs.ListLaws.{both}
+use Rattle.predicates.proofs.ListLaws.{both, all-keep}
 use Rattle.numbers.specs.Numbers.{num, bytes, put, tab, Bytes}
 use Rattle.numbers.proofs.NumberLaws.{put-then, put-num-same, length-put, length-bytes}
 use Rattle.state.specs.Model.{Datum, Store}
@@ -21,7 +21,6 @@ use Rattle.engine.specs.Receiving.{learnt, heldAfter, settled}
 use Rattle.engine.specs.Refusals.{tooMany}
 use Rattle.engine.proofs.TableLaws.{row-none, row-some, table-room}
 use Rattle.engine.proofs.StepLaws.{length-live}
-use Rattle.engine.proofs.ReceiveLaws.{all-keep}
 
 -- ---- the places of data and entries
 

@@ -16,7 +16,8 @@ use Rattle.names.specs.Sets.{has}
 use Rattle.names.proofs.SetLaws.{digit-single-other, has-out}
 use Rattle.predicates.specs.Lists.{any, all, keep, In}
 use Rattle.predicates.specs.Predicates.{holds, implies, isTrue, struck, isNormal, normal, formed}
-use Rattle.predicates.proofs.ListLaws.{both, both-l, both-r, or-cases, cond-ind, in-l, in-r, in-cases, any-in, any-out, all-in, all-out, keep-in, keep-out}
+use Rattle.predicates.proofs.ListLaws.{both, both-l, both-r, or-cases, neither, cond-ind}
+use Rattle.predicates.proofs.ListLaws.{in-l, in-r, in-cases, any-in, any-out, all-in, all-out, keep-in, keep-out, all-keep, length-keep}
 use Rattle.predicates.proofs.PredicateLaws.{holds-sum, holds-normal, implies-in, implies-refl, implies-trans, normal-normal, normal-out, normal-some, formed-out}
 use Rattle.predicates.proofs.PlaceLaws.{length-normal}
 use Rattle.state.specs.Model.{Datum, Store, endLimit}
@@ -24,26 +25,12 @@ use Rattle.state.specs.Form.{termFits, termsFit, datumOk, storeOk}
 use Rattle.state.proofs.LayoutLaws.{all-append}
 use Rattle.engine.specs.Receiving.{disjoint, explained, learn, learnt, unexplained, same, meet, met, without, betters, stored, heldAfter, received, settled}
 
--- ---- tests and lists
+-- ---- tests
 
 -- a test passes or not
 split : (b : Bool) → T b ⊎ T (not b)
 split true = inl tt
 split false = inr tt
-
-pub neither : (a b : Bool) → T (not (a || b)) → T (not a) × T (not b)
-neither true b h = absurd h
-neither false b h = (tt, h)
-
-module _ {A : Type 0} where
-  pub all-keep : (f g : A → Bool) (l : List A) → T (all f l) → T (all f (keep g l))
-  all-keep f g l h = all-in f (keep g l) (λ a m. all-out f l h a (keep-out g l a m .0))
-
-  pub length-keep : (f : A → Bool) (l : List A) → length (keep f l) ≤ length l
-  length-keep f [] = le-refl 0
-  length-keep f (x ∷ l) =
-      let h = length-keep f l in
-      cond-ind (λ m. length m ≤ suc (length l)) (f x) (x ∷ keep f l) (keep f l) (λ _. omega arith) (λ _. omega arith)
 
 -- ---- predicates
 

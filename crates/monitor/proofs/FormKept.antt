@@ -14,7 +14,7 @@ use lib.ListN.{length, drop}
 use Rattle.numbers.specs.Numbers.{put, wordsOf}
 use Rattle.numbers.proofs.NumberLaws.{put-front, length-put}
 use Rattle.predicates.specs.Lists.{In}
-use Rattle.predicates.proofs.ListLaws.{T-false, cond-ind}
+use Rattle.predicates.proofs.ListLaws.{neither, T-false, cond-ind}
 use Rattle.message.specs.Words.{masks}
 use Rattle.message.specs.Read.{readWords, termWords}
 use Rattle.message.specs.declared.Reading.{Reading}
@@ -29,7 +29,6 @@ use Rattle.engine.specs.Receiving.{delivery}
 use Rattle.engine.specs.Calls.{Setup, setUp, age, receive, done}
 use Rattle.engine.specs.Refusals.{setUpRefusal, ageRefusal, delaysFail, receiptRefusal}
 use Rattle.engine.specs.Outcomes.{after, setUpBytes, ageBytes}
-use Rattle.engine.proofs.ReceiveLaws.{neither}
 use Rattle.engine.proofs.CallLaws.{refuse-none, set-up-ok, age-ok, Heard, receive-ok}
 use Rattle.monitor.specs.Messages.{readBytes}
 use Rattle.monitor.specs.Calls.{setUpNumber, setUpState, ageState}
@@ -150,16 +149,16 @@ module _ (s : List ℕ) (least greatest : ℕ) (m : List ℕ) where
   pub receive-form : T (inForm s) → T (inForm (receiveState s least greatest m))
   unfolding receiveState
   receive-form t =
-      kept Formed (ltb (length s) 3032) s _ t
+      kept Formed (ltb (length s) stateSize) s _ t
       (λ a. kept Formed (not (inForm s)) s _ t
       (λ b. kept Formed (delaysFail least greatest) s (receiptBytes s least greatest (readBytes m) (wordsOf m)) t
-      (λ c. receipt-form t (nltb→le (length s) 3032 a)
+      (λ c. receipt-form t (nltb→le (length s) stateSize a)
       (nltb→le greatest least (neither (ltb greatest least) (ltb 60_000_000 greatest) c .0)) (readBytes m) refl)))
 
   pub length-receive : length (receiveState s least greatest m) ≡ length s
   unfolding receiveState
   length-receive =
-      kept (SameLength s) (ltb (length s) 3032) s _ refl
+      kept (SameLength s) (ltb (length s) stateSize) s _ refl
       (λ a. kept (SameLength s) (not (inForm s)) s _ refl
       (λ b. kept (SameLength s) (delaysFail least greatest) s (receiptBytes s least greatest (readBytes m) (wordsOf m)) refl
       (λ c. length-receipt (readBytes m))))

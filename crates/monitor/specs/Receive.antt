@@ -10,7 +10,7 @@ use Rattle.message.specs.Words.{masks}
 use Rattle.message.specs.Read.{termWords}
 use Rattle.message.specs.declared.Reading.{Reading}
 use Rattle.message.specs.declared.Reading.the-variants.{Message, Refused}
-use Rattle.state.specs.Layout.{stateOf}
+use Rattle.state.specs.Layout.{stateSize, stateOf}
 use Rattle.state.specs.Form.{inForm}
 use Rattle.engine.specs.Receiving.{delivery}
 use Rattle.engine.specs.Calls.{receive, done}
@@ -34,12 +34,12 @@ receiptBytes s least greatest (Message sender left right count) ws =
 -- "Receiving 24, 25, 21, 10, 12, 11, 13 to 18, 30, 31, 32"
 unfoldable pub receiveNumber : List ℕ → ℕ → ℕ → List ℕ → ℕ
 receiveNumber s least greatest message =
-    refuse (ltb (length s) 3032) 24
+    refuse (ltb (length s) stateSize) 24
     (refuse (not (inForm s)) 25
     (refuse (delaysFail least greatest) 21 (receiptNumber s least greatest (readBytes message) (wordsOf message))))
 
 unfoldable pub receiveState : List ℕ → ℕ → ℕ → List ℕ → List ℕ
 receiveState s least greatest message =
-    cond (ltb (length s) 3032) s
+    cond (ltb (length s) stateSize) s
     (cond (not (inForm s)) s
     (cond (delaysFail least greatest) s (receiptBytes s least greatest (readBytes message) (wordsOf message))))

@@ -1,9 +1,13 @@
 -- Boolean tests as facts, tests over lists by their elements, and a list filled up with zeros. Assumes nothing.
+use Prim.Native.Nat.{suc, _≤_}
 use mathlib.Core.Path.{_≡_, refl, sym, subst}
 use mathlib.Core.Logic.{_⊎_, inl, inr}
 use mathlib.Core.Bool.{Bool, true, false, _&&_, _||_, not, cond}
 use mathlib.Core.List.{List, [], _∷_, _++_}
+use native.Mathlib.Nat.{le-refl}
+use native.Mathlib.Omega.{arith}
 use lib.Dec.{T}
+use lib.ListN.{length}
 use Rattle.predicates.specs.Lists.{any, all, keep, In}
 
 -- ---- Boolean tests
@@ -31,6 +35,10 @@ or-r false b h = h
 pub or-cases : (a b : Bool) → T (a || b) → T a ⊎ T b
 or-cases true b h = inl tt
 or-cases false b h = inr h
+
+pub neither : (a b : Bool) → T (not (a || b)) → T (not a) × T (not b)
+neither true b h = absurd h
+neither false b h = (tt, h)
 
 pub or-swap : (a b c : Bool) → a || (b || c) ≡ b || (a || c)
 or-swap true true c = refl
@@ -119,3 +127,12 @@ module _ {A : Type 0} where
       first : (In a (keep f l) → In a l × T (f a)) → T (f x) → In a (x ∷ keep f l) → In a (x ∷ l) × T (f a)
       first rest t (inl e) = (inl e, subst (λ y. T (f y)) (sym e) t)
       first rest t (inr h) = later rest h
+
+  pub all-keep : (f g : A → Bool) (l : List A) → T (all f l) → T (all f (keep g l))
+  all-keep f g l h = all-in f (keep g l) (λ a m. all-out f l h a (keep-out g l a m .0))
+
+  pub length-keep : (f : A → Bool) (l : List A) → length (keep f l) ≤ length l
+  length-keep f [] = le-refl 0
+  length-keep f (x ∷ l) =
+      let h = length-keep f l in
+      cond-ind (λ m. length m ≤ suc (length l)) (f x) (x ∷ keep f l) (keep f l) (λ _. omega arith) (λ _. omega arith)
