@@ -16,7 +16,7 @@ use Rattle.names.specs.Sets.{has}
 use Rattle.names.proofs.SetLaws.{digit-single-other, has-out}
 use Rattle.predicates.specs.Lists.{any, all, keep, In}
 use Rattle.predicates.specs.Predicates.{holds, implies, isTrue, struck, isNormal, normal, formed}
-use Rattle.predicates.proofs.ListLaws.{both, both-l, both-r, or-cases, neither, cond-ind}
+use Rattle.predicates.proofs.ListLaws.{both, both-l, both-r, or-cases, neither, split, cond-ind}
 use Rattle.predicates.proofs.ListLaws.{in-l, in-r, in-cases, any-in, any-out, all-in, all-out, keep-in, keep-out, all-keep, length-keep}
 use Rattle.predicates.proofs.PredicateLaws.{holds-sum, holds-normal, implies-in, implies-refl, implies-trans, normal-normal, normal-out, normal-some, formed-out}
 use Rattle.predicates.proofs.PlaceLaws.{length-normal}
@@ -24,13 +24,6 @@ use Rattle.state.specs.Model.{Datum, Store, endLimit}
 use Rattle.state.specs.Form.{termFits, termsFit, datumOk, storeOk}
 use Rattle.state.proofs.LayoutLaws.{all-append}
 use Rattle.engine.specs.Receiving.{disjoint, explained, learn, learnt, unexplained, same, meet, met, without, betters, stored, heldAfter, received, settled}
-
--- ---- tests
-
--- a test passes or not
-split : (b : Bool) → T b ⊎ T (not b)
-split true = inl tt
-split false = inr tt
 
 -- ---- predicates
 
@@ -162,19 +155,20 @@ length-learn e es =
     (λ _. omega (arith, length-append rest (e ∷ []), length-keep (λ g. not (implies e g)) es))
 
 -- what each entry learnt keeps, step 1 keeps
-learnt-ind : (P : List (List ℕ) → Type 0) (n : Datum) (ds : List Datum) (es : List (List ℕ))
-    → ((d : Datum) (fs : List (List ℕ)) → In d ds → P fs → P (learn (normal (d .terms ++ n .terms)) fs)) → P es → P (learnt n ds es)
+pub learnt-ind : (P : List (List ℕ) → Type 0) (n : Datum) (ds : List Datum) (es : List (List ℕ))
+    → ((d : Datum) (fs : List (List ℕ)) → In d ds → T (disjoint d n) → P fs → P (learn (normal (d .terms ++ n .terms)) fs))
+    → P es → P (learnt n ds es)
 unfolding learnt
 learnt-ind P n [] es f h = h
 learnt-ind P n (d ∷ ds) es f h =
     learnt-ind P n ds (cond (disjoint d n) (learn (normal (d .terms ++ n .terms)) es) es) (λ e fs m. f e fs (inr m))
-    (cond-ind P (disjoint d n) (learn (normal (d .terms ++ n .terms)) es) es (λ _. f d es (inl refl) h) (λ _. h))
+    (cond-ind P (disjoint d n) (learn (normal (d .terms ++ n .terms)) es) es (λ c. f d es (inl refl) c h) (λ _. h))
 
 pub learnt-fit : (own : ℕ) (n : Datum) (ds : List Datum) (es : List (List ℕ)) → T (datumOk own n) → T (all (datumOk own) ds)
     → T (all (termsFit own 16) es) → T (all (termsFit own 16) (learnt n ds es))
 learnt-fit own n ds es o h k =
     learnt-ind (λ fs. T (all (termsFit own 16) fs)) n ds es
-    (λ d fs m. learn-all (termsFit own 16) (normal (d .terms ++ n .terms)) fs
+    (λ d fs m c. learn-all (termsFit own 16) (normal (d .terms ++ n .terms)) fs
     (sum-fit own (d .terms) (n .terms) (ok-datum-out own d (all-out (datumOk own) ds h d m) .fit) (ok-datum-out own n o .fit))) k
 
 -- each held datum teaches at most one entry
@@ -211,7 +205,7 @@ learn-has e es =
     (λ _. any-in (λ g. implies g e) (rest ++ (e ∷ [])) e (in-r e rest (e ∷ []) (inl refl)) (implies-refl e))
 
 -- what is explained stays so: an entry that goes is implied by the new one
-learn-keeps : (e : List ℕ) (es : List (List ℕ)) (p : List ℕ) → T (explained es p) → T (explained (learn e es) p)
+pub learn-keeps : (e : List ℕ) (es : List (List ℕ)) (p : List ℕ) → T (explained es p) → T (explained (learn e es) p)
 unfolding learn explained
 learn-keeps e es p h =
     cond-ind (λ fs. T (explained fs p)) (explained es e) es (rest ++ (e ∷ [])) (λ _. h)
@@ -231,7 +225,7 @@ unfolding learnt
 learnt-has n [] es d m h = absurd m
 learnt-has n (c ∷ ds) es d (inl e) h =
     learnt-ind (λ fs. T (explained fs sum)) n ds (cond (disjoint c n) (learn (normal (c .terms ++ n .terms)) es) es)
-    (λ b fs m. learn-keeps (normal (b .terms ++ n .terms)) fs sum)
+    (λ b fs m k. learn-keeps (normal (b .terms ++ n .terms)) fs sum)
     (cond-ind (λ fs. T (explained fs sum)) (disjoint c n) (learn (normal (c .terms ++ n .terms)) es) es
     (λ _. rw e (learn-has (normal (c .terms ++ n .terms)) es)) (λ k. absurd (T-not (disjoint c n) k (rw e at h))))
   where

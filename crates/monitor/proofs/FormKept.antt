@@ -24,7 +24,7 @@ use Rattle.message.proofs.WordLaws.{length-masks}
 use Rattle.state.specs.Model.{State}
 use Rattle.state.specs.Layout.{stateSize, stateBytes, stateOf}
 use Rattle.state.specs.Form.{inForm, stateOk}
-use Rattle.state.proofs.StateLaws.{length-state, encode-form, form-ok}
+use Rattle.state.proofs.StateLaws.{length-state, decode-encode, encode-form, form-ok}
 use Rattle.engine.specs.Receiving.{delivery}
 use Rattle.engine.specs.Calls.{Setup, setUp, age, receive, done}
 use Rattle.engine.specs.Refusals.{setUpRefusal, ageRefusal, delaysFail, receiptRefusal}
@@ -37,9 +37,12 @@ use Rattle.monitor.proofs.MessageCalls.{read-words-in, words-in-taken}
 
 -- ---- the lent bytes after a call
 
--- a right state that is stored in front
-put-form : (st : State) (s : List ℕ) → T (stateOk st) → 3032 ≤ length s → T (inForm (put 0 (stateBytes st) s))
+-- a right state that is stored in front is in form, and read back
+pub put-form : (st : State) (s : List ℕ) → T (stateOk st) → 3032 ≤ length s → T (inForm (put 0 (stateBytes st) s))
 put-form st s t h = rw (put-front 3032 (stateBytes st) s (length-state st t) h) (encode-form st t (drop 3032 s))
+
+pub put-state : (st : State) (s : List ℕ) → T (stateOk st) → 3032 ≤ length s → stateOf (put 0 (stateBytes st) s) ≡ st
+put-state st s t h = rw (put-front 3032 (stateBytes st) s (length-state st t) h) (decode-encode st t (drop 3032 s))
 
 -- what is kept of the bytes s: the form, and the length
 abbrev Formed : List ℕ → Type 0
@@ -112,7 +115,7 @@ masks-small (w ∷ ws) t (inl e) = omega arith
 masks-small (w ∷ ws) t (inr h) = masks-small ws t h
 
 -- a taken reading, with delays that fit, tells what receiving asks
-heard-in : {sender left right n : ℕ} (least greatest : ℕ) (m : List ℕ) → least ≤ greatest → readBytes m ≡ Message sender left right n
+pub heard-in : {sender left right n : ℕ} (least greatest : ℕ) (m : List ℕ) → least ≤ greatest → readBytes m ≡ Message sender left right n
     → Heard (delivery least greatest sender left right (masks (termWords (Message sender left right n) (wordsOf m))))
 heard-in {sender} {left} {right} {n} least greatest m d e =
     let ws = wordsOf m in

@@ -1,3 +1,6 @@
 pub mod Messages
 pub mod Calls
 pub mod Receive
+pub mod Ask
+pub mod Book
+pub mod Runs

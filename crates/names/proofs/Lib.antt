@@ -1,2 +1,3 @@
 -- The laws of sets of names.
 pub mod SetLaws
+pub mod PartLaws

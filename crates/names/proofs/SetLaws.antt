@@ -1,7 +1,7 @@
 -- The laws of sets of names. `digit` carries them: a subset is one digit by digit, and the digits of a union or a single name are known.
 -- From there: the order, the union as least upper bound, counts, and the test for one name. Assumes nothing.
 use mathlib.Core.Path.{_≡_, refl, sym, ap, subst, _∙_}
-use Prim.Native.Nat.{ℕ, zero, suc, _+_, _/_, _%_, _^_, _≤_, _<_, min, max}
+use Prim.Native.Nat.{ℕ, zero, suc, _+_, _*_, _/_, _%_, _^_, _≤_, _<_, min, max}
 use native.Mathlib.Nat.{le-trans, le-of-eq, mod-lt, zero-lt-suc}
 use native.Mathlib.Omega.{arith}
 use native.Mathlib.Numerals.{one-add}
@@ -10,8 +10,8 @@ use lib.Dec.{T, T-not, not-T, eqb, eqb→eq, eqb-refl}
 use mathlib.Core.Bool.{Bool, true, false, not}
 use lib.Arith.{bin-ind, digits-mod}
 use lib.Pow.{shr-shr}
-use lib.Bits.{bitAnd, bitOr, and-step, or-step, and-shr, or-shr, and-comm, and-self, and-le-r}
-use lib.Count.{ones, ones-step}
+use lib.Bits.{bitAnd, bitOr, and-step, or-step, and-shr, or-shr, and-comm, and-self, and-le-r, or-shifted}
+use lib.Count.{ones, ones-step, ones-cat}
 use Rattle.names.specs.Sets.{subset, union, has, digit}
 
 -- two tests that pass together are equal
@@ -26,13 +26,13 @@ test-ext false false f g = refl
 pub digit-lt : (s n : ℕ) → digit s n < 2
 digit-lt s n = mod-lt (s / 2 ^ n) (zero-lt-suc 1)
 
-digit-zero : (s : ℕ) → digit s 0 ≡ s % 2
+pub digit-zero : (s : ℕ) → digit s 0 ≡ s % 2
 digit-zero s = omega arith
 
-digit-suc : (s n : ℕ) → digit s (suc n) ≡ digit (s / 2) n
+pub digit-suc : (s n : ℕ) → digit s (suc n) ≡ digit (s / 2) n
 digit-suc s n = ap (λ (x : ℕ). s / 2 ^ x % 2) (sym (one-add n)) ∙ ap (λ (x : ℕ). x % 2) (sym (shr-shr s 1 n))
 
-digit-and : (a b n : ℕ) → digit (bitAnd a b) n ≡ min (digit a n) (digit b n)
+pub digit-and : (a b n : ℕ) → digit (bitAnd a b) n ≡ min (digit a n) (digit b n)
 digit-and a b n =
     ap (λ (x : ℕ). x % 2) (and-shr a b n ∙ and-step (a / 2 ^ n) (b / 2 ^ n))
     ∙ digits-mod (bitAnd (a / 2 ^ n / 2) (b / 2 ^ n / 2)) (omega arith)
@@ -64,7 +64,7 @@ digit-single-other (suc n) (suc m) h = digit-single-suc n m ∙ digit-single-oth
 
 -- ---- subset, digit by digit
 
-subset-and : (t s : ℕ) → T (subset t s) → bitAnd t s ≡ t
+pub subset-and : (t s : ℕ) → T (subset t s) → bitAnd t s ≡ t
 unfolding subset
 subset-and t s h = eqb→eq (bitAnd t s) t h
 
@@ -125,7 +125,7 @@ pub ones-empty : ones 0 ≡ 0
 unfolding ones
 ones-empty = refl
 
-halves : (t s : ℕ) → T (subset t s) → T (subset (t / 2) (s / 2)) × (t % 2 ≤ s % 2)
+pub halves : (t s : ℕ) → T (subset t s) → T (subset (t / 2) (s / 2)) × (t % 2 ≤ s % 2)
 halves t s h = (
   subset-in (t / 2) (s / 2) (λ n. omega (arith, subset-out t s h (suc n), digit-suc t n, digit-suc s n)),
   omega (arith, subset-out t s h 0, digit-zero t, digit-zero s),
@@ -148,6 +148,28 @@ ones-union =
     let half : bitOr a b / 2 ≡ bitOr (a / 2) (b / 2) = omega (arith, or-step a b) in
     let low : bitOr a b % 2 ≡ max (a % 2) (b % 2) = omega (arith, or-step a b) in
     omega (arith, ones-step a, ones-step b, ones-step (bitOr a b), ap ones half, ih (b / 2)))
+
+-- only the empty set has no names
+pub ones-none : (s : ℕ) → ones s ≡ 0 → s ≡ 0
+ones-none =
+    bin-ind (λ (s : ℕ). ones s ≡ 0 → s ≡ 0) (λ e. refl)
+    (λ s ih e.
+    let half : s / 2 ≡ 0 = ih (omega (arith, ones-step s)) in
+    omega (arith, ones-step s))
+
+-- ---- a name above all those of a set
+
+pub union-above : (n s : ℕ) → s < 2 ^ n → union (2 ^ n) s ≡ 2 ^ n + s
+unfolding union
+union-above n s h =
+    let one : 1 * 2 ^ n ≡ 2 ^ n = omega arith in
+    ap (λ (x : ℕ). bitOr x s) (sym one) ∙ or-shifted 1 n s h ∙ ap (λ (x : ℕ). x + s) one
+
+pub ones-above : (n s : ℕ) → s < 2 ^ n → ones (2 ^ n + s) ≡ suc (ones s)
+unfolding ones
+ones-above n s h =
+    let one : 1 * 2 ^ n ≡ 2 ^ n = omega arith in
+    omega (arith, ap (λ (x : ℕ). ones (x + s)) one, ones-cat n 1 s h)
 
 -- ---- one name: as a digit, as a subset, as the code tests it
 
@@ -207,3 +229,14 @@ has-not-union n s t f g =
     go : Dec (digit s n ≡ 1) → digit (union s t) n ≡ 1 → ⊥
     go (yes p) e = T-not (has n s) f (has-in n s p)
     go (no p) e = T-not (has n t) g (has-in n t (omega (arith, digit-union s t n, digit-lt s n, digit-lt t n)))
+
+pub has-empty : (n : ℕ) → T (not (has n 0))
+has-empty n = not-T (has n 0) (λ h. omega (arith, has-out n 0 h, digit-empty n))
+
+-- a set of one name has no other
+pub has-single : (n m : ℕ) → T (has m (2 ^ n)) → n ≡ m
+has-single n m h = go (ℕ-discrete n m)
+  where
+    go : Dec (n ≡ m) → n ≡ m
+    go (yes p) = p
+    go (no f) = absurd (omega (arith, has-out m (2 ^ n) h, digit-single-other n m f))

@@ -3,7 +3,7 @@
 ghost use mathlib.Core.Path.{_≡_};
 ghost use Prim.Native.Nat.{_<_, _≤_, _^_};
 ghost use lib.Count.{ones};
-ghost use Rattle.names.specs.Sets.{subset as Sets·subset, union as Sets·union, has as Sets·has};
+ghost use Rattle.names.specs.Sets.{subset as Sets·subset, union as Sets·union, shared as Sets·shared, less as Sets·less, lowest as Sets·lowest, has as Sets·has};
 
 // Whether each name of t is in s.
 pub fn subset(t: u32, s: u32) -> bool
@@ -17,6 +17,28 @@ pub fn union(s: u32, t: u32) -> u32
     ensures { λ r. ⌜ r ≡ Sets·union s t ⌝ }
 {
     s | t
+}
+
+// The names of s that are in t.
+pub fn shared(s: u32, t: u32) -> u32
+    ensures { λ r. ⌜ r ≡ Sets·shared s t ⌝ }
+{
+    s & t
+}
+
+// The names of s that are not in t.
+pub fn less(s: u32, t: u32) -> u32
+    ensures { λ r. ⌜ r ≡ Sets·less s t ⌝ }
+{
+    s - (s & t)
+}
+
+// The least name of s as a set of its own.
+pub fn lowest(s: u32) -> u32
+    requires { ⌜ 0 < s ⌝ }
+    ensures { λ r. ⌜ r ≡ Sets·lowest s ⌝ }
+{
+    s - (s & (s - 1))
 }
 
 // How many names s holds: it decides degrees, limits and the fewest failures.

@@ -1,9 +1,9 @@
 -- Boolean tests as facts, tests over lists by their elements, and a list filled up with zeros. Assumes nothing.
 use Prim.Native.Nat.{suc, _≤_}
-use mathlib.Core.Path.{_≡_, refl, sym, subst}
+use mathlib.Core.Path.{_≡_, refl, sym, ap, subst}
 use mathlib.Core.Logic.{_⊎_, inl, inr}
 use mathlib.Core.Bool.{Bool, true, false, _&&_, _||_, not, cond}
-use mathlib.Core.List.{List, [], _∷_, _++_}
+use mathlib.Core.List.{List, [], _∷_, _++_, map}
 use native.Mathlib.Nat.{le-refl}
 use native.Mathlib.Omega.{arith}
 use lib.Dec.{T}
@@ -55,6 +55,11 @@ T-true false h = absurd h
 pub T-false : (b : Bool) → T (not b) → b ≡ false
 T-false true h = absurd h
 T-false false h = refl
+
+-- a test passes or not
+pub split : (b : Bool) → T b ⊎ T (not b)
+split true = inl tt
+split false = inr tt
 
 -- what holds of both branches, each with its test
 pub cond-ind {ℓ} : {A : Type 0} (P : A → Type ℓ) (b : Bool) (x y : A) → (T b → P x) → (T (not b) → P y) → P (cond b x y)
@@ -136,3 +141,14 @@ module _ {A : Type 0} where
   length-keep f (x ∷ l) =
       let h = length-keep f l in
       cond-ind (λ m. length m ≤ suc (length l)) (f x) (x ∷ keep f l) (keep f l) (λ _. omega arith) (λ _. omega arith)
+
+module _ {A B : Type 0} (f : A → B) where
+  pub map-in : (l : List A) (a : A) → In a l → In (f a) (map f l)
+  map-in [] a m = m
+  map-in (x ∷ l) a (inl e) = inl (ap f e)
+  map-in (x ∷ l) a (inr m) = inr (map-in l a m)
+
+  pub map-out : (l : List A) (b : B) → In b (map f l) → (a : A) × In a l × (b ≡ f a)
+  map-out [] b m = absurd m
+  map-out (x ∷ l) b (inl e) = (x, inl refl, e)
+  map-out (x ∷ l) b (inr m) = let r = map-out l b m in (r .0, inr (r .1), r .2)

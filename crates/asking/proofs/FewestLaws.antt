@@ -1,0 +1,156 @@
+-- The computed fewest failures are the fewest, and there are no others: the order of sets is total, so the best of the listed sets that work stands
+-- before each of them. And what a search by rising counts has to find, set by set. Assumes nothing.
+use mathlib.Core.Path.{_≡_, refl, sym, ap₂, subst}
+use mathlib.Core.Logic.{_⊎_, inl, inr, ⊎-elim}
+use mathlib.Core.Bool.{_&&_, not, cond}
+use mathlib.Core.List.{List, [], _∷_}
+use Prim.Native.Nat.{ℕ, _≤_, _<_}
+use native.Mathlib.Nat.{le-refl}
+use native.Mathlib.Decide.{decLt}
+use native.Mathlib.Omega.{arith}
+use lib.Dec.{T, T-not, not-T, leb, leb→le, nleb→lt, ltb, ltb→lt, nltb→le, eqb, eqb→eq, eqb-refl}
+use lib.Count.{ones}
+use lib.IntN.{ℤ, pos}
+use Rattle.predicates.specs.Lists.{all, keep, In}
+use Rattle.predicates.specs.Predicates.{holds}
+use Rattle.predicates.proofs.ListLaws.{both, both-l, both-r, or-cases, neither, cond-ind, keep-in, keep-out}
+use Rattle.state.specs.Model.{Datum, Store, State}
+use Rattle.asking.specs.declared.Answer.{Answer}
+use Rattle.asking.specs.declared.Answer.the-variants.{Contradicted, Open, Between}
+use Rattle.asking.specs.declared.Fewest.{Fewest}
+use Rattle.asking.specs.declared.Fewest.the-variants.{Over, Few}
+use Rattle.asking.specs.Instants.{Fine, Allowed, Gives}
+use Rattle.asking.specs.Asking.{leaves, sets}
+use Rattle.asking.specs.Claims.{neededAt, everything}
+use Rattle.asking.specs.Fewest.{some, works, before, best, choose, fewest, Works, Before, FewestOf}
+use Rattle.asking.proofs.AnswerLaws.{leaves-given, allowed-in, allowed-out}
+use Rattle.asking.proofs.ClaimLaws.{everything-out, needed-out}
+use Rattle.asking.proofs.EndLaws.{fine-ends}
+
+-- ---- the order
+
+before-out : (m s : ℕ) → T (before m s) → Before m s
+unfolding before
+before-out m s h =
+    ⊎-elim (λ k. inl (ltb→lt (ones m) (ones s) k))
+    (λ k. inr (eqb→eq (ones m) (ones s) (both-l (eqb (ones m) (ones s)) (leb m s) k), leb→le m s (both-r (eqb (ones m) (ones s)) (leb m s) k)))
+    (or-cases (ltb (ones m) (ones s)) (eqb (ones m) (ones s) && leb m s) h)
+
+before-not : (m s : ℕ) → T (not (before m s)) → Before s m
+unfolding before
+before-not m s h = go (decLt (ones s) (ones m))
+  where
+    go : Dec (ones s < ones m) → Before s m
+    go (yes k) = inl k
+    go (no k) =
+        let l = nltb→le (ones m) (ones s) (neither (ltb (ones m) (ones s)) (eqb (ones m) (ones s) && leb m s) h .0) in
+        let e : ones m ≡ ones s = omega arith in
+        let more : s < m =
+        nleb→lt m s (not-T (leb m s) (λ b.
+        T-not (eqb (ones m) (ones s) && leb m s) (neither (ltb (ones m) (ones s)) (eqb (ones m) (ones s) && leb m s) h .1)
+        (both (eqb (ones m) (ones s)) (leb m s) (subst (λ (x : ℕ). T (eqb (ones m) x)) e (eqb-refl (ones m))) b)))
+        in inr (sym e, omega arith)
+
+before-trans : (a b c : ℕ) → Before a b → Before b c → Before a c
+before-trans a b c (inl h) (inl k) = inl (omega arith)
+before-trans a b c (inl h) (inr k) = inl (omega arith)
+before-trans a b c (inr h) (inl k) = inl (omega arith)
+before-trans a b c (inr h) (inr k) = inr (omega arith, omega arith)
+
+before-self : (a : ℕ) → Before a a
+before-self a = inr (refl, le-refl a)
+
+-- ---- the best of a list
+
+best-in : (m : ℕ) (ss : List ℕ) → In (best m ss) (m ∷ ss)
+unfolding best
+best-in m [] = inl refl
+best-in m (s ∷ ss) =
+    cond-ind (λ k. In (best k ss) (k ∷ ss) → In (best k ss) (m ∷ s ∷ ss)) (before m s) m s
+    (λ _ i. ⊎-elim (λ e. inl e) (λ j. inr (inr j)) i) (λ _ i. inr i) (best-in (cond (before m s) m s) ss)
+
+best-before : (m : ℕ) (ss : List ℕ) (s : ℕ) → In s (m ∷ ss) → Before (best m ss) s
+unfolding best
+best-before m [] s (inl e) = subst (λ (x : ℕ). Before m x) (sym e) (before-self m)
+best-before m [] s (inr i) = absurd i
+best-before m (t ∷ ss) s i = go (cond (before m t) m t) first i (best-before (cond (before m t) m t) ss)
+  where
+    first : Before (cond (before m t) m t) m × Before (cond (before m t) m t) t
+    first =
+        cond-ind (λ k. Before k m × Before k t) (before m t) m t (λ h. (before-self m, before-out m t h)) (λ h. (before-not m t h, before-self t))
+
+    go : (k : ℕ) → Before k m × Before k t → In s (m ∷ t ∷ ss) → ((s : ℕ) → In s (k ∷ ss) → Before (best k ss) s) → Before (best k ss) s
+    go k f (inl e) rest = subst (λ (x : ℕ). Before (best k ss) x) (sym e) (before-trans (best k ss) k m (rest k (inl refl)) (f .0))
+    go k f (inr (inl e)) rest = subst (λ (x : ℕ). Before (best k ss) x) (sym e) (before-trans (best k ss) k t (rest k (inl refl)) (f .1))
+    go k f (inr (inr j)) rest = rest s (inr j)
+
+-- ---- the fewest of some sets
+
+module _ (W : ℕ → Type 0) where
+  choose-fewest : (ss : List ℕ) → ((s : ℕ) → In s ss → W s) → ((s : ℕ) → W s → In s ss) → FewestOf W (choose ss)
+  unfolding choose
+  choose-fewest [] f g = λ s w. g s w
+  choose-fewest (s ∷ ss) f g = (f (best s ss) (best-in s ss), refl, λ u w. best-before s ss u (g u w))
+
+  pub fewest-only : (a b : Fewest) → FewestOf W a → FewestOf W b → a ≡ b
+  fewest-only Over Over h k = refl
+  fewest-only Over (Few n m) h k = absurd (h m (k .0))
+  fewest-only (Few n m) Over h k = absurd (k m (h .0))
+  fewest-only (Few n m) (Few i j) h k = go (h .2 j (k .0)) (k .2 m (h .0))
+    where
+      go : Before m j → Before j m → Few n m ≡ Few i j
+      go (inl a) (inl b) = let c : ⊥ = omega arith in absurd c
+      go (inl a) (inr b) = let c : ⊥ = omega arith in absurd c
+      go (inr a) (inl b) = let c : ⊥ = omega arith in absurd c
+      go (inr a) (inr b) = ap₂ Few (omega (arith, h .1, k .1)) (omega arith)
+
+-- ---- the sets that work
+
+some-in : (P : ℤ → Type 0) (a : Answer) → Gives P a → (x : ℤ) × P x → T (some a)
+some-in P Contradicted g h = g (h .0) (h .1)
+some-in P Open g h = tt
+some-in P (Between l r) g h = tt
+
+some-out : (P : ℤ → Type 0) (a : Answer) → Gives P a → T (some a) → (x : ℤ) × P x
+some-out P Contradicted g h = absurd h
+some-out P Open g h = (pos 0, g (pos 0))
+some-out P (Between l r) g h = (pos l, g .0)
+
+pub fewest-is : (st : State) → FewestOf (Works st) (fewest st)
+unfolding fewest works
+fewest-is st =
+    let k = st .store in
+    let own = st .head .own in
+    choose-fewest (Works st) (keep (works k) (sets own 4))
+    (λ s m. let r = keep-out (works k) (sets own 4) s m in
+    (allowed-out 4 own s (r .0), some-out (λ x. Fine s k x) (leaves s k) (leaves-given s k) (r .1)))
+    (λ s w. keep-in (works k) (sets own 4) s (allowed-in 4 own s (w .0)) (some-in (λ x. Fine s k x) (leaves s k) (leaves-given s k) (w .1)))
+
+-- ---- what a search finds
+
+-- a set makes every predicate true, or those that a left end of held data needs
+abbrev pub Seen : ℕ → Store → Type 0
+Seen u k = T (all (holds u) (everything k)) ⊎ ((d : Datum) × In d (k .held) × T (all (holds u) (neededAt (d .left) k)))
+
+module _ (st : State) where
+  pub works-ends : (u : ℕ) → Works st u → Seen u (st .store)
+  works-ends u w =
+      ⊎-elim (λ t. inl t) (λ e. inr (e .first, e .first-held, e .first-true))
+      (fine-ends u (st .store) (w .1 .0) (w .1 .1))
+
+  pub ends-works : (u : ℕ) → Allowed 4 (st .head .own) u → Seen u (st .store) → Works st u
+  ends-works u a (inl t) = (a, (pos 0, everything-out u (st .store) t (pos 0)))
+  ends-works u a (inr e) = (a, (pos (e .0 .left), needed-out u (st .store) (e .0 .left) (e .2)))
+
+  -- no set that works has fewer names than n, and m is the least of those that have no more
+  pub fewest-found : (n m : ℕ) → Works st m → ones m ≤ n → ((s : ℕ) → Works st s → n ≤ ones s) → ((s : ℕ) → Works st s → ones s ≤ n → m ≤ s)
+      → Few n m ≡ fewest st
+  fewest-found n m w h f g =
+      fewest-only (Works st) (Few n m) (fewest st) (w, omega (arith, f m w), λ s v. go s v (decLt (ones m) (ones s))) (fewest-is st)
+    where
+      go : (s : ℕ) → Works st s → Dec (ones m < ones s) → Before m s
+      go s v (yes l) = inl l
+      go s v (no l) = inr (omega (arith, f m w, f s v), g s v (omega (arith, f m w)))
+
+  pub fewest-over : ((s : ℕ) → Works st s → ⊥) → Over ≡ fewest st
+  fewest-over f = fewest-only (Works st) Over (fewest st) f (fewest-is st)

@@ -1,0 +1,11 @@
+-- The laws of asking: instants, what they need, the answer, the answer from the ends of the held intervals, the fewest failures; then the search,
+-- by sets and over the flat arrays.
+pub mod InstantLaws
+pub mod ClaimLaws
+pub mod AnswerLaws
+pub mod PlainLaws
+pub mod EndLaws
+pub mod FewestLaws
+pub mod SearchLaws
+pub mod LastLaws
+pub mod SearchSteps

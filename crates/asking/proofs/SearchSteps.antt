@@ -1,0 +1,287 @@
+-- One turn of each loop and call of the search, over the predicates in the flat arrays. No contract cites this file. Assumes nothing.
+use Prim.Native.Nat.{ℕ, suc, _+_, _-_, _*_, _≤_, _<_, min}
+use mathlib.Core.Path.{_≡_, refl, sym, ap, subst, _∙_}
+use mathlib.Core.Logic.{_⊎_, inl, inr}
+use mathlib.Core.Bool.{Bool, true, false, not, _&&_, cond}
+use mathlib.Core.List.{List, [], _∷_}
+use native.Mathlib.Nat.{le-trans, le-refl}
+use native.Mathlib.Numerals.{add-one}
+use native.Mathlib.Omega.{arith}
+use borrow.Author.Tests.{le-leb, lt-leb, le-ltb, lt-ltb, eq-eqb, ne-eqb}
+use lib.Dec.{T, T-not, leb, leb→le, le→leb, ltb, ltb→lt, nltb→le, eqb, eqb→eq}
+use lib.Count.{ones}
+use lib.ListN.{length, getD, take, drop, drop-of-length-le}
+use lib.Seq.{drop-cons}
+use Rattle.numbers.specs.Numbers.{tab}
+use Rattle.numbers.proofs.NumberLaws.{length-tab, getD-tab}
+use Rattle.names.specs.Sets.{subset, union, shared, less, lowest}
+use Rattle.names.proofs.SetLaws.{subset-le, subset-trans, union-least, ones-mono}
+use Rattle.names.proofs.PartLaws.{less-add}
+use Rattle.predicates.specs.Predicates.{holds}
+use Rattle.predicates.proofs.ListLaws.{both, both-l, both-r, true-T, split, cond-ind}
+use Rattle.predicates.proofs.LoopLaws.{drop-next}
+use Rattle.asking.specs.Search.{Fits, Best, skipped, alone, sieve, predAt, preds}
+use Rattle.asking.proofs.LastLaws.{sieve-stop, sieve-above, last-none, last-found}
+use Rattle.asking.proofs.SearchLaws.{best-skipped, best-done, best-full, terms-none, terms-skip, terms-stop, terms-on, terms-bar}
+
+-- ---- the predicates from place i on
+
+module _ (n : ℕ) (listed counts masks : List ℕ) where
+  abbrev pub rest : ℕ → List (List ℕ)
+  rest i = drop i (preds n listed counts masks)
+
+  pub rest-next : (i : ℕ) → i < n → rest i ≡ predAt listed counts masks i ∷ rest (i + 1)
+  unfolding preds
+  rest-next i h =
+      rw add-one
+      (drop-cons (tab n (predAt listed counts masks)) i [] (rw length-tab h)
+      ∙ ap (λ (p : List ℕ). p ∷ drop (suc i) (tab n (predAt listed counts masks))) (getD-tab n i (predAt listed counts masks) [] h))
+
+  pub rest-none : (i : ℕ) → n ≤ i → rest i ≡ []
+  unfolding preds
+  rest-none i h = drop-of-length-le (tab n (predAt listed counts masks)) {i = i} (rw length-tab h)
+
+  module _ (s i : ℕ) where
+    pub skip-here : i < n → holds s (predAt listed counts masks i) ≡ false → rest i ≡ skipped s (rest i)
+    unfolding skipped
+    skip-here h e = sym (ap (λ (ps : List (List ℕ)). skipped s ps) (rest-next i h) ∙ rw e refl ∙ sym (rest-next i h))
+
+    pub skip-next : i < n → holds s (predAt listed counts masks i) ≡ true → skipped s (rest (i + 1)) ≡ skipped s (rest i)
+    unfolding skipped
+    skip-next h e = sym (ap (λ (ps : List (List ℕ)). skipped s ps) (rest-next i h) ∙ rw e refl)
+
+    pub skip-done : n ≤ i → rest n ≡ skipped s (rest i)
+    unfolding skipped
+    skip-done h = rest-none n (omega arith) ∙ sym (ap (λ (ps : List (List ℕ)). skipped s ps) (rest-none i h))
+
+    pub sieve-turn : (limit m x : ℕ) → i < n
+        → x ≡ cond (holds s (predAt listed counts masks i)) m (shared m (alone limit s (predAt listed counts masks i)))
+        → sieve limit s m (rest i) ≡ sieve limit s x (rest (i + 1))
+    unfolding sieve
+    sieve-turn limit m x h e =
+        ap (λ (ps : List (List ℕ)). sieve limit s m ps) (rest-next i h) ∙ ap (λ (y : ℕ). sieve limit s y (rest (i + 1))) (sym e)
+
+    pub sieve-done : (limit m : ℕ) → n ≤ i → sieve limit s m (rest i) ≡ m
+    unfolding sieve
+    sieve-done limit m h = ap (λ (ps : List (List ℕ)). sieve limit s m ps) (rest-none i h)
+
+-- the part of the array from `at` to `end`, where the code found the terms to stand
+pub pred-part : (listed counts masks : List ℕ) (j at end : ℕ) → at ≡ getD listed j 0 * 16
+    → end ≡ getD listed j 0 * 16 + getD counts (getD listed j 0) 0 → take (end - at) (drop at masks) ≡ predAt listed counts masks j
+unfolding predAt
+pred-part listed counts masks j at end a b =
+    let width : end - at ≡ getD counts (getD listed j 0) 0 = omega arith in
+    ap (λ (w : ℕ). take w (drop at masks)) width ∙ ap (λ (x : ℕ). take (getD counts (getD listed j 0) 0) (drop x masks)) a
+
+-- the first of the predicates, if there is one, is left false
+abbrev First : ℕ → List (List ℕ) → Type 0
+First s [] = Unit {0}
+First s (p ∷ ps) = T (not (holds s p))
+
+skipped-first : (s : ℕ) (ps : List (List ℕ)) → First s (skipped s ps)
+unfolding skipped
+skipped-first s [] = tt
+skipped-first s (p ∷ ps) = cond-ind (First s) (holds s p) (skipped s ps) (p ∷ ps) (λ _. skipped-first s ps) (λ n. n)
+
+-- ---- the predicate step: k is the place of the next predicate from i on that s leaves false
+
+module _ (n : ℕ) (listed counts masks : List ℕ) (s i k : ℕ) (e : rest n listed counts masks k ≡ skipped s (rest n listed counts masks i)) where
+  pub next-false : k < n → T (not (holds s (predAt listed counts masks k)))
+  next-false h =
+      subst (First s) (sym e ∙ rest-next n listed counts masks k h) (skipped-first s (rest n listed counts masks i))
+
+  module _ (enough limit free best : ℕ) where
+    pub step-back : (r : ℕ) → Best enough limit s free (rest n listed counts masks k) best r → Best enough limit s free (rest n listed counts masks i) best r
+    step-back r b =
+        best-skipped enough limit s free best r (rest n listed counts masks i) (subst (λ (ps : List (List ℕ)). Best enough limit s free ps best r) e b)
+
+    pub step-done : n ≤ k → ones s ≤ limit → Best enough limit s free (rest n listed counts masks i) best (min s best)
+    step-done h few =
+        step-back (min s best)
+        (subst (λ (ps : List (List ℕ)). Best enough limit s free ps best (min s best)) (sym (rest-none n listed counts masks k h))
+        (best-done enough limit s free best few))
+
+    pub step-full : k < n → limit ≤ ones s → Best enough limit s free (rest n listed counts masks i) best best
+    step-full h few =
+        step-back best
+        (subst (λ (ps : List (List ℕ)). Best enough limit s free ps best best) (sym (rest-next n listed counts masks k h))
+        (best-full enough limit s free best (predAt listed counts masks k) (rest n listed counts masks (k + 1)) (next-false h) few))
+
+    pub step-terms : (r at end : ℕ) → k < n → at ≡ getD listed k 0 * 16 → end ≡ getD listed k 0 * 16 + getD counts (getD listed k 0) 0
+        → Best enough limit s free (take (end - at) (drop at masks) ∷ rest n listed counts masks (k + 1)) best r
+        → Best enough limit s free (rest n listed counts masks i) best r
+    step-terms r at end h p q b =
+        step-back r
+        (subst (λ (ps : List (List ℕ)). Best enough limit s free ps best r) (sym (rest-next n listed counts masks k h))
+        (subst (λ (ts : List ℕ). Best enough limit s free (ts ∷ rest n listed counts masks (k + 1)) best r) (pred-part listed counts masks k at end p q) b))
+
+-- ---- the term step
+
+module _ (enough limit s free best : ℕ) (masks : List ℕ) (at end : ℕ) (ps : List (List ℕ)) where
+  pub term-none : end ≤ at → Best enough limit s free (take (end - at) (drop at masks) ∷ ps) best best
+  term-none h =
+      let width : end - at ≡ 0 = omega arith in
+      let none : take (end - at) (drop at masks) ≡ [] = ap (λ (w : ℕ). take w (drop at masks)) width in
+      subst (λ (ts : List ℕ). Best enough limit s free (ts ∷ ps) best best) (sym none) (terms-none enough limit s free ps best)
+
+  module _ (h : at < end) (k : end ≤ length masks) where
+    abbrev t : ℕ
+    t = getD masks at 0
+
+    abbrev ts : List ℕ
+    ts = take (end - (at + 1)) (drop (at + 1) masks)
+
+    first : take (end - at) (drop at masks) ≡ t ∷ ts
+    first =
+        let width : end - at ≡ suc (end - (at + 1)) = omega arith in
+        let next : drop at masks ≡ t ∷ drop (at + 1) masks = drop-next masks at (omega arith) in
+        rw (width, next)
+
+    back : (r : ℕ) → Best enough limit s free ((t ∷ ts) ∷ ps) best r → Best enough limit s free (take (end - at) (drop at masks) ∷ ps) best r
+    back r b = subst (λ (us : List ℕ). Best enough limit s free (us ∷ ps) best r) (sym first) b
+
+    -- the term is not worth a try
+    pub term-skip : (r : ℕ) → subset t (union s free) && (ltb (union s t) best && leb (ones (union s t)) limit) ≡ false
+        → Best enough limit s free (ts ∷ ps) best r → Best enough limit s free (take (end - at) (drop at masks) ∷ ps) best r
+    term-skip r e b =
+        back r (terms-skip enough limit s free ps t ts best r (λ u f m. high u f m (split (ltb (union s t) best))) b)
+      where
+        high : (u : ℕ) → Fits limit s free ((t ∷ ts) ∷ ps) u → T (subset t u) → T (ltb (union s t) best) ⊎ T (not (ltb (union s t) best)) → best ≤ u
+        high u f m (inr l) =
+            le-trans (nltb→le (union s t) best l) (subset-le (union s t) u (union-least s t u (f .above) m))
+        high u f m (inl l) =
+            let wide = union-least s t u (f .above) m in
+            absurd (subst (λ (b : Bool). T b) e
+            (both (subset t (union s free)) (ltb (union s t) best && leb (ones (union s t)) limit) (subset-trans t u (union s free) m (f .within))
+            (both (ltb (union s t) best) (leb (ones (union s t)) limit) l
+            (le→leb (ones (union s t)) limit (le-trans (ones-mono (union s t) u wide) (f .few))))))
+
+    module _ (found : ℕ) (w : subset t (union s free) && (ltb (union s t) best && leb (ones (union s t)) limit) ≡ true)
+        (b : Best enough limit (union s t) free ps best found) where
+      room : T (subset t (union s free))
+      room = both-l (subset t (union s free)) (ltb (union s t) best && leb (ones (union s t)) limit) (true-T _ w)
+
+      pub term-stop : found < enough → Best enough limit s free (take (end - at) (drop at masks) ∷ ps) best found
+      term-stop l = back found (terms-stop enough limit s free ps t ts best found room b l)
+
+      pub term-on : (left r : ℕ) → enough ≤ found → left ≡ cond (eqb (ones (union s t)) (ones s + 1)) (less free t) free
+          → Best enough limit s left (ts ∷ ps) found r → Best enough limit s free (take (end - at) (drop at masks) ∷ ps) best r
+      term-on left r l e c =
+          cond-ind (λ x. Best enough limit s x (ts ∷ ps) found r → Best enough limit s free (take (end - at) (drop at masks) ∷ ps) best r)
+          (eqb (ones (union s t)) (ones s + 1)) (less free t) free
+          (λ o d. back r (terms-bar enough limit s free ps t ts best found room b r l (eqb→eq (ones (union s t)) (ones s + 1) o) d))
+          (λ _ d. back r (terms-on enough limit s free ps t ts best found room b r l d))
+          (subst (λ (x : ℕ). Best enough limit s x (ts ∷ ps) found r) e c)
+
+-- ---- whether a term is worth a try, and what is free then
+
+module _ (t s free limit best w v : ℕ) (room : Bool) (a : w ≡ union s t) (b : v ≡ union s free) (d : room ≡ subset t v) where
+  abbrev worth : Bool
+  worth = subset t (union s free) && (ltb (union s t) best && leb (ones (union s t)) limit)
+
+  fits : (x : Bool) → room ≡ x → subset t (union s free) ≡ x
+  fits x e = ap (subset t) (sym b) ∙ sym d ∙ e
+
+  pub worth-room : room ≡ false → false ≡ worth
+  worth-room e = rw (fits false e)
+
+  pub worth-high : room ≡ true → best ≤ w → false ≡ worth
+  worth-high e h = rw (fits true e, le-ltb (union s t) best (omega arith))
+
+  pub worth-count : (r : ℕ) → room ≡ true → w < best → r ≡ ones w → leb r limit ≡ worth
+  worth-count r e h c = rw (fits true e, lt-ltb (union s t) best (omega arith), c, a)
+
+module _ (t s free w x y : ℕ) (a : w ≡ union s t) (b : x ≡ ones w) (c : y ≡ ones s) where
+  pub freed-one : x ≡ y + 1 → (r : ℕ) → r ≡ less free t → r ≡ cond (eqb (ones (union s t)) (ones s + 1)) (less free t) free
+  freed-one e r d = rw (eq-eqb (ones (union s t)) (ones s + 1) (omega (arith, ap ones a))) d
+
+  pub freed-more : (x ≡ y + 1 → ⊥) → free ≡ cond (eqb (ones (union s t)) (ones s + 1)) (less free t) free
+  freed-more f = rw (ne-eqb (ones (union s t)) (ones s + 1) (λ e. f (omega (arith, ap ones a))))
+
+-- within the limit, as the next call asks
+pub worth-few : (limit s free t best : ℕ) → subset t (union s free) && (ltb (union s t) best && leb (ones (union s t)) limit) ≡ true
+    → ones (union s t) ≤ limit
+worth-few limit s free t best w =
+    leb→le (ones (union s t)) limit
+    (both-r (ltb (union s t) best) (leb (ones (union s t)) limit)
+    (both-r (subset t (union s free)) (ltb (union s t) best && leb (ones (union s t)) limit) (true-T _ w)))
+
+-- ---- the names that do alone
+
+-- from the last term to the first: i is the place before which the names are known
+module _ (limit s : ℕ) (p : List ℕ) (i names w x : ℕ) (h : 0 < i) (l : i ≤ length p) (e : names ≡ alone limit s (drop i p))
+    (a : w ≡ union s (getD p (i - 1) 0)) (b : x ≡ ones w) where
+  last : drop (i - 1) p ≡ getD p (i - 1) 0 ∷ drop i p
+  last = let back : i - 1 + 1 ≡ i = omega arith in rw back at (drop-next p (i - 1) (omega arith))
+
+  pub alone-with : x ≤ limit → (r : ℕ) → r ≡ union w names → r ≡ alone limit s (drop (i - 1) p)
+  unfolding alone
+  alone-with k r d = rw (last, le-leb (ones (union s (getD p (i - 1) 0))) limit (omega (arith, ap ones a)), sym a, sym e) d
+
+  pub alone-past : limit < x → names ≡ alone limit s (drop (i - 1) p)
+  unfolding alone
+  alone-past k = rw (last, lt-leb (ones (union s (getD p (i - 1) 0))) limit (omega (arith, ap ones a))) e
+
+-- what is left of the names after the predicate at place j
+module _ (listed counts masks : List ℕ) (j limit s m at end : ℕ) (p : at ≡ getD listed j 0 * 16)
+    (q : end ≡ getD listed j 0 * 16 + getD counts (getD listed j 0) 0) where
+  abbrev sifted : ℕ
+  sifted = cond (holds s (predAt listed counts masks j)) m (shared m (alone limit s (predAt listed counts masks j)))
+
+  same : take (end - at) (drop at masks) ≡ predAt listed counts masks j
+  same = pred-part listed counts masks j at end p q
+
+  pub sift-all : (b : Bool) → b ≡ holds s (take (end - at) (drop at masks)) → b ≡ true → m ≡ sifted
+  sift-all b e h = let t : holds s (predAt listed counts masks j) ≡ true = ap (holds s) (sym same) ∙ sym e ∙ h in rw t
+
+  pub sift-some : (b : Bool) (x r : ℕ) → b ≡ holds s (take (end - at) (drop at masks)) → b ≡ false → x ≡ alone limit s (take (end - at) (drop at masks))
+      → r ≡ shared m x → r ≡ sifted
+  sift-some b x r e h a c =
+      let t : holds s (predAt listed counts masks j) ≡ false = ap (holds s) (sym same) ∙ sym e ∙ h in
+      rw t (c ∙ ap (shared m) (a ∙ ap (alone limit s) same))
+
+pub alone-none : (limit s : ℕ) (p : List ℕ) → s ≡ alone limit s (drop (length p) p)
+unfolding alone
+alone-none limit s p = rw (drop-of-length-le p {i = length p} (le-refl (length p)))
+
+-- ---- the last name: m are the names that do for the predicates from k up to j
+
+module _ (n : ℕ) (listed counts masks : List ℕ) (limit s free k best : ℕ) (few : ones s + 1 ≡ limit) (h : k < n)
+    (left : T (not (holds s (predAt listed counts masks k)))) where
+  abbrev names : ℕ
+  names = sieve limit s (union s free) (rest n listed counts masks k)
+
+  first-rest : rest n listed counts masks k ≡ predAt listed counts masks k ∷ rest n listed counts masks (k + 1)
+  first-rest = rest-next n listed counts masks k h
+
+  -- none is left at place j
+  pub last-stop : (j m : ℕ) → names ≡ sieve limit s m (rest n listed counts masks j) → m ≡ s → (enough : ℕ)
+      → Best enough limit s free (rest n listed counts masks k) best best
+  last-stop j m e z enough =
+      let done : names ≡ s = e ∙ ap (λ (x : ℕ). sieve limit s x (rest n listed counts masks j)) z ∙ sieve-stop limit s few (rest n listed counts masks j) in
+      subst (λ (ps : List (List ℕ)). Best enough limit s free ps best best) (sym first-rest)
+      (last-none limit s few enough free best (predAt listed counts masks k) (rest n listed counts masks (k + 1)) left
+      (ap (sieve limit s (union s free)) (sym first-rest) ∙ done))
+
+  -- some are left at the end
+  pub last-least : (m v c u r : ℕ) → names ≡ m → (m ≡ s → ⊥) → v ≡ less m s → c ≡ lowest v → u ≡ union s c → r ≡ min u best → (enough : ℕ)
+      → Best enough limit s free (rest n listed counts masks k) best r
+  last-least m v c u r e f a b d g enough =
+      let same : sieve limit s (union s free) (predAt listed counts masks k ∷ rest n listed counts masks (k + 1)) ≡ m =
+      ap (sieve limit s (union s free)) (sym first-rest) ∙ e in
+      let result : min (union s (lowest (less m s))) best ≡ r = sym (g ∙ ap (λ (x : ℕ). min x best) (d ∙ ap (union s) (b ∙ ap lowest a))) in
+      subst (λ (ps : List (List ℕ)). Best enough limit s free ps best r) (sym first-rest)
+      (subst (λ (x : ℕ). Best enough limit s free (predAt listed counts masks k ∷ rest n listed counts masks (k + 1)) best x) result
+      (subst (λ (x : ℕ). Best enough limit s free (predAt listed counts masks k ∷ rest n listed counts masks (k + 1)) best (min (union s (lowest (less x s))) best)) same
+      (last-found limit s few enough free best (predAt listed counts masks k) (rest n listed counts masks (k + 1)) left (λ q. f (sym (q ∙ same))))))
+
+  -- names are left beyond s
+  pub last-some : (m : ℕ) → T (subset s (union s free)) → names ≡ m → (m ≡ s → ⊥) → 0 < less m s
+  last-some m i e f =
+      go (less m s) (less-add s m (subst (λ (x : ℕ). T (subset s x)) e (sieve-above limit s few (union s free) (rest n listed counts masks k) i)))
+    where
+      go : (d : ℕ) → s + d ≡ m → 0 < d
+      go d q = lt-of (λ z. f (omega arith))
+        where
+          lt-of : (d ≡ 0 → ⊥) → 0 < d
+          lt-of g = omega arith

@@ -1,0 +1,5 @@
+pub mod Instants
+pub mod Asking
+pub mod Fewest
+pub mod Claims
+pub mod Search

@@ -1,0 +1,67 @@
+-- The search for a set of failed names that makes predicates true (document 01, "Fewest failures", last sentences): "from an unexplained predicate to
+-- its terms, from a term to the next unexplained predicate". What a search has to bring is said by sets (`Best`), not by its order.
+-- Assumes nothing: these are definitions.
+use Prim.Native.Nat.{ℕ, _+_, _*_, _^_, _≤_, _<_}
+use mathlib.Core.Path.{_≡_}
+use mathlib.Core.Logic.{_⊎_}
+use mathlib.Core.Bool.{cond}
+use mathlib.Core.List.{List, [], _∷_}
+use lib.Dec.{T, leb}
+use lib.Count.{ones}
+use lib.ListN.{length, getD, take, drop}
+use Rattle.numbers.specs.Numbers.{tab}
+use Rattle.names.specs.Sets.{subset, union, shared}
+use Rattle.predicates.specs.Lists.{all}
+use Rattle.predicates.specs.Predicates.{holds}
+
+-- ---- what is looked for
+
+-- u is s with names that are free, within the limit, and makes the predicates true
+pub record Fits (limit s free : ℕ) (ps : List (List ℕ)) (u : ℕ) : Type 0 where
+  pub above : T (subset s u)
+  pub within : T (subset u (union s free))
+  pub few : ones u ≤ limit
+  pub holding : T (all (holds u) ps)
+
+-- r comes of a search that had `best` before it: it is the least mask of those that fit and of `best`, or one of them below `enough`, at which the
+-- search may stop
+pub record Best (enough limit s free : ℕ) (ps : List (List ℕ)) (best r : ℕ) : Type 0 where
+  pub from : (r ≡ best) ⊎ Fits limit s free ps r
+  pub low : r ≤ best
+  pub least : (u : ℕ) → Fits limit s free ps u → (r ≤ u) ⊎ (r < enough)
+
+-- more than every set of names: the mask of no set
+abbrev pub none : ℕ
+none = 2 ^ 29
+
+-- ---- on the way
+
+-- from the next predicate on that the set leaves false
+unfoldable pub skipped : ℕ → List (List ℕ) → List (List ℕ)
+skipped s [] = []
+skipped s (p ∷ ps) = cond (holds s p) (skipped s ps) (p ∷ ps)
+
+-- s with the names that alone, beside s, make the predicate true within the limit
+unfoldable pub alone : ℕ → ℕ → List ℕ → ℕ
+alone limit s [] = s
+alone limit s (t ∷ p) = cond (leb (ones (union s t)) limit) (union (union s t) (alone limit s p)) (alone limit s p)
+
+-- of the names in m those that alone do for every predicate that s leaves false
+unfoldable pub sieve : ℕ → ℕ → ℕ → List (List ℕ) → ℕ
+sieve limit s m [] = m
+sieve limit s m (p ∷ ps) = sieve limit s (cond (holds s p) m (shared m (alone limit s p))) ps
+
+-- ---- predicates in a flat array: row k has its count at k and its terms from 16 * k on; `listed` has the rows in the order of the search
+
+unfoldable pub predAt : List ℕ → List ℕ → List ℕ → ℕ → List ℕ
+predAt listed counts masks j = take (getD counts (getD listed j 0) 0) (drop (getD listed j 0 * 16) masks)
+
+unfoldable pub preds : ℕ → List ℕ → List ℕ → List ℕ → List (List ℕ)
+preds n listed counts masks = tab n (predAt listed counts masks)
+
+-- the first n rows that are listed lie in the arrays
+pub record Rows (n : ℕ) (listed counts masks : List ℕ) : Type 0 where
+  pub listed-long : n ≤ length listed
+  pub counted : (j : ℕ) → j < n → getD listed j 0 < length counts
+  pub narrow : (j : ℕ) → j < n → getD counts (getD listed j 0) 0 ≤ 16
+  pub long : (j : ℕ) → j < n → getD listed j 0 * 16 + getD counts (getD listed j 0) 0 ≤ length masks

@@ -1,0 +1,129 @@
+-- What C reads in the bytes that asking and the fewest failures write is the answer, and what an answer tells of the instants.
+-- The idea: each number stands in 8 bytes of its own, and fits them. An end of an answer is an instant that counts; it lies in an active datum's
+-- interval, whose ends are below 2^58, since without an active datum all instants would count and no end would be the last. A set of the fewest
+-- failures has names from 0 to 28, at most 4 of them. Assumes nothing.
+use Prim.Native.Nat.{ℕ, suc, _*_, _^_, _≤_, _<_}
+use mathlib.Core.Path.{_≡_, subst}
+use mathlib.Core.Logic.{_↔_, _⊎_, inl, inr}
+use mathlib.Core.Bool.{Bool, true, _&&_}
+use mathlib.Core.List.{List, [], _∷_}
+use native.Mathlib.Nat.{zero-add}
+use native.Mathlib.Omega.{arith}
+use lib.Dec.{T, ltb, ltb→lt, lt→ltb}
+use lib.ListN.{length, getD, drop}
+use lib.IntN.{ℤ, pos, negsuc}
+use borrow.Author.Tests.{ne-eqb}
+use Rattle.numbers.specs.Numbers.{num, bytes, put}
+use Rattle.numbers.proofs.NumberLaws.{length-bytes, put-front}
+use Rattle.predicates.specs.Lists.{all, In}
+use Rattle.predicates.proofs.ListLaws.{both, all-out}
+use Rattle.state.specs.Model.{Datum, State, endLimit}
+use Rattle.state.specs.Layout.{joined}
+use Rattle.state.specs.Form.{datumOk, stateOk}
+use Rattle.state.proofs.StateLaws.{state-out}
+use Rattle.state.proofs.LayoutLaws.{At, all-getD, at-joined, length-joined, num-at}
+use Rattle.engine.proofs.ReceiveLaws.{ok-datum-out}
+use Rattle.asking.specs.declared.Answer.{Answer}
+use Rattle.asking.specs.declared.Answer.the-variants.{Contradicted, Open, Between}
+use Rattle.asking.specs.declared.Fewest.{Fewest}
+use Rattle.asking.specs.declared.Fewest.the-variants.{Over, Few}
+use Rattle.asking.specs.Instants.{Within, InAll, Counts, Gives}
+use Rattle.asking.specs.Asking.{answerNumbers}
+use Rattle.asking.specs.Fewest.{Works, FewestOf, fewestNumbers}
+use Rattle.asking.proofs.AnswerLaws.{gives-one}
+use Rattle.monitor.specs.Ask.{wide}
+use Rattle.monitor.specs.Runs.{answerIn, fewestIn, AtLeast, AtMost, Least, Greatest, Tells}
+use Rattle.monitor.proofs.ReceiptMeaning.{Active, inall-each, active-cases}
+
+-- ---- numbers of 8 bytes
+
+abbrev Small : ℕ → Bool
+Small x = ltb x (256 ^ 8)
+
+-- number i of those in front
+wide-num : (ns out : List ℕ) → T (all Small ns) → length ns * 8 ≤ length out → (i : ℕ) → i < length ns
+    → num (i * 8) 8 (put 0 (wide ns) out) ≡ getD ns i 0
+unfolding wide
+wide-num ns out t h i k =
+    let sized : (x : ℕ) → T (Small x) → length (bytes 8 x) ≡ 8 = λ x _. length-bytes 8 x in
+    let vs = joined (bytes 8) ns in
+    let long : length vs ≡ length ns * 8 = length-joined (bytes 8) Small 8 sized ns t in
+    let front : At 0 vs (put 0 vs out) = (drop (length ns * 8) out, put-front (length ns * 8) vs out long h) in
+    num-at 8 (i * 8) (getD ns i 0) (put 0 vs out) (ltb→lt _ (256 ^ 8) (all-getD Small ns i 0 t k))
+    (rw zero-add at (at-joined (bytes 8) Small 8 sized 0 0 i ns (put 0 vs out) t k front))
+
+-- ---- the answer in the output
+
+-- what stands in 8 bytes, with room
+abbrev Fits : Answer → Type 0
+Fits Contradicted = Unit {0}
+Fits Open = Unit {0}
+Fits (Between l r) = (l < endLimit) × (r < endLimit)
+
+pub answer-in : (a : Answer) (out : List ℕ) → Fits a → 24 ≤ length out → answerIn (put 0 (wide (answerNumbers a)) out) ≡ a
+unfolding answerIn answerNumbers
+answer-in Contradicted out f h = rw (wide-num (0 ∷ 0 ∷ 0 ∷ []) out tt h 0 (omega arith))
+answer-in Open out f h = rw (wide-num (1 ∷ 0 ∷ 0 ∷ []) out tt h 0 (omega arith))
+answer-in (Between l r) out f h =
+    let ns : List ℕ = 2 ∷ l ∷ r ∷ [] in
+    let small : T (all Small ns) =
+    both (Small l) (Small r && true) (lt→ltb l (256 ^ 8) (omega arith)) (both (Small r) true (lt→ltb r (256 ^ 8) (omega arith)) tt) in
+    rw (wide-num ns out small h 0 (omega arith), wide-num ns out small h 1 (omega arith), wide-num ns out small h 2 (omega arith))
+
+-- the ends of an answer over a right state
+pub answer-fits : (limit : ℕ) (st : State) → T (stateOk st) → (a : Answer) → Gives (Counts limit st) a → Fits a
+answer-fits limit st t Contradicted g = tt
+answer-fits limit st t Open g = tt
+answer-fits limit st t (Between l r) g =
+    let low = g .2 (pos l) (g .0) in
+    let high = last (g .1) in
+    (omega arith, high)
+  where
+    last : Counts limit st (pos r) → r < endLimit
+    last (s, a, fine) = go (active-cases s (st .store .held))
+      where
+        go : ((d : Datum) × In d (st .store .held) × Active s d) ⊎ ((x : ℤ) → InAll s (st .store .held) x) → r < endLimit
+        go (inl (d, m, b)) =
+            let own = st .head .own in
+            let o = ok-datum-out own d (all-out (datumOk own) (st .store .held) (state-out st t .held) d m) in
+            omega (arith, inall-each s (pos r) (st .store .held) .0 (fine .1) d m b .1)
+        go (inr f) = absurd (omega (arith, g .2 (pos (suc r)) (s, a, (fine .0, f (pos (suc r)))) .1))
+
+-- ---- what the answer tells
+
+within-ends : (l r : ℕ) (x : ℤ) → Within l r x ↔ (AtLeast l x × AtMost r x)
+within-ends l r (pos n) = (λ h. h, λ h. h)
+within-ends l r (negsuc n) = (λ h. absurd h, λ h. h .0)
+
+ends-give : (P : ℤ → Type 0) (l r : ℕ) → Gives P (Between l r) ↔ (Least P l × Greatest P r)
+ends-give P l r = (
+  λ g. ((g .0, λ x p. within-ends l r x .0 (g .2 x p) .0), (g .1, λ x p. within-ends l r x .0 (g .2 x p) .1)),
+  λ e. (e .0 .0, e .1 .0, λ x p. within-ends l r x .1 (e .0 .1 x p, e .1 .1 x p)),
+)
+
+-- one set of instants gives one answer
+pub gives-tells : (P : ℤ → Type 0) (a : Answer) → Gives P a → Tells P a
+gives-tells P a g =
+    record {
+      contradicted = (λ e. subst (Gives P) e g, λ h. gives-one P a Contradicted g h);
+      unbounded = (λ e. subst (Gives P) e g, λ h. gives-one P a Open g h);
+      between = λ l r. (λ e. ends-give P l r .0 (subst (Gives P) e g), λ h. gives-one P a (Between l r) g (ends-give P l r .1 h));
+    }
+
+-- ---- the fewest failures
+
+pub fewest-in : (st : State) (a : Fewest) (out : List ℕ) → FewestOf (Works st) a → 16 ≤ length out → fewestIn (put 0 (wide (fewestNumbers a)) out) ≡ a
+unfolding fewestIn fewestNumbers
+fewest-in st Over out f h = rw (wide-num (5 ∷ 0 ∷ []) out tt h 0 (omega arith))
+fewest-in st (Few n m) out f h =
+    let a = f .0 .0 in
+    let few : n ≤ 4 = omega (arith, a .few, f .1) in
+    let ns = n ∷ m ∷ [] in
+    let small : T (all Small ns) =
+    both (Small n) (Small m && true) (lt→ltb n (256 ^ 8) (omega arith)) (both (Small m) true (lt→ltb m (256 ^ 8) (omega (arith, a .names))) tt) in
+    rw (wide-num ns out small h 0 (omega arith), wide-num ns out small h 1 (omega arith), ne-eqb n 5 (λ e. omega arith))
+
+-- the fewest of the same sets
+pub fewest-same : {U W : ℕ → Type 0} → ((s : ℕ) → U s ↔ W s) → (a : Fewest) → FewestOf U a → FewestOf W a
+fewest-same f Over h = λ s w. h s (f s .1 w)
+fewest-same f (Few n m) h = (f m .0 (h .0), h .1, λ s w. h .2 s (f s .1 w))

@@ -1,0 +1,64 @@
+-- Demand 3, over the bytes that C lends: after every run asking is taken, and its answer tells of the possible instants of the run's book what the
+-- demand says; and the fewest failures are those of the book.
+-- The idea: the instants that count over the state are the possible ones (`proofs.Runs`), so the answer over the state is theirs; the bytes are
+-- read back as that answer (`proofs.Answers`). The second half of the demand is `demand3·more` of `proofs.Further`. Assumes nothing.
+use Prim.Native.Nat.{ℕ, _≤_}
+use mathlib.Core.Path.{_≡_}
+use mathlib.Core.List.{List}
+use borrow.Author.Tests.{le-ltb}
+use lib.Dec.{T}
+use lib.ListN.{length}
+use Rattle.predicates.proofs.ListLaws.{T-true}
+use Rattle.state.specs.Layout.{stateOf}
+use Rattle.state.specs.Form.{inForm}
+use Rattle.state.proofs.StateLaws.{form-ok}
+use Rattle.asking.specs.Instants.{Counts}
+use Rattle.asking.specs.Asking.{answer}
+use Rattle.asking.specs.Fewest.{fewest}
+use Rattle.asking.proofs.AnswerLaws.{gives-same, answer-given}
+use Rattle.asking.proofs.FewestLaws.{fewest-is}
+use Rattle.monitor.specs.Ask.{askedBytes, askNumber, askOutput, fewestBytes, fewestNumber, fewestOutput}
+use Rattle.monitor.specs.Book.{Possible}
+use Rattle.monitor.specs.Runs.{stateAfter, book, Demand3, SetBySet, FewestByBook}
+use Rattle.monitor.proofs.Runs.{reached, set-by-set, allowed-same, counts-possible}
+use Rattle.monitor.proofs.Answers.{answer-in, answer-fits, gives-tells, fewest-in, fewest-same}
+
+-- ---- asking and the fewest failures are taken
+
+module _ (s : List ℕ) (long : 3032 ≤ length s) (form : T (inForm s)) (out : List ℕ) where
+  ask-taken : (limit : ℕ) → limit ≤ 4 → 24 ≤ length out → askNumber s limit out ≡ 0
+  unfolding askNumber
+  ask-taken limit l h =
+      rw (le-ltb (length s) 3032 long, T-true (inForm s) form, le-ltb 4 limit l, le-ltb (length out) 24 h)
+
+  fewest-taken : 16 ≤ length out → fewestNumber s out ≡ 0
+  unfolding fewestNumber
+  fewest-taken h = rw (le-ltb (length s) 3032 long, T-true (inForm s) form, le-ltb (length out) 16 h)
+
+pub demand3 : Demand3
+unfolding Demand3 askOutput askedBytes
+demand3 r limit l out h =
+    let s = stateAfter r in
+    let so = reached r in
+    let a = answer limit (stateOf s) in
+    let given = answer-given limit (stateOf s) in
+    let taken = ask-taken s (so .long) (so .form) out limit l h in (
+      taken,
+      rw (taken, answer-in a out (answer-fits limit (stateOf s) (form-ok s (so .form)) a given) h)
+          (gives-tells (Possible limit (book r)) a (gives-same (Counts limit (stateOf s)) (Possible limit (book r)) a (λ x. counts-possible r limit x .0) (λ x. counts-possible r limit x .1) given)),
+    )
+
+pub fewest-by-book : FewestByBook
+unfolding FewestByBook fewestOutput fewestBytes stateOf SetBySet
+fewest-by-book r out h =
+    let s = stateAfter r in
+    let so = reached r in
+    let a = fewest (stateOf s) in
+    let is = fewest-is (stateOf s) in
+    let taken = fewest-taken s (so .long) (so .form) out h in (
+      taken,
+      rw (taken, fewest-in (stateOf s) a out is h) (fewest-same (λ f. (
+        λ w. (allowed-same r 4 f .0 (w .0), (w .1 .0, set-by-set r f (w .1 .0) .0 (w .1 .1))),
+        λ w. (allowed-same r 4 f .1 (w .0), (w .1 .0, set-by-set r f (w .1 .0) .1 (w .1 .1))),
+      )) a is),
+    )

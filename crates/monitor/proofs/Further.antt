@@ -1,0 +1,106 @@
+-- Demand 3, second half: a run that takes further receipts makes no further instant possible.
+-- The idea: a book is fed the taken calls alone, so the two books are compared line by line. A line that both have keeps the order of the two
+-- books; one more receipt only takes paths away. Assumes nothing.
+use Prim.Native.Nat.{ℕ, zero, suc}
+use mathlib.Core.Path.{_≡_, refl, ap, subst, _∙_}
+use mathlib.Core.Logic.{inl, inr}
+use mathlib.Core.Bool.{Bool}
+use mathlib.Core.List.{List, [], _∷_}
+use native.Mathlib.Nat.{le-trans}
+use lib.IntN.{ℤ}
+use Rattle.numbers.specs.Numbers.{wordsOf}
+use Rattle.message.specs.declared.Reading.{Reading}
+use Rattle.message.specs.declared.Reading.the-variants.{Message, Refused}
+use Rattle.state.specs.Model.{Head}
+use Rattle.engine.specs.Receiving.{Delivery}
+use Rattle.engine.specs.Calls.{Setup, Call, age, receive, moved}
+use Rattle.monitor.specs.Messages.{readBytes}
+use Rattle.monitor.specs.Book.{Request, ageing, receipt, Step, Line, Book, opened, linesOf, entered, enteredReading, enteredRequest, noted, bookOf, sees, Ends}
+use Rattle.monitor.specs.Runs.{Run, stepsOf, book, ifTaken, takenOf, Extra, Further, Demand3·more}
+use Rattle.monitor.proofs.Agreement.{ends-out, ends-in}
+
+-- ---- the book of the taken calls
+
+written : Book → List Request → Book
+written b [] = b
+written b (q ∷ qs) = written (enteredRequest b q) qs
+
+book-written : (ps : List Step) (b : Book) → bookOf b ps ≡ written b (takenOf ps)
+unfolding bookOf written takenOf noted
+book-written [] b = refl
+book-written (p ∷ ps) b = book-written ps (noted (p .number) b (p .request)) ∙ go (p .number) (p .request) (takenOf ps)
+  where
+    go : (n : ℕ) (q : Request) (qs : List Request) → written (noted n b q) qs ≡ written b (ifTaken n q qs)
+    go zero q qs = refl
+    go (suc n) q qs = refl
+
+-- ---- one book lets through no more than another
+
+-- c has the head of b, and its paths end only where those of b do, whatever predicates are true
+record Less (c b : Book) : Type 0 where
+  head : c .head ≡ b .head
+  ends : (v : Line → Bool) (x : ℤ) → Ends v (c .lines) x → Ends v (b .lines) x
+
+-- the same call in both
+less-call : (c b : Book) (q : Call) → Less c b → Less (entered c q) (entered b q)
+unfolding entered
+less-call c b q l =
+    record {
+      head = ap (λ (h : Head). moved h q) (l .head);
+      ends = λ v x p.
+          let w = ends-out v (c .lines) (linesOf (c .head) q) x p in
+          ends-in v (b .lines) (linesOf (b .head) q) (w .0) x (l .ends v (w .0) (w .1)) (rw (← (l .head)) (w .2));
+    }
+
+-- a receipt in the first alone
+less-receipt : (c b : Book) (g : Delivery) → Less c b → Less (entered c (receive g)) b
+unfolding entered moved linesOf
+less-receipt c b g l =
+    record {
+      head = l .head;
+      ends = λ v x p. let w = ends-out v (c .lines) (linesOf (c .head) (receive g)) x p in rw (w .2 .1) at (l .ends v (w .0) (w .1));
+    }
+
+module _ (c b : Book) (l : Less c b) where
+  less-both : (q : Request) → Less (enteredRequest c q) (enteredRequest b q)
+  unfolding enteredRequest enteredReading
+  less-both (ageing reading) = less-call c b (age reading) l
+  less-both (receipt least greatest m) = go (readBytes m)
+    where
+      go : (r : Reading) → Less (enteredReading c least greatest r (wordsOf m)) (enteredReading b least greatest r (wordsOf m))
+      go (Refused number) = l
+      go (Message sender left right n) = less-call c b _ l
+
+  less-more : (q : Request) → Extra q → Less (enteredRequest c q) b
+  unfolding enteredRequest enteredReading
+  less-more (ageing reading) e = absurd e
+  less-more (receipt least greatest m) e = go (readBytes m)
+    where
+      go : (r : Reading) → Less (enteredReading c least greatest r (wordsOf m)) b
+      go (Refused number) = l
+      go (Message sender left right n) = less-receipt c b _ l
+
+less-written : (qs ps : List Request) (c b : Book) → Less c b → Further ps qs → Less (written c qs) (written b ps)
+unfolding written
+less-written [] [] c b l f = l
+less-written [] (p ∷ ps) c b l f = absurd f
+less-written (q ∷ qs) [] c b l f = less-written qs [] (enteredRequest c q) b (less-more c b l q (f .0)) (f .1)
+less-written (q ∷ qs) (p ∷ ps) c b l (inl f) =
+    less-written qs ps (enteredRequest c q) (enteredRequest b p) (rw (f .0) (less-both c b l q)) (f .1)
+less-written (q ∷ qs) (p ∷ ps) c b l (inr f) = less-written qs (p ∷ ps) (enteredRequest c q) b (less-more c b l q (f .0)) (f .1)
+
+-- ---- two runs
+
+books-less : (P Q : Run) → P .setup ≡ Q .setup → Further (takenOf (stepsOf P)) (takenOf (stepsOf Q)) → Less (book Q) (book P)
+unfolding book
+books-less P Q e f =
+    let b = opened (P .setup) in
+    let alike : Less (opened (Q .setup)) b = subst (λ (u : Setup). Less (opened u) b) e record { head = refl; ends = λ v x p. p } in
+    rw (book-written (stepsOf P) b, book-written (stepsOf Q) (opened (Q .setup)))
+    (less-written (takenOf (stepsOf Q)) (takenOf (stepsOf P)) (opened (Q .setup)) b alike f)
+
+pub demand3·more : Demand3·more
+unfolding Demand3·more
+demand3·more P Q e f limitP limitQ le x (s, a, p) =
+    let l = books-less P Q e f in
+    (s, record { names = a .names; few = le-trans (a .few) le; others = rw (l .head) at (a .others) }, l .ends (sees s) x p)

@@ -1,0 +1,154 @@
+-- Runs over the bytes that C lends: after every list of calls the state bytes agree with the book, for every set of failed names, of any size.
+-- The idea: the invariant `Sound` is kept by each call. A refused one leaves the bytes and enters nothing. A taken one stores in front the state
+-- that the model's call makes of the state there; the crate `engine` has that it is right, so it is read back as it was stored, and it agrees with
+-- the book by `call-agrees`. Assumes nothing.
+use Prim.Native.Nat.{ℕ, zero, suc, _≤_}
+use mathlib.Core.Path.{_≡_, refl, sym, ap, subst, _∙_}
+use mathlib.Core.Logic.{_↔_}
+use mathlib.Core.Bool.{Bool, true, false, not, cond}
+use mathlib.Core.List.{List, [], _∷_}
+use native.Mathlib.Omega.{arith}
+use lib.Dec.{T, ltb, nltb→le, eqb·suc-zero}
+use lib.ListN.{length}
+use lib.IntN.{ℤ}
+use Rattle.numbers.specs.Numbers.{put, wordsOf}
+use Rattle.numbers.proofs.NumberLaws.{length-put}
+use Rattle.predicates.proofs.ListLaws.{T-false, neither}
+use Rattle.message.specs.Words.{masks}
+use Rattle.message.specs.Read.{termWords}
+use Rattle.message.specs.declared.Reading.{Reading}
+use Rattle.message.specs.declared.Reading.the-variants.{Message, Refused}
+use Rattle.state.specs.Model.{Head, State}
+use Rattle.state.specs.Layout.{stateSize, stateBytes, headOf, storeOf, stateOf}
+use Rattle.state.specs.Form.{inForm, stateOk}
+use Rattle.state.proofs.StateLaws.{form-ok}
+use Rattle.engine.specs.Receiving.{delivery}
+use Rattle.engine.specs.Calls.{begun, setUp, Call, age, receive, moved, done}
+use Rattle.engine.specs.Refusals.{refuse, setUpRefusal, ageRefusal, delaysFail, receiptRefusal}
+use Rattle.engine.specs.Outcomes.{after, setUpBytes, ageBytes}
+use Rattle.engine.proofs.CallLaws.{refuse-none, set-up-ok, age-ok, receive-ok}
+use Rattle.asking.specs.Instants.{Allowed, Counts}
+use Rattle.monitor.specs.Messages.{readBytes}
+use Rattle.monitor.specs.Calls.{setUpNumber, setUpState, ageNumber, ageState}
+use Rattle.monitor.specs.Receive.{receiptNumber, receiptBytes, receiveNumber, receiveState}
+use Rattle.monitor.specs.Book.{Request, ageing, receipt, Book, opened, entered, enteredReading, enteredRequest, noted, bookOf, sees, Possible}
+use Rattle.monitor.specs.Runs.{numberOf, bytesAfter, bytesRun, steps, Run, begin, stateAfter, stepsOf, book, SetBySet}
+use Rattle.monitor.proofs.FormKept.{put-form, put-state, heard-in}
+use Rattle.monitor.proofs.Agreement.{Agrees, agrees-none, Given, call-agrees}
+
+-- ---- the invariant
+
+pub record Sound (s : List ℕ) (b : Book) : Type 0 where
+  pub long : 3032 ≤ length s
+  pub form : T (inForm s)
+  pub head : b .head ≡ headOf s
+  pub each : (f : ℕ) → Agrees (sees f) f (storeOf s) (b .lines)
+
+-- a right state that agrees with the book, stored in front
+put-sound : (st : State) (s : List ℕ) (b : Book) → T (stateOk st) → 3032 ≤ length s → b .head ≡ st .head
+    → ((f : ℕ) → Agrees (sees f) f (st .store) (b .lines)) → Sound (put 0 (stateBytes st) s) b
+unfolding stateOf
+put-sound st s b t h e ag =
+    let u = put 0 (stateBytes st) s in
+    let same : stateOf u ≡ st = put-state st s t h in
+    record {
+      long = rw length-put h;
+      form = put-form st s t h;
+      head = e ∙ sym (ap (λ (z : State). z .head) same);
+      each = λ f. subst (λ (z : State). Agrees (sees f) f (z .store) (b .lines)) (sym same) (ag f);
+    }
+
+-- ---- a call
+
+-- a test that refuses: the number and the bytes
+refused : (P : ℕ → List ℕ → Type 0) (test : Bool) (number next : ℕ) (s u : List ℕ) → P number s → (T (not test) → P next u)
+    → P (refuse test number next) (cond test s u)
+refused P true number next s u h k = h
+refused P false number next s u h k = k tt
+
+module _ (s : List ℕ) (b : Book) (so : Sound s b) where
+  -- a taken call, as the model has it
+  taken-sound : (c : Call) → Given c → T (stateOk (done (stateOf s) c)) → Sound (put 0 (stateBytes (done (stateOf s) c)) s) (entered b c)
+  unfolding done entered stateOf
+  taken-sound c g t =
+      put-sound (done (stateOf s) c) s (entered b c) t (so .long) (ap (λ (h : Head). moved h c) (so .head))
+      (λ f. rw (so .head) (call-agrees (headOf s) c g f (storeOf s) (b .lines) (so .each f)))
+
+  -- what a call leaves and what the book has then
+  abbrev Noted : Request → ℕ → List ℕ → Type 0
+  Noted q number u = Sound u (noted number b q)
+
+  after-sound : (q : Request) (number : ℕ) (st : State) → (number ≡ 0 → Sound (put 0 (stateBytes st) s) (enteredRequest b q))
+      → Noted q number (after number st s)
+  unfolding after noted
+  after-sound q zero st f = f refl
+  after-sound q (suc n) st f = rw (eqb·suc-zero n) so
+
+  module _ (least greatest : ℕ) (m : List ℕ) (d : least ≤ greatest) where
+    receipt-sound : (r : Reading) → readBytes m ≡ r
+        → Noted (receipt least greatest m) (receiptNumber s least greatest r (wordsOf m)) (receiptBytes s least greatest r (wordsOf m))
+    unfolding receiptNumber receiptBytes noted enteredRequest enteredReading
+    receipt-sound (Refused number) e = go number
+      where
+        go : (n : ℕ) → Noted (receipt least greatest m) n s
+        go zero = rw e so
+        go (suc n) = so
+    receipt-sound (Message sender left right n) e =
+        let g = delivery least greatest sender left right (masks (termWords (Message sender left right n) (wordsOf m))) in
+        let heard = heard-in least greatest m d e in
+        after-sound (receipt least greatest m) (receiptRefusal (stateOf s) g) (done (stateOf s) (receive g))
+        (λ z. rw e (taken-sound (receive g) heard (receive-ok (stateOf s) g (form-ok s (so .form)) heard z)))
+
+  pub step-sound : (q : Request) → Noted q (numberOf s q) (bytesAfter s q)
+  unfolding numberOf bytesAfter ageNumber ageState ageBytes receiveNumber receiveState noted enteredRequest
+  step-sound (ageing reading) =
+      let P = Noted (ageing reading) in
+      refused P (ltb (length s) stateSize) 24 _ s _ so
+      (λ _. refused P (not (inForm s)) 25 _ s _ so
+      (λ _. after-sound (ageing reading) (ageRefusal (stateOf s) reading) (done (stateOf s) (age reading))
+      (λ z. taken-sound (age reading) tt (age-ok (stateOf s) reading (form-ok s (so .form)) z))))
+  step-sound (receipt least greatest m) =
+      let P = Noted (receipt least greatest m) in
+      refused P (ltb (length s) 3032) 24 _ s _ so
+      (λ _. refused P (not (inForm s)) 25 _ s _ so
+      (λ _. refused P (delaysFail least greatest) 21 _ s _ so
+      (λ c. receipt-sound least greatest m (nltb→le greatest least (neither (ltb greatest least) (ltb 60_000_000 greatest) c .0))
+      (readBytes m) refl)))
+
+-- ---- a run
+
+run-sound : (qs : List Request) (s : List ℕ) (b : Book) → Sound s b → Sound (bytesRun s qs) (bookOf b (steps s qs))
+unfolding bytesRun bookOf steps
+run-sound [] s b so = so
+run-sound (q ∷ qs) s b so = run-sound qs (bytesAfter s q) (noted (numberOf s q) b q) (step-sound s b so q)
+
+-- a taken setting up
+begin-sound : (r : Run) → Sound (begin r) (opened (r .setup))
+unfolding begin setUpNumber setUpState setUpBytes after opened setUp begun
+begin-sound r =
+    let s = r .buffer in
+    let a = refuse-none (ltb (length s) stateSize) 24 (setUpRefusal (r .setup)) (omega arith) (r .taken) in
+    rw (T-false (ltb (length s) stateSize) (a .0), a .1)
+    (put-sound (setUp (r .setup)) s (opened (r .setup)) (set-up-ok (r .setup) (a .1)) (nltb→le (length s) stateSize (a .0)) refl
+    (λ f. agrees-none (sees f) f))
+
+pub reached : (r : Run) → Sound (stateAfter r) (book r)
+unfolding stateAfter book stepsOf
+reached r = run-sound (r .requests) (begin r) (opened (r .setup)) (begin-sound r)
+
+-- ---- what a run gives: set by set, and so for every limit
+
+pub set-by-set : SetBySet
+unfolding SetBySet
+set-by-set r s x = let ag = reached r .each s in (ag .forth x, ag .back x)
+
+-- a set is allowed by the state where it is allowed by the book
+pub allowed-same : (r : Run) (limit s : ℕ) → Allowed limit (headOf (stateAfter r) .own) s ↔ Allowed limit (book r .head .own) s
+allowed-same r limit s = let e = reached r .head in (λ a. rw e a, λ a. rw e at a)
+
+pub counts-possible : (r : Run) (limit : ℕ) (x : ℤ) → Counts limit (stateOf (stateAfter r)) x ↔ Possible limit (book r) x
+unfolding stateOf SetBySet
+counts-possible r limit x = (
+  λ h. (h .0, allowed-same r limit (h .0) .0 (h .1), set-by-set r (h .0) x .0 (h .2)),
+  λ h. (h .0, allowed-same r limit (h .0) .1 (h .1), set-by-set r (h .0) x .1 (h .2)),
+)

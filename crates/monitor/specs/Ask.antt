@@ -1,0 +1,49 @@
+-- Asking and the fewest failures, over bytes (document 01, "Asking", "State bytes" and "Who can cause which refusal"): the number that the call
+-- returns and the lent output afterwards. Assumes nothing: these are definitions.
+use Prim.Native.Nat.{ℕ}
+use mathlib.Core.Bool.{not, cond}
+use mathlib.Core.List.{List}
+use lib.ListN.{length}
+use lib.Dec.{ltb, eqb}
+use Rattle.numbers.specs.Numbers.{bytes, put}
+use Rattle.state.specs.Layout.{stateSize, stateOf, joined}
+use Rattle.state.specs.Form.{inForm}
+use Rattle.engine.specs.Refusals.{refuse}
+use Rattle.asking.specs.Asking.{answer, answerNumbers}
+use Rattle.asking.specs.Fewest.{fewest, fewestNumbers}
+
+-- "8 bytes a number"
+unfoldable pub wide : List ℕ → List ℕ
+wide numbers = joined (bytes 8) numbers
+
+-- ---- asking: "asking writes 24 bytes (0 contradicted, 1 open, 2 between; left; right, both 0 unless between)"
+
+unfoldable pub askedBytes : List ℕ → ℕ → List ℕ
+askedBytes s limit = wide (answerNumbers (answer limit (stateOf s)))
+
+-- "Asking 24, 25, 22"; "Where an output is lent, 24 for it comes last."
+unfoldable pub askNumber : List ℕ → ℕ → List ℕ → ℕ
+askNumber s limit out =
+    refuse (ltb (length s) stateSize) 24
+    (refuse (not (inForm s)) 25
+    (refuse (ltb 4 limit) 22
+    (refuse (ltb (length out) 24) 24 0)))
+
+-- "A refusal is its number alone; state and output stay as they were. 0 means taken."
+unfoldable pub askOutput : List ℕ → ℕ → List ℕ → List ℕ
+askOutput s limit out = cond (eqb (askNumber s limit out) 0) (put 0 (askedBytes s limit) out) out
+
+-- ---- fewest failures: "fewest 16 (count, 5 for over 4; mask, then 0)"
+
+unfoldable pub fewestBytes : List ℕ → List ℕ
+fewestBytes s = wide (fewestNumbers (fewest (stateOf s)))
+
+-- "fewest 24, 25", and 24 for the output
+unfoldable pub fewestNumber : List ℕ → List ℕ → ℕ
+fewestNumber s out =
+    refuse (ltb (length s) stateSize) 24
+    (refuse (not (inForm s)) 25
+    (refuse (ltb (length out) 16) 24 0))
+
+unfoldable pub fewestOutput : List ℕ → List ℕ → List ℕ
+fewestOutput s out = cond (eqb (fewestNumber s out) 0) (put 0 (fewestBytes s) out) out

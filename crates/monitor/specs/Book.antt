@@ -1,0 +1,101 @@
+-- The book of a run, and the instants that are possible by it (document 01, "Asking"). "The book is fed each call's arguments and whether it was
+-- taken, and nothing from the state bytes." Assumes nothing: these are definitions.
+use Prim.Native.Nat.{ℕ, zero, suc, _≤_}
+use mathlib.Core.Path.{_≡_}
+use mathlib.Core.Logic.{_⊎_}
+use mathlib.Core.Bool.{Bool, true}
+use mathlib.Core.List.{List, [], _∷_, _++_}
+use lib.Dec.{T}
+use lib.IntN.{ℤ, pos, _+ℤ_}
+use Rattle.numbers.specs.Numbers.{wordsOf}
+use Rattle.predicates.specs.Predicates.{holds}
+use Rattle.message.specs.Words.{masks}
+use Rattle.message.specs.Read.{termWords}
+use Rattle.message.specs.declared.Reading.{Reading}
+use Rattle.message.specs.declared.Reading.the-variants.{Message, Refused}
+use Rattle.state.specs.Model.{Datum, Head}
+use Rattle.engine.specs.Ageing.{slow, fast}
+use Rattle.engine.specs.Receiving.{delivery, grown}
+use Rattle.engine.specs.Calls.{Setup, begun, Call, age, receive, moved}
+use Rattle.asking.specs.Instants.{Within, Allowed}
+use Rattle.monitor.specs.Messages.{readBytes}
+
+-- ---- calls as C makes them
+
+-- an ageing to a reading; or a receipt, with the channel's least and greatest delay and the message's bytes. The state bytes aside, these are the
+-- call and its arguments: "two steps are the same when call and arguments, the state bytes aside, are"
+pub data Request : Type 0 where
+  ageing : ℕ → Request
+  receipt : ℕ → ℕ → List ℕ → Request
+
+-- a call with the number that it returned
+pub record Step : Type 0 where
+  pub request : Request
+  pub number : ℕ
+
+-- ---- the book
+
+pub data Line : Type 0 where
+  advanced : ℕ → ℕ → Line
+  heard : Datum → Line
+
+pub record Book : Type 0 where
+  pub head : Head
+  pub lines : List Line
+
+-- "Setting up enters own name, drift and reading."
+unfoldable pub opened : Setup → Book
+opened u = record { head = begun u; lines = [] }
+
+-- "A taken ageing enters its least and greatest advance since the last reading, and the new reading" (which `moved` puts into the head).
+-- "A taken receipt enters the grown interval and the predicate formed at the head of Receiving, a true one too; what is stored or dropped later
+-- plays no part."
+unfoldable pub linesOf : Head → Call → List Line
+linesOf h (age reading) = advanced (slow h reading) (fast h reading) ∷ []
+linesOf h (receive g) = heard (grown (h .own) g) ∷ []
+
+unfoldable pub entered : Book → Call → Book
+entered b c = record { head = moved (b .head) c; lines = b .lines ++ linesOf (b .head) c }
+
+-- a receipt enters what its message says; a message that cannot be read is never taken
+unfoldable pub enteredReading : Book → ℕ → ℕ → Reading → List ℕ → Book
+enteredReading b least greatest (Refused number) words = b
+enteredReading b least greatest (Message sender left right count) words =
+    entered b (receive (delivery least greatest sender left right (masks (termWords (Message sender left right count) words))))
+
+unfoldable pub enteredRequest : Book → Request → Book
+enteredRequest b (ageing reading) = entered b (age reading)
+enteredRequest b (receipt least greatest message) = enteredReading b least greatest (readBytes message) (wordsOf message)
+
+-- "A refused call enters nothing."
+unfoldable pub noted : ℕ → Book → Request → Book
+noted zero b q = enteredRequest b q
+noted (suc n) b q = b
+
+unfoldable pub bookOf : Book → List Step → Book
+bookOf b [] = b
+bookOf b (p ∷ ps) = bookOf (noted (p .number) b (p .request)) ps
+
+-- ---- paths
+
+-- the set makes the line's predicate true
+unfoldable pub sees : ℕ → Line → Bool
+sees s (advanced lo hi) = true
+sees s (heard d) = holds s (d .terms)
+
+-- a path from the true time y to the true time x, where v tells which lines' predicates are true. "In the book's order each ageing advances it by
+-- a whole amount from its least to its greatest (the drift bounds). A receipt leaves it where it is, and it is then in the interval or the set
+-- makes the predicate true."
+abbrev pub Walk : (Line → Bool) → List Line → ℤ → ℤ → Type 0
+Walk v [] y x = y ≡ x
+Walk v (advanced lo hi ∷ ls) y x = (a : ℕ) × (lo ≤ a) × (a ≤ hi) × Walk v ls (y +ℤ pos a) x
+Walk v (heard d ∷ ls) y x = (Within (d .left) (d .right) y ⊎ T (v (heard d))) × Walk v ls y x
+
+-- "The path starts with any whole true time, negative ones allowed"; it ends on x
+abbrev pub Ends : (Line → Bool) → List Line → ℤ → Type 0
+Ends v ls x = (y : ℤ) × Walk v ls y x
+
+-- "A set and a path agree with the book": "The set has at most the limit's count of names, without the own one." "Possible is each instant that such
+-- a path ends on."
+abbrev pub Possible : ℕ → Book → ℤ → Type 0
+Possible limit b x = (s : ℕ) × Allowed limit (b .head .own) s × Ends (sees s) (b .lines) x

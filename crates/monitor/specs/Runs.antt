@@ -1,0 +1,147 @@
+-- Runs of one monitor over the bytes that C lends, and demand 3 about them. "This holds for every list of receipts and ageings of one monitor after
+-- a setting up that was taken, whatever messages, delays and readings come, refused steps included; each gets the state the last one left, and
+-- nobody else writes it meanwhile." Each call is the one whose number and bytes the exported functions promise. Assumes nothing: these are definitions.
+use Prim.Native.Nat.{ℕ, zero, suc, _≤_}
+use mathlib.Core.Path.{_≡_}
+use mathlib.Core.Logic.{_⊎_, _↔_}
+use mathlib.Core.Bool.{cond}
+use mathlib.Core.List.{List, [], _∷_}
+use lib.Dec.{eqb}
+use lib.ListN.{length}
+use lib.IntN.{ℤ, pos, negsuc}
+use Rattle.numbers.specs.Numbers.{num}
+use Rattle.state.specs.Layout.{storeOf}
+use Rattle.engine.specs.Calls.{Setup}
+use Rattle.asking.specs.declared.Answer.{Answer}
+use Rattle.asking.specs.declared.Answer.the-variants.{Contradicted, Open, Between}
+use Rattle.asking.specs.declared.Fewest.{Fewest}
+use Rattle.asking.specs.declared.Fewest.the-variants.{Over, Few}
+use Rattle.asking.specs.Instants.{Allowed, Fine}
+use Rattle.asking.specs.Fewest.{FewestOf}
+use Rattle.monitor.specs.Calls.{setUpNumber, setUpState, ageNumber, ageState}
+use Rattle.monitor.specs.Receive.{receiveNumber, receiveState}
+use Rattle.monitor.specs.Ask.{askNumber, askOutput, fewestNumber, fewestOutput}
+use Rattle.monitor.specs.Book.{Request, ageing, receipt, Step, Book, opened, bookOf, sees, Ends, Possible}
+
+-- ---- a run
+
+-- the number that a call on the state bytes s returns
+unfoldable pub numberOf : List ℕ → Request → ℕ
+numberOf s (ageing reading) = ageNumber s reading
+numberOf s (receipt least greatest message) = receiveNumber s least greatest message
+
+-- the state bytes that it leaves
+unfoldable pub bytesAfter : List ℕ → Request → List ℕ
+bytesAfter s (ageing reading) = ageState s reading
+bytesAfter s (receipt least greatest message) = receiveState s least greatest message
+
+-- "each gets the state the last one left": the bytes after a list of calls, and the calls with their numbers
+unfoldable pub bytesRun : List ℕ → List Request → List ℕ
+bytesRun s [] = s
+bytesRun s (q ∷ qs) = bytesRun (bytesAfter s q) qs
+
+unfoldable pub steps : List ℕ → List Request → List Step
+steps s [] = []
+steps s (q ∷ qs) = record { request = q; number = numberOf s q } ∷ steps (bytesAfter s q) qs
+
+-- a setting up that was taken, in a buffer that C lends, and the calls after it
+pub record Run : Type 0 where
+  pub buffer : List ℕ
+  pub setup : Setup
+  pub taken : setUpNumber buffer (setup .own) (setup .drift) (setup .reading) ≡ 0
+  pub requests : List Request
+
+unfoldable pub begin : Run → List ℕ
+begin r = setUpState (r .buffer) (r .setup .own) (r .setup .drift) (r .setup .reading)
+
+-- the state bytes after the run, its steps, and its book
+unfoldable pub stateAfter : Run → List ℕ
+stateAfter r = bytesRun (begin r) (r .requests)
+
+unfoldable pub stepsOf : Run → List Step
+stepsOf r = steps (begin r) (r .requests)
+
+unfoldable pub book : Run → Book
+book r = bookOf (opened (r .setup)) (stepsOf r)
+
+-- ---- the answer that C sees
+
+-- the answer in the 24 bytes: "0 contradicted, 1 open, 2 between; left; right"
+unfoldable pub answerIn : List ℕ → Answer
+answerIn out = cond (eqb (num 0 8 out) 0) Contradicted (cond (eqb (num 0 8 out) 1) Open (Between (num 8 8 out) (num 16 8 out)))
+
+-- the fewest failures in the 16 bytes: "count, 5 for over 4; mask, then 0"
+unfoldable pub fewestIn : List ℕ → Fewest
+fewestIn out = cond (eqb (num 0 8 out) 5) Over (Few (num 0 8 out) (num 8 8 out))
+
+-- l is the least of the instants P, r the greatest
+abbrev pub AtLeast : ℕ → ℤ → Type 0
+AtLeast l (pos n) = l ≤ n
+AtLeast l (negsuc n) = ⊥
+
+abbrev pub AtMost : ℕ → ℤ → Type 0
+AtMost r (pos n) = n ≤ r
+AtMost r (negsuc n) = Unit {0}
+
+abbrev pub Least : (ℤ → Type 0) → ℕ → Type 0
+Least P l = P (pos l) × ((x : ℤ) → P x → AtLeast l x)
+
+abbrev pub Greatest : (ℤ → Type 0) → ℕ → Type 0
+Greatest P r = P (pos r) × ((x : ℤ) → P x → AtMost r x)
+
+-- "the answer is 'contradicted' exactly when no instant is possible, 'open' exactly when all are, and otherwise the least and the greatest
+-- possible one"
+pub record Tells (P : ℤ → Type 0) (a : Answer) : Type 0 where
+  pub contradicted : (a ≡ Contradicted) ↔ ((x : ℤ) → P x → ⊥)
+  pub unbounded : (a ≡ Open) ↔ ((x : ℤ) → P x)
+  pub between : (l r : ℕ) → (a ≡ Between l r) ↔ (Least P l × Greatest P r)
+
+-- ---- demand 3
+
+-- "After the list, for every limit from 0 to 4": asking is taken, and its answer is the one that the possible instants of the run's book give
+unfoldable pub Demand3 : Type 0
+Demand3 =
+    (r : Run) (limit : ℕ) → limit ≤ 4 → (out : List ℕ) → 24 ≤ length out
+    → (askNumber (stateAfter r) limit out ≡ 0) × Tells (Possible limit (book r)) (answerIn (askOutput (stateAfter r) limit out))
+
+-- the taken calls, in order
+abbrev pub ifTaken : ℕ → Request → List Request → List Request
+ifTaken zero q qs = q ∷ qs
+ifTaken (suc n) q qs = qs
+
+unfoldable pub takenOf : List Step → List Request
+takenOf [] = []
+takenOf (p ∷ ps) = ifTaken (p .number) (p .request) (takenOf ps)
+
+-- what a further step may be: a receipt
+abbrev pub Extra : Request → Type 0
+Extra (ageing reading) = ⊥
+Extra (receipt least greatest message) = Unit {0}
+
+-- "Q's taken steps are P's taken steps in order with further receipts before, between or after them"
+abbrev pub Further : List Request → List Request → Type 0
+Further [] [] = Unit {0}
+Further (p ∷ ps) [] = ⊥
+Further [] (q ∷ qs) = Extra q × Further [] qs
+Further (p ∷ ps) (q ∷ qs) = ((p ≡ q) × Further ps qs) ⊎ (Extra q × Further (p ∷ ps) qs)
+
+-- "for every two such runs P and Q, set up alike, [..] and P is asked with a limit no smaller than Q's: each instant possible for Q is possible for
+-- P". "Set up alike means with the same numbers"
+unfoldable pub Demand3·more : Type 0
+Demand3·more =
+    (P Q : Run) → P .setup ≡ Q .setup → Further (takenOf (stepsOf P)) (takenOf (stepsOf Q)) → (limitP limitQ : ℕ) → limitQ ≤ limitP
+    → (x : ℤ) → Possible limitQ (book Q) x → Possible limitP (book P) x
+
+-- ---- set by set
+
+-- the law under it: for every set of names, of any size, the instants that the state leaves it are those on which the book's paths agreeing with it
+-- end
+unfoldable pub SetBySet : Type 0
+SetBySet = (r : Run) (s : ℕ) (x : ℤ) → Fine s (storeOf (stateAfter r)) x ↔ Ends (sees s) (book r .lines) x
+
+-- the fewest failures by the book: the sets of at most 4 names, without the own one, with which some path of the book agrees
+unfoldable pub FewestByBook : Type 0
+FewestByBook =
+    (r : Run) (out : List ℕ) → 16 ≤ length out
+    → (fewestNumber (stateAfter r) out ≡ 0)
+    × FewestOf (λ s. Allowed 4 (book r .head .own) s × ((x : ℤ) × Ends (sees s) (book r .lines) x)) (fewestIn (fewestOutput (stateAfter r) out))

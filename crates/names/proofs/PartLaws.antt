@@ -1,0 +1,179 @@
+-- Laws of parts of sets: what is left without another set's names, the least name, and sets that differ by one name. A set that holds another and
+-- has no more names is that other (`subset-same`); most of the rest follows from it. No contract cites this file. Assumes nothing.
+use mathlib.Core.Path.{_≡_, refl, sym, ap, subst, _∙_}
+use mathlib.Core.Logic.{_⊎_, inl, inr}
+use mathlib.Core.Bool.{not}
+use Prim.Native.Nat.{ℕ, zero, suc, _+_, _-_, _*_, _/_, _%_, _^_, _≤_, _<_, min, max}
+use native.Mathlib.Nat.{le-trans, le-refl}
+use native.Mathlib.Omega.{arith}
+use native.Mathlib.Decide.{ℕ-discrete, decLe}
+use lib.Dec.{T, T-not, not-T, eqb, eqb→eq, eqb-refl}
+use lib.Arith.{bin-ind}
+use lib.Bits.{bitAnd, bitOr, and-step, or-step, and-comm, and-self, and-le-r}
+use lib.Count.{ones, ones-step}
+use Rattle.names.specs.Sets.{subset, union, shared, less, lowest, digit}
+use Rattle.names.proofs.SetLaws.{digit-lt, digit-zero, digit-suc, digit-and, digit-union, digit-empty, subset-and, subset-out, subset-in, digits-ext, subset-refl, subset-trans, empty-subset, subset-empty, subset-le, union-left, union-right, union-least, ones-empty, ones-none, ones-mono, ones-union, halves}
+
+-- ---- what both hold
+
+pub digit-shared : (s t n : ℕ) → digit (shared s t) n ≡ min (digit s n) (digit t n)
+unfolding shared
+digit-shared s t n = digit-and s t n
+
+pub shared-left : (s t : ℕ) → T (subset (shared s t) s)
+shared-left s t = subset-in (shared s t) s (λ n. omega (arith, digit-shared s t n))
+
+pub shared-right : (s t : ℕ) → T (subset (shared s t) t)
+shared-right s t = subset-in (shared s t) t (λ n. omega (arith, digit-shared s t n))
+
+pub shared-greatest : (u s t : ℕ) → T (subset u s) → T (subset u t) → T (subset u (shared s t))
+shared-greatest u s t h k = subset-in u (shared s t) (λ n. omega (arith, digit-shared s t n, subset-out u s h n, subset-out u t k n))
+
+-- ---- without the names of another
+
+pub and-le : (s t : ℕ) → bitAnd s t ≤ s
+and-le s t = omega (arith, and-le-r t s, and-comm s t)
+
+less-step : (s t : ℕ) → (less s t / 2 ≡ less (s / 2) (t / 2)) × (less s t % 2 ≡ s % 2 - t % 2)
+unfolding less
+less-step s t =
+    let h = and-le (s / 2) (t / 2) in
+    (omega (arith, and-step s t), omega (arith, and-step s t))
+
+pub digit-less : (s t n : ℕ) → digit (less s t) n ≡ digit s n - digit t n
+digit-less s t zero = omega (arith, digit-zero (less s t), digit-zero s, digit-zero t, less-step s t .1)
+digit-less s t (suc n) =
+    digit-suc (less s t) n ∙ ap (λ (x : ℕ). digit x n) (less-step s t .0)
+    ∙ omega (arith, digit-less (s / 2) (t / 2) n, digit-suc s n, digit-suc t n)
+
+pub less-subset : (s t : ℕ) → T (subset (less s t) s)
+less-subset s t = subset-in (less s t) s (λ n. omega (arith, digit-less s t n))
+
+pub less-mono : (u m s : ℕ) → T (subset u m) → T (subset (less u s) (less m s))
+less-mono u m s h = subset-in (less u s) (less m s) (λ n. omega (arith, digit-less u s n, digit-less m s n, subset-out u m h n))
+
+-- the names taken out, put back
+pub less-add : (s u : ℕ) → T (subset s u) → s + less u s ≡ u
+unfolding less
+less-add s u h = let e : bitAnd u s ≡ s = and-comm u s ∙ subset-and s u h in omega (arith, subset-le s u h)
+
+pub union-add : (s t : ℕ) → union s t ≤ s + t
+unfolding union
+union-add =
+    bin-ind (λ (s : ℕ). (t : ℕ) → bitOr s t ≤ s + t) (λ t. omega arith)
+    (λ s ih t. omega (arith, or-step s t, ih (t / 2)))
+
+-- ---- as many names
+
+pub subset-same : (t s : ℕ) → T (subset t s) → ones s ≤ ones t → t ≡ s
+subset-same t s h k = go s t h k
+  where
+    go : (s t : ℕ) → T (subset t s) → ones s ≤ ones t → t ≡ s
+    go =
+        bin-ind (λ (s : ℕ). (t : ℕ) → T (subset t s) → ones s ≤ ones t → t ≡ s) (λ t h k. subset-empty t h)
+        (λ s ih t h k.
+        let half = halves t s h in
+        let fewer = ones-mono (t / 2) (s / 2) (half .0) in
+        let rest : t / 2 ≡ s / 2 = ih (t / 2) (half .0) (omega (arith, ones-step t, ones-step s, half .1)) in
+        omega (arith, ones-step t, ones-step s, half .1, rest))
+
+-- a set that holds more than s has more names
+pub ones-more : (s u : ℕ) → T (subset s u) → (s ≡ u → ⊥) → ones s < ones u
+ones-more s u h f = go (decLe (ones u) (ones s))
+  where
+    go : Dec (ones u ≤ ones s) → ones s < ones u
+    go (yes k) = absurd (f (subset-same s u h k))
+    go (no k) = omega arith
+
+-- no name is in both
+pub less-apart : (u s c : ℕ) → T (subset c (less u s)) → T (subset c s) → ones c ≡ 1 → ⊥
+less-apart u s c h k e =
+    let empty : c ≡ 0 = digits-ext c 0 (λ n. omega (arith, subset-out c (less u s) h n, subset-out c s k n, digit-less u s n, digit-lt u n, digit-empty n)) in
+    omega (arith, ap ones empty, ones-empty)
+
+-- ---- one name more
+
+-- c being one name: of what holds it in two parts, one part holds it
+pub single-part : (c a b : ℕ) → ones c ≡ 1 → T (subset c (union a b)) → T (subset c a) ⊎ T (subset c b)
+single-part c a b e h = go (ℕ-discrete (shared c a) c)
+  where
+    -- no name of c is in a
+    beside : shared c a ≡ 0 → T (subset c b)
+    beside z =
+        subset-in c b (λ n.
+        omega (arith, subset-out c (union a b) h n, digit-union a b n, digit-shared c a n, ap (λ (x : ℕ). digit x n) z, digit-empty n, digit-lt a n, digit-lt c n))
+
+    go : Dec (shared c a ≡ c) → T (subset c a) ⊎ T (subset c b)
+    go (yes p) = inl (subst (λ (x : ℕ). T (subset x a)) p (shared-right c a))
+    go (no p) = inr (beside (ones-none (shared c a) (omega (arith, e, ones-more (shared c a) c (shared-left c a) p))))
+
+-- t adds one name to s: a set that holds s and not t has none of t's names beyond s
+pub one-more : (s t u : ℕ) → ones (union s t) ≡ ones s + 1 → T (subset s u) → (T (subset t u) → ⊥) → T (subset (shared u t) s)
+one-more s t u e h f = go (decLe (ones w) (ones s))
+  where
+    w : ℕ
+    w = union s (shared u t)
+
+    w-in : T (subset w (union s t))
+    w-in = union-least s (shared u t) (union s t) (union-left s t) (subset-trans (shared u t) t (union s t) (shared-right u t) (union-right s t))
+
+    go : Dec (ones w ≤ ones s) → T (subset (shared u t) s)
+    go (yes k) =
+        subst (λ (x : ℕ). T (subset (shared u t) x)) (sym (subset-same s w (union-left s (shared u t)) k)) (union-right s (shared u t))
+    go (no k) =
+        let same : w ≡ union s t = subset-same w (union s t) w-in (omega arith) in
+        absurd (f (subset-trans t (union s t) u (union-right s t)
+        (subst (λ (x : ℕ). T (subset x u)) same (union-least s (shared u t) u h (shared-left u t)))))
+
+-- so its names are free beside t's
+pub less-free : (s t u free : ℕ) → T (subset u (union s free)) → T (subset (shared u t) s) → T (subset u (union s (less free t)))
+less-free s t u free h k =
+    subset-in u (union s (less free t)) (λ n.
+    omega (arith, subset-out u (union s free) h n, subset-out (shared u t) s k n, digit-union s free n, digit-union s (less free t) n, digit-less free t n, digit-shared u t n, digit-lt u n, digit-lt t n, digit-lt free n, digit-lt s n))
+
+-- ---- the least name
+
+lowest-even : (s : ℕ) → s % 2 ≡ 0 → lowest s ≡ lowest (s / 2) * 2
+unfolding lowest
+lowest-even s e = go (ℕ-discrete s 0)
+  where
+    go : Dec (s ≡ 0) → s - bitAnd s (s - 1) ≡ (s / 2 - bitAnd (s / 2) (s / 2 - 1)) * 2
+    go (yes p) = omega arith
+    go (no p) =
+        let half : (s - 1) / 2 ≡ s / 2 - 1 = omega arith in
+        let step : bitAnd s (s - 1) ≡ bitAnd (s / 2) (s / 2 - 1) * 2 = omega (arith, and-step s (s - 1), ap (λ (x : ℕ). bitAnd (s / 2) x) half) in
+        omega arith
+
+lowest-odd : (s : ℕ) → s % 2 ≡ 1 → lowest s ≡ 1
+unfolding lowest
+lowest-odd s e =
+    let half : (s - 1) / 2 ≡ s / 2 = omega arith in
+    omega (arith, and-step s (s - 1), ap (λ (x : ℕ). bitAnd (s / 2) x) half, and-self (s / 2))
+
+pub lowest-least : (s u : ℕ) → T (subset u s) → 0 < u → lowest s ≤ u
+lowest-least =
+    bin-ind (λ (s : ℕ). (u : ℕ) → T (subset u s) → 0 < u → lowest s ≤ u)
+    (λ u h k. let e = subset-empty u h in absurd (omega arith))
+    (λ s ih u h k. go s ih u h k (ℕ-discrete (s % 2) 0))
+  where
+    go : (s : ℕ) → ((u : ℕ) → T (subset u (s / 2)) → 0 < u → lowest (s / 2) ≤ u) → (u : ℕ) → T (subset u s) → 0 < u → Dec (s % 2 ≡ 0) → lowest s ≤ u
+    go s ih u h k (yes e) =
+        let half = halves u s h in
+        omega (arith, lowest-even s e, ih (u / 2) (half .0) (omega (arith, half .1)), half .1)
+    go s ih u h k (no f) = omega (arith, lowest-odd s (omega arith))
+
+pub lowest-in : (s : ℕ) → T (subset (lowest s) s)
+unfolding lowest less
+lowest-in s = less-subset s (s - 1)
+
+pub lowest-one : (s : ℕ) → 0 < s → ones (lowest s) ≡ 1
+lowest-one =
+    bin-ind (λ (s : ℕ). 0 < s → ones (lowest s) ≡ 1) (λ k. absurd (omega arith)) (λ s ih k. go s ih k (ℕ-discrete (s % 2) 0))
+  where
+    go : (s : ℕ) → (0 < s / 2 → ones (lowest (s / 2)) ≡ 1) → 0 < s → Dec (s % 2 ≡ 0) → ones (lowest s) ≡ 1
+    go s ih k (yes e) =
+        let same : lowest s / 2 ≡ lowest (s / 2) = omega (arith, lowest-even s e) in
+        omega (arith, ones-step (lowest s), ap ones same, ih (omega arith), lowest-even s e)
+    go s ih k (no f) =
+        let same : lowest s / 2 ≡ 0 = omega (arith, lowest-odd s (omega arith)) in
+        omega (arith, ones-step (lowest s), ap ones same, ones-empty, lowest-odd s (omega arith))
