@@ -9,3 +9,9 @@ pub mod FewestLaws
 pub mod SearchLaws
 pub mod LastLaws
 pub mod SearchSteps
+pub mod TableLaws
+pub mod EndSteps
+pub mod ArrayLaws
+pub mod ReadyLaws
+pub mod AskSteps
+pub mod FailureSteps

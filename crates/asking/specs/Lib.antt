@@ -3,3 +3,5 @@ pub mod Asking
 pub mod Fewest
 pub mod Claims
 pub mod Search
+pub mod Tables
+pub mod Ends

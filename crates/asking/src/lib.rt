@@ -1,6 +1,10 @@
 // Asking (document 01, "Asking"): what the held data and the failure knowledge of a state in form leave possible, and the fewest failures that
 // explain them. Every function here is proved, and the crate assumes nothing of its own.
 
+pub mod ask;
+pub mod claims;
+pub mod ends;
+pub mod failures;
 pub mod search;
 
 // What asking answers.

@@ -28,7 +28,7 @@ pub struct Part {
 }
 
 // Where the terms of the predicate at place j stand.
-fn terms_at(listed: &[u32], counts: &[u32], masks: &[u32], j: usize) -> Part
+pub fn terms_at(listed: &[u32], counts: &[u32], masks: &[u32], j: usize) -> Part
     requires { ⌜ (j < length (now listed)) × (getD (now listed) j 0 < length (now counts)) × (getD (now listed) j 0 * 16 + getD (now counts) (getD (now listed) j 0) 0 ≤ length (now masks)) ⌝ }
     ensures { λ r. ⌜ (r .at ≡ getD (now (listed .entry)) j 0 * 16) × (r .end ≡ getD (now (listed .entry)) j 0 * 16 + getD (now (counts .entry)) (getD (now (listed .entry)) j 0) 0) ⌝ }
 {
@@ -144,7 +144,7 @@ fn last_name(
 }
 
 // Whether a term may lead to a set below `best`: its names are in the set or free, and joined with the set they are within the limit.
-fn worth(t: u32, set: u32, free: u32, limit: u32, best: u32) -> bool
+pub fn worth(t: u32, set: u32, free: u32, limit: u32, best: u32) -> bool
     ensures { λ r. ⌜ r ≡ subset t (union set free) && (ltb (union set t) best && leb (ones (union set t)) limit) ⌝ }
 {
     let wider = names::union(set, t);
@@ -158,7 +158,7 @@ fn worth(t: u32, set: u32, free: u32, limit: u32, best: u32) -> bool
 }
 
 // What is free once a term was tried: where it adds one name to the set, that name no more.
-fn freed(t: u32, set: u32, free: u32) -> u32
+pub fn freed(t: u32, set: u32, free: u32) -> u32
     ensures { λ r. ⌜ r ≡ cond (eqb (ones (union set t)) (ones set + 1)) (less free t) free ⌝ }
 {
     if names::count(names::union(set, t)) == names::count(set) + 1 {

@@ -108,14 +108,14 @@ module _ (width : ℕ) (place : ℕ → ℕ) (s : List ℕ) where
 -- ---- the rows that have terms, written
 
 module _ {A : Type 0} (g : A → Bool) (r : ℕ → A) where
-  kept-next : (i : ℕ) → g (r i) ≡ true → keep g (tab (i + 1) r) ≡ keep g (tab i r) ++ (r i ∷ [])
+  pub kept-next : (i : ℕ) → g (r i) ≡ true → keep g (tab (i + 1) r) ≡ keep g (tab i r) ++ (r i ∷ [])
   kept-next i e = rw (tab-suc i r, keep-append g (tab i r) (r i ∷ []), e)
 
-  kept-skip : (i : ℕ) → g (r i) ≡ false → keep g (tab (i + 1) r) ≡ keep g (tab i r)
+  pub kept-skip : (i : ℕ) → g (r i) ≡ false → keep g (tab (i + 1) r) ≡ keep g (tab i r)
   kept-skip i e = rw (tab-suc i r, keep-append g (tab i r) (r i ∷ []), e) (append-nil (keep g (tab i r)))
 
   -- fewer rows, no more kept
-  kept-le : (n i : ℕ) → i ≤ n → length (keep g (tab i r)) ≤ length (keep g (tab n r))
+  pub kept-le : (n i : ℕ) → i ≤ n → length (keep g (tab i r)) ≤ length (keep g (tab n r))
   unfolding tab
   kept-le zero i h = let e : i ≡ 0 = omega arith in rw e (omega arith)
   kept-le (suc n) i h =
@@ -188,7 +188,7 @@ module _ (n i : ℕ) (lefts rights counts masks : List ℕ) (t : Columns n lefts
 -- ---- what the arrays hold of the bytes
 
 -- the part of an array that was filled, and the rest
-column-front : (f : ℕ → ℕ) (n i : ℕ) (s₀ s : List ℕ) → s ≡ tab n f ++ drop n s₀ → i < n → getD s i 0 ≡ f i
+pub column-front : (f : ℕ → ℕ) (n i : ℕ) (s₀ s : List ℕ) → s ≡ tab n f ++ drop n s₀ → i < n → getD s i 0 ≡ f i
 column-front f n i s₀ s e h =
     ap (λ l. getD l i 0) e ∙ List·getD-append (tab n f) (drop n s₀) 0 i (omega (arith, length-tab n f)) ∙ getD-tab n i f 0 h
 
@@ -199,7 +199,7 @@ column-rest f n i s₀ s e h =
     ap (λ l. getD l i 0) e ∙ ap (λ (k : ℕ). getD (tab n f ++ drop n s₀) k 0) place ∙ getD-append-add (tab n f) (drop n s₀) (i - n) 0
     ∙ getD-drop n s₀ (i - n) 0 ∙ ap (λ (k : ℕ). getD s₀ k 0) back
 
-length-column : (f : ℕ → ℕ) (n : ℕ) (s₀ s : List ℕ) → s ≡ tab n f ++ drop n s₀ → n ≤ length s₀ → length s ≡ length s₀
+pub length-column : (f : ℕ → ℕ) (n : ℕ) (s₀ s : List ℕ) → s ≡ tab n f ++ drop n s₀ → n ≤ length s₀ → length s ≡ length s₀
 length-column f n s₀ s e h = ap length e ∙ rw (length-append, length-tab, length-drop) (omega arith)
 
 -- n rows that were read, of at most `width` terms
@@ -220,21 +220,22 @@ module _ (width n : ℕ) (place : ℕ → ℕ) (s c₀ m₀ c m : List ℕ) (p :
       rw (column-front (λ k. num (place k) 4 s) n i c₀ c p h, there .1, getD-tab n i f [] h)
       (take-append-le (num (place i) 4 s) (f i) (there .0) (omega (arith, few i h, length-masks width (place i) s)))
 
+  -- the array is as long as it was
+  pub length-read : n * width ≤ length m₀ → length m ≡ length m₀
+  length-read h =
+      let front : length (joined (λ l. l) (tab n (λ i. masksAt width (place i) s))) ≡ n * width =
+      length-joined (λ l. l) (λ l. eqb (length l) width) width (λ l t. eqb→eq (length l) width t) _ masks-wide ∙ rw length-tab in
+      ap length q ∙ rw (length-append, length-drop) (omega arith)
+
   -- the table that was lent is one still
   pub table-read : (k : ℕ) → n ≤ k → Table width k c₀ m₀ → Table width k c m
   table-read k h t =
       record {
         counted = omega (arith, t .counted, length-column (λ i. num (place i) 4 s) n c₀ c p (omega (arith, t .counted)));
-        long = omega (arith, t .long, length-rest);
+        long = omega (arith, t .long, length-read (omega (arith, mul-le-mul-right width h, t .long)));
         narrow = λ i. small i (decLt i n);
       }
     where
-      length-rest : length m ≡ length m₀
-      length-rest =
-          let front : length (joined (λ l. l) (tab n (λ i. masksAt width (place i) s))) ≡ n * width =
-          length-joined (λ l. l) (λ l. eqb (length l) width) width (λ l t. eqb→eq (length l) width t) _ masks-wide ∙ rw length-tab in
-          ap length q ∙ rw (length-append, length-drop) (omega (arith, mul-le-mul-right width h, t .long))
-
       small : (i : ℕ) → Dec (i < n) → getD c i 0 ≤ width
       small i (yes l) = omega (arith, column-front (λ j. num (place j) 4 s) n i c₀ c p l, few i l)
       small i (no l) = omega (arith, column-rest (λ j. num (place j) 4 s) n i c₀ c p (omega arith), t .narrow i)

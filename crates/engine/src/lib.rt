@@ -6,5 +6,5 @@ mod receiving;
 pub mod set_up;
 mod settling;
 mod steps;
-mod store;
+pub mod store;
 mod tables;

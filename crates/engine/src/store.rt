@@ -9,7 +9,7 @@ ghost use Rattle.state.specs.Layout.{datumPlace, entryPlace, masksAt, datumByte
 ghost use Rattle.engine.specs.Tables.{Table, Columns, entriesIn, dataIn};
 
 // Reads the masks of the row at `at`, used or not, into the places from `from` on.
-fn get_masks(s: &[u8], at: usize, width: usize, masks: &mut [u32], from: usize)
+pub fn get_masks(s: &[u8], at: usize, width: usize, masks: &mut [u32], from: usize)
     requires { ⌜ (at + 4 + width * 4 ≤ length (now s)) × (from + width ≤ length (now masks)) ⌝ }
     ensures { λ _. ⌜ now (masks .exit) ≡ put from (masksAt width at (now (s .entry))) (now (masks .entry)) ⌝ }
 {

@@ -1,7 +1,7 @@
 -- Asking and the fewest failures, over bytes (document 01, "Asking", "State bytes" and "Who can cause which refusal"): the number that the call
 -- returns and the lent output afterwards. Assumes nothing: these are definitions.
 use Prim.Native.Nat.{ℕ}
-use mathlib.Core.Bool.{not, cond}
+use mathlib.Core.Bool.{Bool, not, cond}
 use mathlib.Core.List.{List}
 use lib.ListN.{length}
 use lib.Dec.{ltb, eqb}
@@ -21,12 +21,16 @@ wide numbers = joined (bytes 8) numbers
 unfoldable pub askedBytes : List ℕ → ℕ → List ℕ
 askedBytes s limit = wide (answerNumbers (answer limit (stateOf s)))
 
+-- "22 limit above 4"
+abbrev pub limitFails : ℕ → Bool
+limitFails limit = ltb 4 limit
+
 -- "Asking 24, 25, 22"; "Where an output is lent, 24 for it comes last."
 unfoldable pub askNumber : List ℕ → ℕ → List ℕ → ℕ
 askNumber s limit out =
     refuse (ltb (length s) stateSize) 24
     (refuse (not (inForm s)) 25
-    (refuse (ltb 4 limit) 22
+    (refuse (limitFails limit) 22
     (refuse (ltb (length out) 24) 24 0)))
 
 -- "A refusal is its number alone; state and output stay as they were. 0 means taken."

@@ -4,3 +4,4 @@ pub mod Receive
 pub mod Ask
 pub mod Book
 pub mod Runs
+pub mod Cases

@@ -8,6 +8,7 @@ ghost use Rattle.numbers.specs.Numbers.{bytes, put};
 ghost use Rattle.monitor.specs.Messages.{wordsIn, readNumber, readOutput, rewriteNumber, rewriteOutput};
 use message::Reading;
 
+pub mod answers;
 pub mod calls;
 pub mod receive;
 

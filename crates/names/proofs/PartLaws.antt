@@ -4,15 +4,15 @@ use mathlib.Core.Path.{_≡_, refl, sym, ap, subst, _∙_}
 use mathlib.Core.Logic.{_⊎_, inl, inr}
 use mathlib.Core.Bool.{not}
 use Prim.Native.Nat.{ℕ, zero, suc, _+_, _-_, _*_, _/_, _%_, _^_, _≤_, _<_, min, max}
-use native.Mathlib.Nat.{le-trans, le-refl}
+use native.Mathlib.Nat.{mod-eq-of-lt}
 use native.Mathlib.Omega.{arith}
 use native.Mathlib.Decide.{ℕ-discrete, decLe}
 use lib.Dec.{T, T-not, not-T, eqb, eqb→eq, eqb-refl}
 use lib.Arith.{bin-ind}
-use lib.Bits.{bitAnd, bitOr, and-step, or-step, and-comm, and-self, and-le-r}
+use lib.Bits.{bitAnd, and-step, and-comm, and-self, and-le-l, and-mask, or-add-and}
 use lib.Count.{ones, ones-step}
-use Rattle.names.specs.Sets.{subset, union, shared, less, lowest, digit}
-use Rattle.names.proofs.SetLaws.{digit-lt, digit-zero, digit-suc, digit-and, digit-union, digit-empty, subset-and, subset-out, subset-in, digits-ext, subset-refl, subset-trans, empty-subset, subset-empty, subset-le, union-left, union-right, union-least, ones-empty, ones-none, ones-mono, ones-union, halves}
+use Rattle.names.specs.Sets.{subset, union, has, shared, less, others, lowest, digit}
+use Rattle.names.proofs.SetLaws.{digit-lt, digit-single-same, digit-single-other, digit-zero, digit-suc, digit-and, digit-union, digit-empty, subset-and, and-subset, subset-out, subset-in, digits-ext, subset-refl, subset-trans, empty-subset, subset-empty, subset-le, union-left, union-right, union-least, ones-empty, ones-none, ones-mono, halves, has-in, has-out}
 
 -- ---- what both hold
 
@@ -31,13 +31,10 @@ shared-greatest u s t h k = subset-in u (shared s t) (λ n. omega (arith, digit-
 
 -- ---- without the names of another
 
-pub and-le : (s t : ℕ) → bitAnd s t ≤ s
-and-le s t = omega (arith, and-le-r t s, and-comm s t)
-
 less-step : (s t : ℕ) → (less s t / 2 ≡ less (s / 2) (t / 2)) × (less s t % 2 ≡ s % 2 - t % 2)
 unfolding less
 less-step s t =
-    let h = and-le (s / 2) (t / 2) in
+    let h = and-le-l (s / 2) (t / 2) in
     (omega (arith, and-step s t), omega (arith, and-step s t))
 
 pub digit-less : (s t n : ℕ) → digit (less s t) n ≡ digit s n - digit t n
@@ -59,9 +56,7 @@ less-add s u h = let e : bitAnd u s ≡ s = and-comm u s ∙ subset-and s u h in
 
 pub union-add : (s t : ℕ) → union s t ≤ s + t
 unfolding union
-union-add =
-    bin-ind (λ (s : ℕ). (t : ℕ) → bitOr s t ≤ s + t) (λ t. omega arith)
-    (λ s ih t. omega (arith, or-step s t, ih (t / 2)))
+union-add s t = omega (arith, or-add-and s t)
 
 -- ---- as many names
 
@@ -177,3 +172,33 @@ lowest-one =
     go s ih k (no f) =
         let same : lowest s / 2 ≡ 0 = omega (arith, lowest-odd s (omega arith)) in
         omega (arith, ones-step (lowest s), ap ones same, ones-empty, lowest-odd s (omega arith))
+
+-- ---- all names but one
+
+-- a set of names 0 to 28 without n
+pub others-in : (n s : ℕ) → s < 2 ^ 29 → T (not (has n s)) → T (subset s (others n))
+unfolding others
+others-in n s h f =
+    let whole : bitAnd s (2 ^ 29 - 1) ≡ s = and-mask s 29 ∙ mod-eq-of-lt h in
+    let all : T (subset s (2 ^ 29 - 1)) = and-subset s (2 ^ 29 - 1) whole in
+    subset-in s (less (2 ^ 29 - 1) (2 ^ n)) (λ m. go m (ℕ-discrete n m) (subset-out s (2 ^ 29 - 1) all m))
+  where
+    go : (m : ℕ) → Dec (n ≡ m) → digit s m ≤ digit (2 ^ 29 - 1) m → digit s m ≤ digit (less (2 ^ 29 - 1) (2 ^ n)) m
+    go m (yes e) k =
+        let zero : digit s n ≡ 0 = without (ℕ-discrete (digit s n) 1) in
+        omega (arith, ap (λ (x : ℕ). digit s x) e)
+      where
+        without : Dec (digit s n ≡ 1) → digit s n ≡ 0
+        without (yes q) = absurd (T-not (has n s) f (has-in n s q))
+        without (no q) = omega (arith, digit-lt s n)
+    go m (no g) k = omega (arith, digit-less (2 ^ 29 - 1) (2 ^ n) m, digit-single-other n m g)
+
+pub others-lt : (n s : ℕ) → T (subset s (others n)) → s < 2 ^ 29
+unfolding others
+others-lt n s h = omega (arith, subset-le s (2 ^ 29 - 1) (subset-trans s (less (2 ^ 29 - 1) (2 ^ n)) (2 ^ 29 - 1) h (less-subset (2 ^ 29 - 1) (2 ^ n))))
+
+pub others-out : (n s : ℕ) → T (subset s (others n)) → T (not (has n s))
+unfolding others
+others-out n s h =
+    not-T (has n s) (λ t.
+    absurd (omega (arith, has-out n s t, subset-out s (less (2 ^ 29 - 1) (2 ^ n)) h n, digit-less (2 ^ 29 - 1) (2 ^ n) n, digit-single-same n, digit-lt (2 ^ 29 - 1) n)))

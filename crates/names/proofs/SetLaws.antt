@@ -68,7 +68,7 @@ pub subset-and : (t s : ℕ) → T (subset t s) → bitAnd t s ≡ t
 unfolding subset
 subset-and t s h = eqb→eq (bitAnd t s) t h
 
-and-subset : (t s : ℕ) → bitAnd t s ≡ t → T (subset t s)
+pub and-subset : (t s : ℕ) → bitAnd t s ≡ t → T (subset t s)
 unfolding subset
 and-subset t s e = subst (λ (x : ℕ). T (eqb (bitAnd t s) x)) e (eqb-refl (bitAnd t s))
 

@@ -21,6 +21,10 @@ shared s t = bitAnd s t
 unfoldable pub less : ℕ → ℕ → ℕ
 less s t = s - bitAnd s t
 
+-- all names, "0 to 28", but n
+unfoldable pub others : ℕ → ℕ
+others n = less (2 ^ 29 - 1) (2 ^ n)
+
 -- the least name of s, as a set of its own
 unfoldable pub lowest : ℕ → ℕ
 lowest s = s - bitAnd s (s - 1)

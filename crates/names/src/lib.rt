@@ -3,7 +3,7 @@
 ghost use mathlib.Core.Path.{_≡_};
 ghost use Prim.Native.Nat.{_<_, _≤_, _^_};
 ghost use lib.Count.{ones};
-ghost use Rattle.names.specs.Sets.{subset as Sets·subset, union as Sets·union, shared as Sets·shared, less as Sets·less, lowest as Sets·lowest, has as Sets·has};
+ghost use Rattle.names.specs.Sets.{subset as Sets·subset, union as Sets·union, shared as Sets·shared, less as Sets·less, others as Sets·others, lowest as Sets·lowest, has as Sets·has};
 
 // Whether each name of t is in s.
 pub fn subset(t: u32, s: u32) -> bool
@@ -54,6 +54,14 @@ pub fn single(n: u32) -> u32
     ensures { λ r. ⌜ r ≡ 2 ^ n ⌝ }
 {
     1 << n
+}
+
+// All names but n.
+pub fn others(n: u32) -> u32
+    requires { ⌜ n < 32 ⌝ }
+    ensures { λ r. ⌜ r ≡ Sets·others n ⌝ }
+{
+    less(536870911, single(n))
 }
 
 // Whether s holds the name n: the own-name test.

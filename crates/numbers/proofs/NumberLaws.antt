@@ -11,7 +11,7 @@ use native.Mathlib.Numerals.{add-one}
 use native.Mathlib.Omega.{arith}
 use lib.Dec.{lit<}
 use lib.ListN.{length, getD, take, drop, set, length-append, List·getD-append}
-use lib.Seq.{sets-eq, take-at, take-all, take-add, take-suc, drop-cons, length-take-le, length-sets, getD-at, getD-set-other, set-getD, ext-getD}
+use lib.Seq.{sets-eq, take-at, take-all, take-add, take-suc, drop-cons, length-take-le, length-sets, getD-at, getD-take, getD-set-other, set-getD, ext-getD}
 use Rattle.numbers.specs.Numbers.{num, bytes, put, tab, Bytes, Words, wordsOf, bytesOf}
 
 -- ---- num: a number in bytes
@@ -182,6 +182,12 @@ pub tab-ext : {A : Type 0} (d : A) (n : ℕ) (f : ℕ → A) (vs : List A) → l
 tab-ext d n f vs e h =
     ext-getD d (tab n f) vs (length-tab n f ∙ sym e)
     (λ i p. let below : i < n = rw length-tab at p in getD-tab n i f d below ∙ h i below)
+
+-- the front of a table
+pub take-tab : {A : Type 0} (d : A) (n k : ℕ) (f : ℕ → A) → k ≤ n → take k (tab n f) ≡ tab k f
+take-tab d n k f h =
+    sym (tab-ext d k f (take k (tab n f)) (length-take-le k (tab n f) (rw length-tab h))
+    (λ i p. sym (getD-take k (tab n f) i d p ∙ getD-tab n i f d (omega arith))))
 
 -- a turn of the loop that stores a table
 pub tab-next : (f : ℕ → ℕ) (at i k v : ℕ) (s t : List ℕ) →

@@ -2,12 +2,12 @@
 use mathlib.Core.Path.{refl}
 use borrow.Author.Needs.{needs}
 use Rattle.names.specs.Sets.{lowest}
-use Rattle.names.proofs.PartLaws.{and-le}
+use lib.Bits.{and-le-l}
 use Rattle.names.proofs.lowest.Statement.{statement}
 use Rattle.names.proofs.lowest.Tie as tie
 
 fits : tie.Need-sub-result-2
-fits c = and-le _ _
+fits c = and-le-l _ _
 
 returns : tie.Need-returns
 unfolding lowest

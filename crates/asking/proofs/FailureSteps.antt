@@ -1,0 +1,171 @@
+-- One turn of each loop over the sets of failed names: row by row to the least set within a limit, and by rising limits to the fewest failures.
+-- The idea: a search keeps the least of the sets tried so far; with all rows tried, the sets tried are those within the limit for which an instant
+-- counts; so a limit without one shows that a set that works has more names. No contract cites this file. Assumes nothing.
+use Prim.Native.Nat.{ℕ, _+_, _-_, _≤_, _<_}
+use mathlib.Core.Path.{_≡_, sym, ap, subst, _∙_}
+use mathlib.Core.Logic.{_⊎_, inl, inr, ⊎-elim}
+use mathlib.Core.List.{List, []}
+use native.Mathlib.Nat.{le-trans}
+use native.Mathlib.Decide.{decLt}
+use native.Mathlib.Omega.{arith}
+use lib.Count.{ones}
+use lib.ListN.{length, getD}
+use Rattle.names.specs.Sets.{others}
+use Rattle.state.specs.Model.{Datum, Store, State}
+use Rattle.asking.specs.declared.Fewest.the-variants.{Over, Few}
+use Rattle.asking.specs.Instants.{Allowed}
+use Rattle.asking.specs.Search.{Fits, Best, Rows, preds, none}
+use Rattle.asking.specs.Tables.{entryClaim, claimAt, Loaded, Bounded}
+use Rattle.asking.specs.Ends.{Ready, Complete, Least, needs}
+use Rattle.asking.specs.Fewest.{fewest, Works}
+use Rattle.asking.proofs.ArrayLaws.{fits-allowed, allowed-fits, in-at, at-in, claim-datum, order-everything, everything-order, needs-needed, needed-needs, left-outside}
+use Rattle.asking.proofs.ReadyLaws.{Prepared}
+use Rattle.asking.proofs.FewestLaws.{Seen, works-ends, ends-works, fewest-found, fewest-over}
+
+-- r is the least of the sets W, or no set
+pub record LeastOf (W : ℕ → Type 0) (r : ℕ) : Type 0 where
+  pub from : (r ≡ none) ⊎ W r
+  pub low : r ≤ none
+  pub least : (u : ℕ) → W u → r ≤ u
+
+-- ---- row by row
+
+module _ (n rows : ℕ) (lefts rights counts masks order : List ℕ) (limit free : ℕ) where
+  -- u makes all predicates true, or those that a left end of rows n to i needs
+  abbrev pub Tried : ℕ → ℕ → Type 0
+  Tried i u =
+      Fits limit 0 free (preds rows order counts masks) u
+      ⊎ ((k : ℕ) × (n ≤ k) × (k < i) × Fits limit 0 free (needs rows lefts rights counts masks order (getD lefts k 0)) u)
+
+  pub least-begin : (r : ℕ) → Best 0 limit 0 free (preds rows order counts masks) none r → LeastOf (Tried n) r
+  least-begin r b =
+      record {
+        from = ⊎-elim (λ e. inl e) (λ f. inr (inl f)) (b .from);
+        low = b .low;
+        least = λ u. ⊎-elim
+            (λ f. ⊎-elim (λ l. l) (λ l. absurd (omega arith)) (b .least u f))
+            (λ w. absurd (omega (arith, w .1, w .2)));
+      }
+
+  module _ (i best : ℕ) (h : n ≤ i) (w : LeastOf (Tried i) best) where
+    more : (u : ℕ) → Tried i u → Tried (i + 1) u
+    more u = ⊎-elim (λ f. inl f) (λ t. inr (t .0, t .1, omega (arith, t .2), t .3))
+
+    pub least-next : (r : ℕ) → Best 0 limit 0 free (needs rows lefts rights counts masks order (getD lefts i 0)) best r → LeastOf (Tried (i + 1)) r
+    least-next r b =
+        record {
+          from = ⊎-elim
+              (λ (e : r ≡ best). ⊎-elim (λ d. inl (e ∙ d)) (λ t. inr (subst (λ (x : ℕ). Tried (i + 1) x) (sym e) (more best t))) (w .from))
+              (λ f. inr (inr (i, h, omega arith, f)))
+              (b .from);
+          low = le-trans (b .low) (w .low);
+          least = λ u t. go u t;
+        }
+      where
+        here : (u : ℕ) → Fits limit 0 free (needs rows lefts rights counts masks order (getD lefts i 0)) u → r ≤ u
+        here u f = ⊎-elim (λ l. l) (λ l. absurd (omega arith)) (b .least u f)
+
+        before : (u : ℕ) → Tried i u → r ≤ u
+        before u t = le-trans (b .low) (w .least u t)
+
+        last : (u k : ℕ) → n ≤ k → k < i + 1 → Fits limit 0 free (needs rows lefts rights counts masks order (getD lefts k 0)) u → Dec (k < i) → r ≤ u
+        last u k a l f (yes d) = before u (inr (k, a, d, f))
+        last u k a l f (no d) =
+            let e : k ≡ i = omega arith in
+            here u (subst (λ (j : ℕ). Fits limit 0 free (needs rows lefts rights counts masks order (getD lefts j 0)) u) e f)
+
+        go : (u : ℕ) → Tried (i + 1) u → r ≤ u
+        go u (inl f) = before u (inl f)
+        go u (inr t) = last u (t .0) (t .1) (t .2) (t .3) (decLt (t .0) i)
+
+  -- with all rows tried, it is the least
+
+  pub least-in : (r : ℕ) → LeastOf (Tried rows) r → Least n rows lefts rights counts masks order limit free r
+  least-in r w =
+      record { from = w .from; low = w .low; all = λ u f. w .least u (inl f); each = λ k a l u f. w .least u (inr (k, a, l, f)) }
+
+  least-out : (r : ℕ) → Least n rows lefts rights counts masks order limit free r → LeastOf (Tried rows) r
+  least-out r w =
+      record { from = w .from; low = w .low; least = λ u. ⊎-elim (w .all u) (λ t. w .each (t .0) (t .1) (t .2) u (t .3)) }
+
+-- the order read as rows
+pub ready-rows : {n rows : ℕ} {lefts rights counts masks order : List ℕ} → Ready n rows lefts rights counts masks order → Rows rows order counts masks
+ready-rows {order = order} ready =
+    record {
+      listed-long = ready .ordered;
+      counted = λ j h. omega (arith, ready .placed j h, ready .counted);
+      narrow = λ j h. ready .narrow (getD order j 0) (ready .placed j h);
+      long = λ j h. omega (arith, ready .placed j h, ready .narrow (getD order j 0) (ready .placed j h), ready .long);
+    }
+
+-- ---- the sets tried, and those that work
+
+module _ (k : Store) (n rows : ℕ) (counts masks order lefts rights : List ℕ) (loaded : Loaded k n rows counts masks)
+    (bounded : Bounded k rows lefts rights) (complete : Complete rows order) (limit own u : ℕ) where
+  -- a row behind the entries has a held datum
+  row-datum : (i : ℕ) → n ≤ i → claimAt k i ≡ getD (k .held) (i - n) (entryClaim [])
+  row-datum i h =
+      let place : i ≡ length (k .entries) + (i - n) = omega (arith, loaded .entries-are) in ap (claimAt k) place ∙ claim-datum k (i - n)
+
+  tried-seen : Tried n rows lefts rights counts masks order limit (others own) rows u → Allowed limit own u × Seen u k
+  tried-seen (inl f) = (fits-allowed limit own u _ f, inl (order-everything k n rows counts masks order loaded complete u (f .holding)))
+  tried-seen (inr t) =
+      let i = t .0 in
+      let f = t .3 in
+      let end : getD lefts i 0 ≡ getD (k .held) (i - n) (entryClaim []) .left = rw (sym (row-datum i (t .1))) (bounded .left-is i (t .2)) in
+      let outside = left-outside k rows lefts rights bounded (getD lefts i 0) in
+      let needed = needs-needed k n rows counts masks order loaded complete u lefts rights _ _ outside (f .holding) in
+      let there = at-in (k .held) (entryClaim []) (i - n) (omega (arith, t .1, t .2, loaded .rows-are)) in
+      (fits-allowed limit own u _ f, inr (getD (k .held) (i - n) (entryClaim []), there, rw end at needed))
+
+  seen-tried : Allowed limit own u → Seen u k → Tried n rows lefts rights counts masks order limit (others own) rows u
+  seen-tried a (inl t) = inl (allowed-fits limit own u _ a (everything-order k n rows counts masks order loaded complete u t))
+  seen-tried a (inr t) =
+      let w = in-at (k .held) (entryClaim []) (t .0) (t .1) in
+      let i = n + w .0 in
+      let l : i < rows = omega (arith, w .1, loaded .rows-are) in
+      let place : w .0 ≡ i - n = omega arith in
+      let same : t .0 ≡ claimAt k i =
+      w .2 ∙ ap (λ (j : ℕ). getD (k .held) j (entryClaim [])) place ∙ sym (row-datum i (omega arith)) in
+      let end : t .0 .left ≡ getD lefts i 0 = ap (λ (d : Datum). d .left) same ∙ sym (bounded .left-is i l) in
+      let outside = left-outside k rows lefts rights bounded (getD lefts i 0) in
+      let needed = needed-needs k n rows counts masks order loaded complete u lefts rights _ _ outside (rw end at (t .2)) in
+      inr (i, omega arith, l, allowed-fits limit own u _ a needed)
+
+-- ---- by rising limits
+
+-- every set that works has so many names
+pub record Floor (st : State) (limit : ℕ) : Type 0 where
+  pub under : (s : ℕ) → Works st s → limit ≤ ones s
+
+pub floor-none : (st : State) → Floor st 0
+floor-none st = record { under = λ s w. omega arith }
+
+pub floor-over : (st : State) → Floor st 5 → Over ≡ fewest st
+floor-over st f = fewest-over st (λ s w. omega (arith, f .under s w, w .0 .few))
+
+module _ {st : State} {n rows : ℕ} {counts masks order lefts rights : List ℕ} (p : Prepared st n rows counts masks order lefts rights) {limit r : ℕ}
+    (small : limit ≤ 4) (w : Least n rows lefts rights counts masks order limit (others (st .head .own)) r) (floor : Floor st limit) where
+  abbrev own : ℕ
+  own = st .head .own
+
+  -- a set of so few names that works was tried
+  least-works : (s : ℕ) → Works st s → ones s ≤ limit → r ≤ s
+  least-works s v h =
+      let a : Allowed limit own s = record { names = v .0 .names; few = h; others = v .0 .others } in
+      least-out n rows lefts rights counts masks order limit (others own) r w .least s
+      (seen-tried (st .store) n rows counts masks order lefts rights (p .loaded) (p .bounded) (p .complete) limit own s a (works-ends st s v))
+
+  pub floor-found : r < none → Few limit r ≡ fewest st
+  floor-found h =
+      let t = tried-seen (st .store) n rows counts masks order lefts rights (p .loaded) (p .bounded) (p .complete) limit own r
+      (⊎-elim (λ e. absurd (omega arith)) (λ t. t) (w .from)) in
+      let a : Allowed 4 own r = record { names = t .0 .names; few = omega (arith, t .0 .few); others = t .0 .others } in
+      fewest-found st limit r (ends-works st r a (t .1)) (t .0 .few) (floor .under) least-works
+
+  pub floor-next : none ≤ r → Floor st (limit + 1)
+  floor-next h = record { under = λ s v. go s v (decLt limit (ones s)) }
+    where
+      go : (s : ℕ) → Works st s → Dec (limit < ones s) → limit + 1 ≤ ones s
+      go s v (yes l) = omega arith
+      go s v (no l) = absurd (omega (arith, least-works s v (omega arith), v .0 .names))

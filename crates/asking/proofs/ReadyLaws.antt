@@ -1,0 +1,127 @@
+-- The arrays that a state in form is read into are ready for the search: all rows are in its order, and no left end is the number of no end.
+-- The idea: every row has 1 to 16 terms, so it is listed; places that the list does not reach hold 0, which is a row wherever there is one.
+-- No contract cites this file. Assumes nothing.
+use Prim.Native.Nat.{ℕ, zero, suc, _+_, _*_, _-_, _≤_, _<_}
+use mathlib.Core.Path.{_≡_, refl, ap, _∙_}
+use mathlib.Core.Logic.{inl, inr}
+use mathlib.Core.List.{List, [], _∷_, _++_}
+use native.Mathlib.Decide.{decLt}
+use native.Mathlib.Omega.{arith}
+use lib.Dec.{T}
+use lib.ListN.{length, getD, take, drop, length-replicate, getD-replicate, List·getD-append}
+use Rattle.numbers.specs.Numbers.{num, put, tab}
+use Rattle.numbers.proofs.NumberLaws.{length-put, put-front, getD-put-after}
+use Rattle.predicates.specs.Lists.{In}
+use Rattle.predicates.proofs.ListLaws.{all-out}
+use Rattle.state.specs.Model.{Store, State}
+use Rattle.state.specs.Layout.{heldCount, entryCount, zeros, joined, masksAt, storeOf, stateOf}
+use Rattle.state.specs.Form.{inForm, stateOk, datumOk}
+use Rattle.state.proofs.StateLaws.{state-out, held-count-le, entry-count-le, form-ok}
+use Rattle.engine.proofs.ReceiveLaws.{ok-datum-out}
+use Rattle.asking.specs.Tables.{entryClaim, claimAt, Loaded, Bounded, claimPlace, claimLeft, claimRight, ranked}
+use Rattle.asking.specs.Ends.{noEnd, Ready, Complete}
+use Rattle.asking.proofs.TableLaws.{length-ranked, ranked-in, ranked-out, loaded-in, bounded-in}
+use Rattle.asking.proofs.ArrayLaws.{claim-entry, claim-datum, at-in}
+
+-- ---- the order
+
+take-in : (n : ℕ) (l m : List ℕ) (x : ℕ) → length l ≤ n → In x l → In x (take n (l ++ m))
+take-in n [] m x h i = absurd i
+take-in zero (y ∷ l) m x h i = absurd (omega arith)
+take-in (suc n) (y ∷ l) m x h (inl e) = inl e
+take-in (suc n) (y ∷ l) m x h (inr i) = inr (take-in n l m x (omega arith) i)
+
+module _ {k : Store} {n rows : ℕ} {counts masks : List ℕ} (loaded : Loaded k n rows counts masks) (most : rows ≤ 48) where
+  abbrev listed : List ℕ
+  listed = ranked 16 counts rows
+
+  pub complete-in : (order : List ℕ) → order ≡ put 0 (ranked 16 counts rows) (zeros 48) → Complete rows order
+  complete-in order e =
+      record {
+        ordered = omega (arith, ap length e, length-put 0 listed (zeros 48), length-replicate {A = ℕ} 48 0);
+        placed = λ j h. go j h (decLt j (length listed));
+        present = λ i h. rw front (take-in rows listed _ i short (ranked-in 16 counts rows i h (loaded .few i h .0) (loaded .few i h .1)));
+      }
+    where
+      short : length listed ≤ rows
+      short = length-ranked 16 counts rows
+
+      front : order ≡ listed ++ drop (length listed) (zeros 48)
+      front = e ∙ put-front (length listed) listed (zeros 48) refl (omega (arith, short, length-replicate {A = ℕ} 48 0))
+
+      go : (j : ℕ) → j < rows → Dec (j < length listed) → getD order j 0 < rows
+      go j h (yes l) =
+          let at : getD order j 0 ≡ getD listed j 0 = ap (λ (o : List ℕ). getD o j 0) front ∙ List·getD-append listed _ 0 j l in
+          rw at (ranked-out 16 counts rows _ (at-in listed 0 j l))
+      go j h (no l) =
+          let at : getD order j 0 ≡ getD (zeros 48) j 0 = ap (λ (o : List ℕ). getD o j 0) e ∙ getD-put-after 0 j listed (zeros 48) (omega arith) in
+          omega (arith, getD-replicate {A = ℕ} 48 j 0 0 (omega arith))
+
+  pub ready-in : {lefts rights order : List ℕ} → Bounded k rows lefts rights → Complete rows order → ((i : ℕ) → i < rows → getD lefts i 0 < noEnd)
+      → Ready n rows lefts rights counts masks order
+  ready-in bounded complete below =
+      record {
+        entries-le = omega (arith, loaded .rows-are);
+        most = most;
+        lefts-long = bounded .lefts-long;
+        rights-long = bounded .rights-long;
+        below = below;
+        counted = loaded .counted;
+        narrow = λ i h. loaded .few i h .1;
+        long = loaded .long;
+        ordered = complete .ordered;
+        placed = complete .placed;
+      }
+
+-- ---- the ends
+
+module _ (st : State) (ok : T (stateOk st)) {n rows : ℕ} {counts masks : List ℕ} (loaded : Loaded (st .store) n rows counts masks) where
+  pub rows-most : rows ≤ 48
+  rows-most = let o = state-out st ok in omega (arith, o .held-le, o .entries-le, loaded .rows-are, loaded .entries-are)
+
+  -- "Stored ends lie from 0 to 2^58 − 1"
+  pub ends-below : {lefts rights : List ℕ} → Bounded (st .store) rows lefts rights
+      → (i : ℕ) → i < rows → (getD lefts i 0 ≤ 288230376151711743) × (getD rights i 0 ≤ 288230376151711743)
+  ends-below bounded i h = rw (bounded .left-is i h, bounded .right-is i h) (go (decLt i (length (st .store .entries))))
+    where
+      go : Dec (i < length (st .store .entries))
+          → (claimAt (st .store) i .left ≤ 288230376151711743) × (claimAt (st .store) i .right ≤ 288230376151711743)
+      go (yes a) = rw (claim-entry (st .store) i a) (omega arith, omega arith)
+      go (no a) =
+          let held = st .store .held in
+          let j = i - length (st .store .entries) in
+          let place : i ≡ length (st .store .entries) + j = omega arith in
+          let same : claimAt (st .store) i ≡ getD held j (entryClaim []) = ap (claimAt (st .store)) place ∙ claim-datum (st .store) j in
+          let there = at-in held (entryClaim []) j (omega (arith, loaded .rows-are, loaded .entries-are)) in
+          let d = ok-datum-out (st .head .own) _ (all-out (datumOk (st .head .own)) held (state-out st ok .held) _ there) in
+          rw same (omega (arith, d .ends, d .below), omega (arith, d .below))
+
+-- ---- what the calls before a search leave of a state in form
+
+pub record Prepared (st : State) (n rows : ℕ) (counts masks order lefts rights : List ℕ) : Type 0 where
+  pub loaded : Loaded (st .store) n rows counts masks
+  pub bounded : Bounded (st .store) rows lefts rights
+  pub complete : Complete rows order
+  pub ready : Ready n rows lefts rights counts masks order
+
+module _ (s : List ℕ) (t : T (inForm s)) (n h : ℕ) (a : n ≡ entryCount s) (b : h ≡ heldCount s) where
+  abbrev rows : ℕ
+  rows = n + h
+
+  pub rows-fit : (n ≤ 32) × (h ≤ 16)
+  rows-fit = (omega (arith, entry-count-le s t), omega (arith, held-count-le s t))
+
+  pub prepared-in : (counts masks order lefts rights : List ℕ) → counts ≡ tab rows (λ i. num (claimPlace n i) 4 s) ++ drop rows (zeros 48)
+      → masks ≡ joined (λ p. p) (tab rows (λ i. masksAt 16 (claimPlace n i) s)) ++ drop (rows * 16) (zeros 768)
+      → order ≡ put 0 (ranked 16 counts rows) (zeros 48) → lefts ≡ tab rows (λ i. claimLeft s n i) ++ drop rows (zeros 48)
+      → rights ≡ tab rows (λ i. claimRight s n i) ++ drop rows (zeros 48) → Prepared (stateOf s) n rows counts masks order lefts rights
+  unfolding stateOf
+  prepared-in counts masks order lefts rights p q o l r =
+      let room : rows ≤ length (zeros 48) = omega (arith, rows-fit, length-replicate {A = ℕ} 48 0) in
+      let wide : rows * 16 ≤ length (zeros 768) = omega (arith, rows-fit, length-replicate {A = ℕ} 768 0) in
+      let loaded : Loaded (storeOf s) n rows counts masks = loaded-in s t n h rows a b refl _ _ counts masks room wide p q in
+      let bounded : Bounded (storeOf s) rows lefts rights = bounded-in s t n h rows a b refl _ _ lefts rights room room l r in
+      let most : rows ≤ 48 = omega (arith, rows-fit) in
+      let complete : Complete rows order = complete-in loaded most order o in
+      let below : (i : ℕ) → i < rows → getD lefts i 0 < noEnd = λ i k. omega (arith, ends-below (stateOf s) (form-ok s t) loaded bounded i k .0) in
+      record { loaded = loaded; bounded = bounded; complete = complete; ready = ready-in loaded most bounded complete below }

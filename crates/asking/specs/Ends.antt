@@ -1,0 +1,70 @@
+-- The ends at which an answer can begin: what it takes to explain an instant, over the claims in flat arrays, and the first end that can be explained.
+-- Assumes nothing: these are definitions.
+use Prim.Native.Nat.{ℕ, _+_, _*_, _^_, _-_, _≤_, _<_}
+use mathlib.Core.Path.{_≡_}
+use mathlib.Core.Logic.{_⊎_}
+use mathlib.Core.List.{List, _∷_, map}
+use lib.ListN.{length, getD, take, drop}
+use Rattle.predicates.specs.Lists.{keep, In}
+use Rattle.asking.specs.Search.{Fits, Best, preds, none}
+use Rattle.asking.specs.Tables.{outside}
+
+-- no end
+abbrev pub noEnd : ℕ
+noEnd = 2 ^ 64 - 1
+
+-- r is the least of the ends in places `from` to `to` that is no less than the floor, or no end
+pub record Next (ends : List ℕ) (from to floor r : ℕ) : Type 0 where
+  pub one : (r ≡ noEnd) ⊎ ((k : ℕ) × (from ≤ k) × (k < to) × (r ≡ getD ends k 0) × (floor ≤ r))
+  pub least : (k : ℕ) → from ≤ k → k < to → floor ≤ getD ends k 0 → r ≤ getD ends k 0
+
+-- the arrays have `rows` rows, of which the first n have no end of interest, and all rows are in the order of the search
+pub record Ready (n rows : ℕ) (lefts rights counts masks order : List ℕ) : Type 0 where
+  pub entries-le : n ≤ rows
+  pub most : rows ≤ 48
+  pub lefts-long : rows ≤ length lefts
+  pub rights-long : rows ≤ length rights
+  pub below : (k : ℕ) → k < rows → getD lefts k 0 < noEnd
+  pub counted : rows ≤ length counts
+  pub narrow : (k : ℕ) → k < rows → getD counts k 0 ≤ 16
+  pub long : rows * 16 ≤ length masks
+  pub ordered : rows ≤ length order
+  pub placed : (j : ℕ) → j < rows → getD order j 0 < rows
+
+-- the predicate of row k
+abbrev pub rowTerms : List ℕ → List ℕ → ℕ → List ℕ
+rowTerms counts masks k = take (getD counts k 0) (drop (k * 16) masks)
+
+-- the predicates to be made true for the instant x
+unfoldable pub needs : ℕ → List ℕ → List ℕ → List ℕ → List ℕ → List ℕ → ℕ → List (List ℕ)
+needs rows lefts rights counts masks order x = map (rowTerms counts masks) (keep (outside lefts rights x) (take rows order))
+
+-- the end is the first of the left ends from row n on that a set within the limit explains, with that set; or no end is explained
+pub record First (n rows : ℕ) (lefts rights counts masks order : List ℕ) (limit free end set : ℕ) : Type 0 where
+  pub found : set < none → (k : ℕ) × (n ≤ k) × (k < rows) × (end ≡ getD lefts k 0) × Fits limit 0 free (needs rows lefts rights counts masks order end) set
+  pub others : (k : ℕ) → n ≤ k → k < rows → (none ≤ set) ⊎ (getD lefts k 0 < end)
+      → (u : ℕ) → Fits limit 0 free (needs rows lefts rights counts masks order (getD lefts k 0)) u → ⊥
+
+-- no left end below the floor is explained
+abbrev pub Unexplained : ℕ → ℕ → List ℕ → List ℕ → List ℕ → List ℕ → List ℕ → ℕ → ℕ → ℕ → Type 0
+Unexplained n rows lefts rights counts masks order limit free floor =
+    (k : ℕ) → n ≤ k → k < rows → getD lefts k 0 < floor → (u : ℕ) → Fits limit 0 free (needs rows lefts rights counts masks order (getD lefts k 0)) u → ⊥
+
+-- what comes of the terms from `at` on, and of the predicates behind them, comes of the whole
+abbrev pub Trying : ℕ → ℕ → List (List ℕ) → List ℕ → List (List ℕ) → ℕ → ℕ → ℕ → Type 0
+Trying limit free whole masks ps end at left =
+    (r : ℕ) → Best none limit 0 left (take (end - at) (drop at masks) ∷ ps) none r → Best none limit 0 free whole none r
+
+-- the first `rows` of the order are the rows, all of them
+pub record Complete (rows : ℕ) (order : List ℕ) : Type 0 where
+  pub ordered : rows ≤ length order
+  pub placed : (j : ℕ) → j < rows → getD order j 0 < rows
+  pub present : (i : ℕ) → i < rows → In i (take rows order)
+
+-- r is the least of the sets within the limit that make all predicates true, or those that a left end from row n on needs; or no set
+pub record Least (n rows : ℕ) (lefts rights counts masks order : List ℕ) (limit free r : ℕ) : Type 0 where
+  pub from : (r ≡ none) ⊎ (Fits limit 0 free (preds rows order counts masks) r
+      ⊎ ((k : ℕ) × (n ≤ k) × (k < rows) × Fits limit 0 free (needs rows lefts rights counts masks order (getD lefts k 0)) r))
+  pub low : r ≤ none
+  pub all : (u : ℕ) → Fits limit 0 free (preds rows order counts masks) u → r ≤ u
+  pub each : (k : ℕ) → n ≤ k → k < rows → (u : ℕ) → Fits limit 0 free (needs rows lefts rights counts masks order (getD lefts k 0)) u → r ≤ u

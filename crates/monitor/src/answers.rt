@@ -1,0 +1,89 @@
+// Asking and the fewest failures, for C.
+ghost use mathlib.Core.Path.{_≡_};
+ghost use mathlib.Core.List.{[], _∷_};
+ghost use Prim.Native.Nat.{_≤_};
+ghost use lib.ListN.{length};
+ghost use Rattle.numbers.specs.Numbers.{put};
+ghost use Rattle.asking.specs.Asking.{answerNumbers};
+ghost use Rattle.asking.specs.Fewest.{fewestNumbers};
+ghost use Rattle.monitor.specs.Ask.{wide, askNumber, askOutput, fewestNumber, fewestOutput};
+use asking::Answer;
+use asking::Fewest;
+
+// Writes three numbers of 8 bytes at the front.
+fn put_three(out: &mut [u8], a: u64, b: u64, c: u64)
+    requires { ⌜ 24 ≤ length (now out) ⌝ }
+    ensures { λ _. ⌜ now (out .exit) ≡ put 0 (wide (a ∷ b ∷ c ∷ [])) (now (out .entry)) ⌝ }
+{
+    numbers::put64(out, 0, a);
+    numbers::put64(out, 8, b);
+    numbers::put64(out, 16, c);
+}
+
+// Writes an answer: 0 contradicted, 1 open, 2 between; left; right.
+fn put_answer(out: &mut [u8], got: Answer)
+    requires { ⌜ 24 ≤ length (now out) ⌝ }
+    ensures { λ _. ⌜ now (out .exit) ≡ put 0 (wide (answerNumbers got)) (now (out .entry)) ⌝ }
+{
+    match got {
+        Answer::Contradicted => put_three(out, 0, 0, 0),
+        Answer::Open => put_three(out, 1, 0, 0),
+        Answer::Between(left, right) => put_three(out, 2, left, right),
+    }
+}
+
+// Writes the fewest failures: their count and mask; 5 and 0 where there are more than 4.
+fn put_fewest(out: &mut [u8], got: Fewest)
+    requires { ⌜ 16 ≤ length (now out) ⌝ }
+    ensures { λ _. ⌜ now (out .exit) ≡ put 0 (wide (fewestNumbers got)) (now (out .entry)) ⌝ }
+{
+    let mut count: u64 = 5;
+    let mut mask: u64 = 0;
+    if let Fewest::Few(n, m) = got {
+        count = n as u64;
+        mask = m as u64;
+    }
+    numbers::put64(out, 0, count);
+    numbers::put64(out, 8, mask);
+}
+
+// Asks at a limit of failed names: 24 bytes of answer. Answers 0, or 24, 25, 22 or 24 for the output.
+#[no_mangle]
+pub extern "C" fn monitor_ask(state: &[u8], limit: u64, answer: &mut [u8]) -> u32
+    ensures { λ r. ⌜ r ≡ askNumber (now (state .entry)) limit (now (answer .entry)) ⌝ }
+    ensures { λ _. ⌜ now (answer .exit) ≡ askOutput (now (state .entry)) limit (now (answer .entry)) ⌝ }
+{
+    if state.len() < 3032 {
+        return 24;
+    }
+    if !state::form::in_form(state) {
+        return 25;
+    }
+    if 4 < limit {
+        return 22;
+    }
+    if answer.len() < 24 {
+        return 24;
+    }
+    put_answer(answer, asking::ask::ask(state, limit as u32));
+    0
+}
+
+// The fewest failures that explain the state: 16 bytes of answer. Answers 0, or 24, 25 or 24 for the output.
+#[no_mangle]
+pub extern "C" fn monitor_fewest(state: &[u8], answer: &mut [u8]) -> u32
+    ensures { λ r. ⌜ r ≡ fewestNumber (now (state .entry)) (now (answer .entry)) ⌝ }
+    ensures { λ _. ⌜ now (answer .exit) ≡ fewestOutput (now (state .entry)) (now (answer .entry)) ⌝ }
+{
+    if state.len() < 3032 {
+        return 24;
+    }
+    if !state::form::in_form(state) {
+        return 25;
+    }
+    if answer.len() < 16 {
+        return 24;
+    }
+    put_fewest(answer, asking::failures::fewest_failures(state));
+    0
+}

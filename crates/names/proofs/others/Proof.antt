@@ -1,0 +1,13 @@
+-- `names::others` meets its contract: the code is the definition.
+use mathlib.Core.Path.{ap, _∙_}
+use borrow.Author.Needs.{needs}
+use Rattle.names.specs.Sets.{less, others}
+use Rattle.names.proofs.others.Statement.{statement}
+use Rattle.names.proofs.others.Tie as tie
+
+returns : tie.Need-returns
+unfolding others
+returns c = c .less .ensures ∙ ap (less 536870911) (c .before .single .ensures)
+
+pub others-spec : {M : Type 1} → statement M
+others-spec = tie.close (tie.spec (λ c κs. search needs) (λ c κs. search needs) returns)
