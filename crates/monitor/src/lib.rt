@@ -8,8 +8,8 @@ ghost use Rattle.numbers.specs.Numbers.{bytes, put};
 ghost use Rattle.monitor.specs.Messages.{wordsIn, readNumber, readOutput, rewriteNumber, rewriteOutput};
 use message::Reading;
 
-pub mod answers;
 pub mod calls;
+pub mod questions;
 pub mod receive;
 
 // Puts the words of a message's bytes at the front of `words` and answers how many; none where the bytes cannot be a message's.

@@ -32,19 +32,24 @@ fn put_answer(out: &mut [u8], got: Answer)
     }
 }
 
+// Writes two numbers of 8 bytes at the front.
+fn put_two(out: &mut [u8], a: u64, b: u64)
+    requires { ⌜ 16 ≤ length (now out) ⌝ }
+    ensures { λ _. ⌜ now (out .exit) ≡ put 0 (wide (a ∷ b ∷ [])) (now (out .entry)) ⌝ }
+{
+    numbers::put64(out, 0, a);
+    numbers::put64(out, 8, b);
+}
+
 // Writes the fewest failures: their count and mask; 5 and 0 where there are more than 4.
 fn put_fewest(out: &mut [u8], got: Fewest)
     requires { ⌜ 16 ≤ length (now out) ⌝ }
     ensures { λ _. ⌜ now (out .exit) ≡ put 0 (wide (fewestNumbers got)) (now (out .entry)) ⌝ }
 {
-    let mut count: u64 = 5;
-    let mut mask: u64 = 0;
-    if let Fewest::Few(n, m) = got {
-        count = n as u64;
-        mask = m as u64;
+    match got {
+        Fewest::Over => put_two(out, 5, 0),
+        Fewest::Few(count, mask) => put_two(out, count as u64, mask as u64),
     }
-    numbers::put64(out, 0, count);
-    numbers::put64(out, 8, mask);
 }
 
 // Asks at a limit of failed names: 24 bytes of answer. Answers 0, or 24, 25, 22 or 24 for the output.
