@@ -1,9 +1,10 @@
 //! The calls over a state as values: a run is a list of them.
 
+use crate::asking::{ANSWER_BYTES, FEWEST_BYTES};
 use crate::lent::{compare, Lent};
 use crate::receiving::Branches;
 use crate::state::STATE_BYTES;
-use crate::{ageing, engine, receiving, set_up, writing};
+use crate::{ageing, asking, engine, receiving, set_up, writing};
 use std::fmt;
 
 /// A call with its arguments, the lent bytes aside.
@@ -13,14 +14,22 @@ pub enum Call {
     Age { reading: u64 },
     Receive { least: u64, greatest: u64, message: Vec<u8> },
     Write { position: u64 },
+    Ask { limit: u64 },
+    Fewest,
 }
 
 /// The longest written message, in bytes.
 const MESSAGE_BYTES: usize = 4 * 14;
 
 impl Call {
-    pub const NAMES: [&str; 4] =
-        ["monitor_set_up", "monitor_age", "monitor_receive", "monitor_write"];
+    pub const NAMES: [&str; 6] = [
+        "monitor_set_up",
+        "monitor_age",
+        "monitor_receive",
+        "monitor_write",
+        "monitor_ask",
+        "monitor_fewest",
+    ];
 
     /// Its place in the names.
     pub fn kind(&self) -> usize {
@@ -29,6 +38,8 @@ impl Call {
             Call::Age { .. } => 1,
             Call::Receive { .. } => 2,
             Call::Write { .. } => 3,
+            Call::Ask { .. } => 4,
+            Call::Fewest => 5,
         }
     }
 
@@ -41,6 +52,8 @@ impl Call {
                 receiving::call_seen(state, least, greatest, message, seen)
             }
             Call::Write { position } => writing::call(state, position, out),
+            Call::Ask { limit } => asking::ask_call(state, limit, out),
+            Call::Fewest => asking::fewest_call(state, out),
         }
     }
 
@@ -55,6 +68,8 @@ impl Call {
                 engine::monitor_receive(state, least, greatest, message)
             }
             Call::Write { position } => engine::monitor_write(state, position, out),
+            Call::Ask { limit } => engine::monitor_ask(state, limit, out),
+            Call::Fewest => engine::monitor_fewest(state, out),
         }
     }
 
@@ -67,6 +82,8 @@ impl Call {
     ) -> Result<u32, String> {
         let fronts = match self {
             Call::Write { .. } => [0, MESSAGE_BYTES],
+            Call::Ask { .. } => [0, ANSWER_BYTES],
+            Call::Fewest => [0, FEWEST_BYTES],
             _ => [STATE_BYTES, 0],
         };
         compare(state, out, fronts, |s, o| self.second(s, o, seen), |s, o| self.engine(s, o))
@@ -86,6 +103,8 @@ impl fmt::Debug for Call {
                 write!(f, "{name} {least} {greatest} {words:?} of {} bytes", message.len())
             }
             Call::Write { position } => write!(f, "{name} {position}"),
+            Call::Ask { limit } => write!(f, "{name} {limit}"),
+            Call::Fewest => write!(f, "{name}"),
         }
     }
 }

@@ -45,6 +45,21 @@ mod c {
             message: *mut u8,
             message_len: usize,
         ) -> u32;
+
+        pub fn monitor_ask(
+            state: *const u8,
+            state_len: usize,
+            limit: u64,
+            answer: *mut u8,
+            answer_len: usize,
+        ) -> u32;
+
+        pub fn monitor_fewest(
+            state: *const u8,
+            state_len: usize,
+            answer: *mut u8,
+            answer_len: usize,
+        ) -> u32;
     }
 }
 
@@ -86,4 +101,17 @@ pub fn monitor_write(state: &[u8], position: u64, message: &mut [u8]) -> u32 {
     let (message, message_len) = (message.as_mut_ptr(), message.len());
     // Safe: as above.
     unsafe { c::monitor_write(state.as_ptr(), state.len(), position, message, message_len) }
+}
+
+/// The engine's `monitor_ask`.
+pub fn monitor_ask(state: &[u8], limit: u64, answer: &mut [u8]) -> u32 {
+    let (answer, answer_len) = (answer.as_mut_ptr(), answer.len());
+    // Safe: as above.
+    unsafe { c::monitor_ask(state.as_ptr(), state.len(), limit, answer, answer_len) }
+}
+
+/// The engine's `monitor_fewest`.
+pub fn monitor_fewest(state: &[u8], answer: &mut [u8]) -> u32 {
+    // Safe: as above.
+    unsafe { c::monitor_fewest(state.as_ptr(), state.len(), answer.as_mut_ptr(), answer.len()) }
 }

@@ -6,6 +6,7 @@
 //! inputs.
 
 pub mod ageing;
+pub mod asking;
 pub mod calls;
 pub mod engine;
 pub mod instants;

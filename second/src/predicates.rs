@@ -25,6 +25,27 @@ pub fn holds(s: Term, p: &[Term]) -> bool {
     p.iter().any(|&t| within(t, s))
 }
 
+/// The sets of at most so many of the names: smaller ones first, those of one size by rising masks.
+pub fn sets(names: Term, most: u32) -> Vec<Term> {
+    let (mut all, mut largest) = (vec![0], vec![0]);
+    for _ in 0..most {
+        // A set is its highest name and a smaller set below that name.
+        let highest = (0..=GREATEST_NAME).map(|n| 1 << n).filter(|name| names & name != 0);
+        let with =
+            |name: Term| largest.iter().take_while(move |&&s| s < name).map(move |s| s | name);
+        largest = highest.flat_map(with).collect();
+        all.extend(&largest);
+    }
+    all
+}
+
+/// The names of the terms that a set of at most so many names can contain. A set without all other
+/// names makes the same predicates true.
+pub fn names_within<'a>(predicates: impl Iterator<Item = &'a Predicate>, most: u32) -> Term {
+    let terms = predicates.flat_map(|p| p.iter());
+    terms.filter(|t| t.count_ones() <= most).fold(0, |names, t| names | t)
+}
+
 /// How many names the smallest term has; false has none.
 pub fn degree(p: &[Term]) -> Option<u32> {
     p.iter().map(|t| t.count_ones()).min()
@@ -110,6 +131,11 @@ impl Predicate {
         let count = normal_to_front(all);
         all[count..].fill(0);
         Predicate::of_array(count, terms)
+    }
+
+    /// As for slices; most sets that make it true have a name that does so alone.
+    pub fn holds(&self, s: Term) -> bool {
+        s & self.alone != 0 || holds(s, self)
     }
 
     /// As for slices; most pairs differ already in what a name does alone.

@@ -36,6 +36,8 @@ pub const SENDER: u32 = 18;
 pub const EARLIER: u32 = 20;
 /// Least delay above greatest, or greatest above 60,000,000.
 pub const DELAYS: u32 = 21;
+/// Limit above 4.
+pub const LIMIT: u32 = 22;
 /// No held datum there.
 pub const POSITION: u32 = 23;
 /// Buffer too short.

@@ -1,11 +1,12 @@
 //! The second program on its own: document 01's cases at the level of state, the layout of its
-//! bytes, and what a run leaves true, set by set.
+//! bytes, what a run leaves true, set by set, and what asking says, instant by instant.
 
 use second::ageing::advance;
+use second::asking::{ask, counting, fewest};
 use second::calls::Call;
-use second::instants::Interval;
+use second::instants::{Instants, Interval};
 use second::message::{self, Message};
-use second::predicates::{holds, struck, Predicate, Term};
+use second::predicates::{self, holds, struck, Predicate, Term, ALL_NAMES};
 use second::random::Random;
 use second::receiving::Branches;
 use second::samples::runs::World;
@@ -160,40 +161,6 @@ fn bytes_in_form_come_back_after_decoding_and_encoding() {
 
 // ---- what a run leaves true
 
-/// The instants that a set allows; all of them are from the lowest to the highest number.
-type Instants = Option<(i128, i128)>;
-const EVERY: Instants = Some((i128::MIN, i128::MAX));
-
-fn common(one: Instants, other: Instants) -> Instants {
-    let ((a, b), (c, d)) = (one?, other?);
-    let (left, right) = (a.max(c), b.min(d));
-    (left <= right).then_some((left, right))
-}
-
-/// True time is in the interval, or s makes the predicate true.
-fn allowed_by(s: Term, datum: &Datum) -> Instants {
-    let Interval { left, right } = datum.interval;
-    if holds(s, &datum.predicate) {
-        EVERY
-    } else {
-        Some((left.into(), right.into()))
-    }
-}
-
-fn allowed_by_data(s: Term, state: &State) -> Instants {
-    state.held.iter().fold(EVERY, |instants, datum| common(instants, allowed_by(s, datum)))
-}
-
-/// Those at which s makes every entry true and every datum has its interval or its predicate.
-fn allowed(s: Term, state: &State) -> Instants {
-    let entries = state.entries.iter().all(|entry| holds(s, entry));
-    if entries {
-        allowed_by_data(s, state)
-    } else {
-        None
-    }
-}
-
 /// The datum that a message is to its receiver.
 fn received(own: u32, least: u64, greatest: u64, message: &[u8]) -> Datum {
     let words = message::words_of(message).expect("whole words");
@@ -224,8 +191,9 @@ fn receipt_says_what_its_message_does(seed: u64, call: &Call, before: &State, af
     if let Call::Receive { least, greatest, message } = call {
         let new = received(before.own, *least, *greatest, message);
         for s in sets(before.own) {
-            let wanted = common(allowed(s, before), allowed_by(s, &new));
-            assert_eq!(allowed(s, after), wanted, "seed {seed}: set {s}, {call:?} in {before:?}");
+            let had = counting(s, before);
+            let wanted = if holds(s, &new.predicate) { had } else { had.meet(new.interval) };
+            assert_eq!(counting(s, after), wanted, "seed {seed}: set {s}, {call:?} in {before:?}");
         }
     }
 }
@@ -246,8 +214,10 @@ fn receipts_in_runs_say_what_their_messages_do() {
                 receipt_says_what_its_message_does(seed, &call, &before, &after);
                 taken += u64::from(matches!(call, Call::Receive { .. }));
                 // What disjoint intervals taught is in the entries: the data left agree.
-                let learnt =
-                    |s| allowed(s, &after).is_some() || after.entries.iter().any(|e| !holds(s, e));
+                let learnt = |s| {
+                    counting(s, &after) != Instants::Empty
+                        || after.entries.iter().any(|e| !holds(s, e))
+                };
                 assert!(sets(after.own).all(learnt), "seed {seed}: {after:?}");
             }
         }
@@ -270,4 +240,71 @@ fn receipts_in_any_state_in_form_say_what_their_messages_do() {
         }
     }
     assert!(taken > 10_000, "only {taken} receipts");
+}
+
+// ---- asking, instant by instant
+
+/// Instants around all ends of a state whose ends are below 41; the outermost are in no interval.
+const AROUND: std::ops::RangeInclusive<i128> = -1..=41;
+
+/// Whether the instant counts for s, in document 01's words.
+fn counts(x: i128, s: Term, state: &State) -> bool {
+    let contains = |Interval { left, right }| (i128::from(left)..=right.into()).contains(&x);
+    state.entries.iter().all(|entry| holds(s, entry))
+        && state.held.iter().all(|datum| holds(s, &datum.predicate) || contains(datum.interval))
+}
+
+/// The answer by those of the instants around that count: all if the outermost do.
+fn answer(counting: &[i128]) -> Instants {
+    match (counting.first(), counting.last()) {
+        (Some(-1), Some(41)) => Instants::All,
+        (Some(&left), Some(&right)) => Instants::Between(left, right),
+        _ => Instants::Empty,
+    }
+}
+
+/// A state with small ends.
+fn small(random: &mut Random) -> State {
+    loop {
+        let state = states::to_ask(random);
+        if state.held.iter().all(|datum| datum.interval.right < 41) {
+            return state;
+        }
+    }
+}
+
+/// All sets without the own name are tried, of whatever names: to limit 2, and now and then to 4.
+#[test]
+fn asking_tells_the_least_and_greatest_instant_that_counts() {
+    for seed in 0..300 {
+        let state = small(&mut Random::new(seed));
+        let most = if seed % 20 == 0 { 4 } else { 2 };
+        let all = predicates::sets(ALL_NAMES & !(1 << state.own), most);
+        for limit in 0..=most {
+            let sets = || all.iter().copied().filter(|s| s.count_ones() <= limit);
+            let counting: Vec<i128> =
+                AROUND.filter(|&x| sets().any(|s| counts(x, s, &state))).collect();
+            assert_eq!(ask(&state, limit), answer(&counting), "seed {seed}: {limit}, {state:?}");
+        }
+        let explains = |&s: &Term| AROUND.clone().any(|x| counts(x, s, &state));
+        let least = all.into_iter().filter(explains).min_by_key(|s| (s.count_ones(), *s));
+        let found = fewest(&state).filter(|s| s.count_ones() <= most);
+        assert_eq!(found, least, "seed {seed}: {state:?}");
+    }
+}
+
+#[test]
+fn asking_tells_what_counts_for_each_set() {
+    let mut met = [0; 3];
+    for seed in 0..5_000 {
+        let state = small(&mut Random::new(seed));
+        let data = state.held.iter().map(|datum| &datum.predicate);
+        for s in predicates::sets(predicates::names_within(data.chain(&state.entries), 3), 3) {
+            let instants: Vec<i128> = AROUND.filter(|&x| counts(x, s, &state)).collect();
+            let wanted = answer(&instants);
+            assert_eq!(counting(s, &state), wanted, "seed {seed}: {s}, {state:?}");
+            met[usize::from(wanted != Instants::Empty) + usize::from(wanted == Instants::All)] += 1;
+        }
+    }
+    assert!(met.iter().all(|&count| count > 10_000), "{met:?}");
 }

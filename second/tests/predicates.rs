@@ -1,6 +1,9 @@
 //! The second program's predicates against what document 01 says of them, set by set.
 
-use second::predicates::{degree, holds, implies, is_normal, normal, struck, sum, Predicate, Term};
+use second::predicates::{
+    degree, holds, implies, is_normal, names_within, normal, sets, struck, sum, Predicate, Term,
+    ALL_NAMES,
+};
 use second::random::Random;
 use std::collections::{BTreeMap, BTreeSet};
 
@@ -163,5 +166,45 @@ fn laws_over_all_sets_of_six_names() {
         }
         let least = (0..64u32).filter(|s| true_p >> s & 1 != 0).map(u32::count_ones).min();
         assert_eq!(degree(&p), least, "seed {seed}");
+    }
+}
+
+// ---- sets
+
+#[test]
+fn sets_are_all_within_the_limit_in_the_order_of_size_and_mask() {
+    for names in [0, 1, 1 << 28, 0b1010_0110_1101, 0b1111_1111_1111] {
+        for most in 0..=5 {
+            let within = |s: &Term| s & !names == 0 && s.count_ones() <= most;
+            let mut wanted: Vec<Term> = (0..1 << 12).chain([1 << 28]).filter(within).collect();
+            wanted.sort_by_key(|s| (s.count_ones(), *s));
+            assert_eq!(sets(names, most), wanted, "{names:b} {most}");
+        }
+    }
+}
+
+#[test]
+fn sets_of_28_names_are_as_many_as_binomials_say() {
+    let all = sets(ALL_NAMES & !(1 << 13), 4);
+    assert_eq!(all.len(), 1 + 28 + 378 + 3_276 + 20_475);
+    assert!(all.is_sorted_by_key(|s| (s.count_ones(), *s)));
+    assert_eq!(all.iter().collect::<BTreeSet<_>>().len(), all.len());
+    assert!(all.iter().all(|s| s >> 13 & 1 == 0 && s >> 29 == 0 && s.count_ones() <= 4));
+}
+
+/// Names of larger terms only, or of none, make no predicate true within the limit.
+#[test]
+fn names_within_a_limit_make_the_same_predicates_true() {
+    for seed in 0..2_000 {
+        let mut random = Random::new(seed);
+        let all: Vec<Predicate> =
+            (0..3).map(|_| Predicate::of(&any_predicate(&mut random))).collect();
+        for most in 0..=4 {
+            let names = names_within(all.iter(), most);
+            for s in (0..1 << 6).filter(|s: &Term| s.count_ones() <= most) {
+                let same = |p: &Predicate| p.holds(s) == true_under(s & names, p);
+                assert!(all.iter().all(same), "seed {seed}: {all:?} {s} {most}");
+            }
+        }
     }
 }

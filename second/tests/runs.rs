@@ -15,11 +15,13 @@ use std::io::Write as _;
 // ---- what was reached
 
 /// What each call can return.
-const NUMBERS: [&[u32]; 4] = [
+const NUMBERS: [&[u32]; 6] = [
     &[0, 1, 2, 3, 24],
     &[0, 3, 20, 24, 25, 30],
     &[0, 10, 11, 12, 13, 14, 15, 16, 17, 18, 21, 24, 25, 30, 31, 32],
     &[0, 23, 24, 25],
+    &[0, 22, 24, 25],
+    &[0, 24, 25],
 ];
 
 /// The branches that only crowded places have to meet.
@@ -32,7 +34,7 @@ const ENOUGH: u64 = 100;
 struct Seen {
     runs: u64,
     /// By call and number.
-    numbers: [BTreeMap<u32, u64>; 4],
+    numbers: [BTreeMap<u32, u64>; 6],
     /// Of taken receipts; of refused ones those that say why.
     branches: [u64; Branch::ALL.len()],
     /// Refused 32 although the receipt ended at step 2.
@@ -140,6 +142,8 @@ impl<'a> Run<'a> {
     fn call(&mut self, call: &Call) -> u32 {
         let len = match call {
             Call::Write { .. } => self.random.pick(&[0, 23, 24, 27, 28, 32, 55, 56, 57, 70]),
+            Call::Ask { .. } => self.random.pick(&[0, 16, 23, 24, 25, 32, 70]),
+            Call::Fewest => self.random.pick(&[0, 8, 15, 16, 17, 24, 70]),
             _ => 0,
         };
         let filled = self.random.bytes(len);

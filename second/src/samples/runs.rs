@@ -73,11 +73,21 @@ impl World {
 
     /// A call in a state: mostly receipts, and flawed arguments now and then.
     pub fn call(&self, random: &mut Random, state: &State) -> Call {
-        match random.below(40) {
-            0..=27 => self.receive(random, state),
-            28..=32 => Call::Age { reading: self.reading(random, state) },
-            33..=38 => Call::Write { position: position(random, state) },
+        match random.below(46) {
+            0..=32 => self.step(random, state),
+            33..=37 => Call::Write { position: position(random, state) },
+            38..=42 => Call::Ask { limit: limit(random) },
+            43 | 44 => Call::Fewest,
             _ => flawed_set_up(random),
+        }
+    }
+
+    /// A receipt or an ageing in a state, with flawed arguments now and then.
+    pub fn step(&self, random: &mut Random, state: &State) -> Call {
+        if random.below(33) < 28 {
+            self.receive(random, state)
+        } else {
+            Call::Age { reading: self.reading(random, state) }
         }
     }
 
@@ -223,6 +233,12 @@ fn position(random: &mut Random, state: &State) -> u64 {
     let held = state.held.len() as u64;
     let any = random.below(held + 2);
     random.pick(&[any, any, any, held.saturating_sub(1), held, 1 << 32, u64::MAX])
+}
+
+/// Every limit, and one past them.
+fn limit(random: &mut Random) -> u64 {
+    let any = random.bits();
+    random.pick(&[0, 1, 2, 3, 4, 5, 1 << 32, any])
 }
 
 /// Numbers at the edges of what is taken, and past them.

@@ -1,7 +1,7 @@
 //! Seeded states: in form, whether calls would reach them or not, and damaged ones.
 
-use crate::instants::Interval;
-use crate::predicates::{normal, Predicate, Term, ALL_NAMES};
+use crate::instants::{Interval, GREATEST_END};
+use crate::predicates::{normal, Predicate, Term, ALL_NAMES, GREATEST_NAME};
 use crate::random::Random;
 use crate::state::{
     Datum, State, DATUM_TERMS, ENTRY_TERMS, GREATEST_DRIFT, GREATEST_READING, MOST_DATA,
@@ -57,6 +57,110 @@ fn predicate(random: &mut Random, own: u32, names: u64, most: usize) -> Predicat
     }
     Predicate::of(&terms)
 }
+
+// ---- states to ask
+
+/// What a state to ask is drawn from: most data lie around one instant, and few failures often
+/// explain the others and the entries.
+struct Suspects {
+    /// All that terms name.
+    names: Vec<u32>,
+    /// The first so many of them may have failed.
+    failed: usize,
+    /// Intervals lie from here on.
+    base: u64,
+    instant: u64,
+}
+
+impl Suspects {
+    fn new(random: &mut Random, own: u32) -> Suspects {
+        let mut others: Vec<u32> = (0..=GREATEST_NAME).filter(|&n| n != own).collect();
+        let count = random.pick(&[2, 3, 4, 5, 6, 6, 8, 8, 12, 28]);
+        let names = (0..count).map(|_| others.swap_remove(random.index(others.len())));
+        let names = names.collect();
+        let base = random.pick(&[0, 0, 1 << 29, GREATEST_END - 40]);
+        Suspects { names, failed: random.index(6).min(count), base, instant: random.below(41) }
+    }
+
+    /// A term of at most so many of the names.
+    fn term(&self, random: &mut Random, most: usize) -> Term {
+        (0..most).fold(0, |t, _| t | 1 << random.pick(&self.names))
+    }
+
+    /// 1 term to the most, in normal form; one of them of failed names if it is to be explained.
+    fn predicate(&self, random: &mut Random, most: usize, explained: bool) -> Predicate {
+        let any = random.index(most);
+        let count = random.pick(&[0, 0, 1, any, 2 * most]);
+        // Where single names are terms, they leave few others.
+        let sizes = random.pick(&[&[1, 1, 2, 2, 3, 4, 5, 6][..], &[2, 2, 2, 3, 3, 4, 6]]);
+        let sizes: Vec<usize> = (0..count).map(|_| random.pick(sizes)).collect();
+        let mut terms: Vec<Term> = sizes.iter().map(|&size| self.term(random, size)).collect();
+        if explained && self.failed > 0 || terms.is_empty() {
+            let failed = &self.names[..self.failed.max(1)];
+            let size = random.pick(&[1, 1, 2, 2, 3, 4]);
+            terms.push((0..size).fold(0, |t, _| t | 1 << random.pick(failed)));
+        }
+        let mut terms = normal(&terms);
+        while terms.len() > most {
+            terms.remove(random.index(terms.len()));
+        }
+        Predicate::of(&terms)
+    }
+
+    /// A datum that the instant is in, or now and then one to be explained.
+    fn datum(&self, random: &mut Random) -> Datum {
+        let (one, other) = (random.below(41), random.below(41));
+        let (mut left, mut right) = (one.min(other), one.max(other));
+        let astray = random.once_in(4);
+        if !astray {
+            (left, right) = (left.min(self.instant), right.max(self.instant));
+        }
+        let explained = astray && !random.once_in(20);
+        Datum {
+            interval: Interval { left: self.base + left, right: self.base + right },
+            predicate: self.predicate(random, DATUM_TERMS, explained),
+        }
+    }
+}
+
+/// Any state in form, made so that its answers differ. Now and then a predicate is one of those
+/// before it, or implies it, or is implied by it.
+pub fn to_ask(random: &mut Random) -> State {
+    let own = random.below(29) as u32;
+    let suspects = Suspects::new(random, own);
+    let mut state = State::fresh(own, random.below(1_001) as u32, random.below(1_000));
+    let most_entries = random.pick(&[0, 3, MOST_ENTRIES]);
+    for _ in 0..count(random, most_entries) {
+        let explained = !random.once_in(60);
+        let p = suspects.predicate(random, ENTRY_TERMS, explained);
+        state.entries.push(related(random, p, &state, ENTRY_TERMS));
+    }
+    for _ in 0..count(random, MOST_DATA) {
+        let datum = suspects.datum(random);
+        let predicate = related(random, datum.predicate, &state, DATUM_TERMS);
+        state.held.push(Datum { predicate, ..datum });
+    }
+    state
+}
+
+/// The predicate; now and then one before it, which may gain one of its terms or lose some.
+fn related(random: &mut Random, p: Predicate, state: &State, most: usize) -> Predicate {
+    let data = state.held.iter().map(|datum| datum.predicate);
+    let before: Vec<Predicate> = data.chain(state.entries.iter().copied()).collect();
+    if before.is_empty() || !random.once_in(6) {
+        return p;
+    }
+    let mut terms = random.pick(&before).to_vec();
+    match random.below(3) {
+        0 => {}
+        1 => terms = normal(&[&terms[..], &p[..1]].concat()),
+        _ => terms.truncate(1 + random.index(terms.len())),
+    }
+    terms.truncate(most);
+    Predicate::of(&terms)
+}
+
+// ---- damage
 
 /// One damage to the bytes of a state; it may leave them in form.
 pub fn damage(random: &mut Random, bytes: &mut [u8]) {
