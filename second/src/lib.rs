@@ -3,10 +3,11 @@
 //!
 //! A module for each section of the paper, and others to compare with: `engine` calls the archive,
 //! `calls` and `lent` lend the same bytes to both programs, `random` and `samples` make the seeded
-//! inputs.
+//! inputs. `book` has what demand 3 says of a whole run, without any state.
 
 pub mod ageing;
 pub mod asking;
+pub mod book;
 pub mod calls;
 pub mod engine;
 pub mod instants;

@@ -114,7 +114,8 @@ fn received(
         return Err(refusal::SENDER);
     }
     let interval = message.interval.grown(least, greatest).ok_or(refusal::PASSES_END)?;
-    let predicate = formed(state.own, &message, seen);
+    let predicate = formed(state.own, &message);
+    seen.enter(Branch::Struck, message.terms.iter().any(|t| t >> state.own & 1 != 0));
     if predicate.len() > DATUM_TERMS {
         return Err(refusal::NEW_TERMS);
     }
@@ -127,10 +128,8 @@ fn received(
 }
 
 /// Sender + predicate with every term that names the receiver struck out, in normal form.
-fn formed(own: u32, message: &Message, seen: &mut Branches) -> Predicate {
-    let others = struck(own, &message.terms);
-    seen.enter(Branch::Struck, others.len() < message.terms.len());
-    Predicate::sum(&[1 << message.sender], &others)
+pub fn formed(own: u32, message: &Message) -> Predicate {
+    Predicate::sum(&[1 << message.sender], &struck(own, &message.terms))
 }
 
 /// The four steps, and the counts at their end.

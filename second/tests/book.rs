@@ -1,0 +1,356 @@
+//! Demand 3 over seeded runs: both programs' answers after a run are those that its book gives, set
+//! by set and at every limit, and further receipts make nothing possible that was not.
+
+use second::asking::{answer_bytes, counting, ANSWER_BYTES, GREATEST_LIMIT};
+use second::book::{Book, Line};
+use second::calls::Call;
+use second::instants::{Instants, Interval};
+use second::lent::Lent;
+use second::message::Message;
+use second::predicates::{holds, Term};
+use second::random::Random;
+use second::receiving::Branches;
+use second::samples::runs::World;
+use second::state::{Datum, State, STATE_BYTES};
+use std::collections::BTreeSet;
+use std::io::Write as _;
+use std::ops::RangeInclusive;
+
+const LIMITS: RangeInclusive<u32> = 0..=GREATEST_LIMIT;
+
+// ---- a run and its book
+
+/// A run of both programs. Its book sees the calls and their numbers, and no state.
+struct Run {
+    seed: u64,
+    random: Random,
+    state: Lent,
+    book: Book,
+    /// The calls that were taken after setting up.
+    taken: Vec<Call>,
+}
+
+impl Run {
+    /// A run that was just set up.
+    fn new(seed: u64, mut random: Random, world: &World) -> Run {
+        let bytes = random.bytes(STATE_BYTES);
+        let state = Lent::new(&bytes, &mut random);
+        // Setting up enters its numbers, whatever is here before.
+        let book = Book::new(28, 1_000, 0);
+        let mut run = Run { seed, random, state, book, taken: vec![] };
+        assert_eq!(run.call(&world.set_up()), 0, "seed {seed}");
+        run.taken.clear();
+        run
+    }
+
+    fn call(&mut self, call: &Call) -> u32 {
+        let (number, _) = self.both(call, 0);
+        self.book.enter(call, number);
+        if number == 0 {
+            self.taken.push(call.clone());
+        }
+        number
+    }
+
+    /// A call by both programs with an output of so many bytes: its number and the output.
+    fn both(&mut self, call: &Call, len: usize) -> (u32, Vec<u8>) {
+        let mut out = Lent::new(&vec![0; len], &mut self.random);
+        let number = call.both(&mut self.state, &mut out, &mut Branches::default());
+        let number = number.unwrap_or_else(|fault| {
+            let state = State::of(self.state.bytes());
+            panic!("seed {}: {fault}: {call:?} in {state:?}", self.seed)
+        });
+        (number, out.bytes().to_vec())
+    }
+
+    /// The state, to draw a call from or to compare with the book.
+    fn state(&self) -> State {
+        State::of(self.state.bytes()).expect("a state in form")
+    }
+
+    /// What both programs answer.
+    fn answer(&mut self, limit: u32) -> Vec<u8> {
+        let (number, answer) = self.both(&Call::Ask { limit: limit.into() }, ANSWER_BYTES);
+        assert_eq!(number, 0, "seed {}", self.seed);
+        answer
+    }
+
+    /// Compares the answers, and the instants of each set, with what the book says is possible.
+    fn agrees(&mut self, tally: &mut Tally) {
+        for limit in LIMITS {
+            let possible = self.book.possible(limit);
+            assert_eq!(
+                self.answer(limit),
+                answer_bytes(possible),
+                "seed {}: limit {limit}: possible is {possible:?}: {:?}",
+                self.seed,
+                self.taken
+            );
+            tally.count(limit, possible);
+        }
+        let state = self.state();
+        for s in self.book.sets(GREATEST_LIMIT) {
+            let reached = self.book.reached(s);
+            assert_eq!(
+                counting(s, &state),
+                reached,
+                "seed {}: set {s}: {:?}",
+                self.seed,
+                self.taken
+            );
+        }
+    }
+}
+
+/// What was possible, by limit: nothing, all, or something between.
+#[derive(Default)]
+struct Tally([[u64; 3]; 5]);
+
+impl Tally {
+    fn count(&mut self, limit: u32, possible: Instants) {
+        let kind = match possible {
+            Instants::Empty => 0,
+            Instants::All => 1,
+            Instants::Between(..) => 2,
+        };
+        self.0[limit as usize][kind] += 1;
+    }
+
+    fn least(&self) -> u64 {
+        self.0.into_iter().flatten().min().expect("some counts")
+    }
+}
+
+/// Written past the capture of a passing test's output: each run shows what it reached.
+fn report(text: &str) {
+    std::io::stderr().write_all(text.as_bytes()).expect("standard error");
+}
+
+// ---- what is entered
+
+fn received(sender: u32, left: u64, right: u64, terms: &[Term]) -> Call {
+    let message = Message { sender, interval: Interval { left, right }, terms: terms.to_vec() };
+    Call::Receive { least: 0, greatest: 50, message: message.bytes() }
+}
+
+#[test]
+fn book_enters_advances_and_what_was_formed() {
+    let mut book = Book::new(5, 100, 0);
+    book.enter(&received(1, 1_000, 1_200, &[12, 1 << 5]), 0);
+    book.enter(&Call::Age { reading: 2_000_000 }, 0);
+    book.enter(&Call::Age { reading: 2_000_000 }, 0);
+    book.enter(&Call::Age { reading: 2_000_001 }, 0);
+    book.enter(&received(2, 7, 7, &[0]), 0);
+    let lines = [
+        Line::Received(Datum::of(1_000, 1_250, &[2, 12])),
+        Line::Aged { least: 1_999_800, greatest: 2_000_200 },
+        Line::Aged { least: 0, greatest: 0 },
+        Line::Aged { least: 0, greatest: 2 },
+        Line::Received(Datum::of(7, 57, &[0])),
+    ];
+    assert_eq!(book.lines(), lines);
+}
+
+#[test]
+fn book_enters_nothing_for_refused_calls_and_for_questions() {
+    let mut book = Book::new(5, 100, 0);
+    book.enter(&Call::SetUp { own: 29, drift: 0, reading: 0 }, 1);
+    book.enter(&Call::Age { reading: 7 }, 30);
+    book.enter(&received(1, 0, 10, &[]), 32);
+    for question in [Call::Write { position: 0 }, Call::Ask { limit: 0 }, Call::Fewest] {
+        book.enter(&question, 0);
+    }
+    assert_eq!(book, Book::new(5, 100, 0));
+    book.enter(&received(1, 0, 10, &[]), 0);
+    book.enter(&Call::SetUp { own: 6, drift: 1, reading: 2 }, 0);
+    assert_eq!(book, Book::new(6, 1, 2));
+}
+
+/// Document 01's listing, its messages written out.
+#[test]
+fn book_of_the_listing_gives_its_answers() {
+    let mut book = Book::new(5, 100, 0);
+    book.enter(&received(1, 1_000_000, 1_000_200, &[]), 0);
+    assert_eq!(book.possible(0), Instants::Between(1_000_000, 1_000_250));
+    book.enter(&Call::Age { reading: 2_000_000 }, 0);
+    assert_eq!(book.possible(0), Instants::Between(2_999_800, 3_000_450));
+    let message = Message {
+        sender: 2,
+        interval: Interval { left: 3_001_000, right: 3_001_000 },
+        terms: vec![],
+    };
+    book.enter(&Call::Receive { least: 0, greatest: 0, message: message.bytes() }, 0);
+    assert_eq!(book.possible(0), Instants::Empty);
+    assert_eq!(book.possible(1), Instants::Between(2_999_800, 3_001_000));
+    assert_eq!(book.possible(2), Instants::All);
+}
+
+// ---- paths, one by one
+
+/// Instants that paths start from; far more than the ends and advances below reach.
+const STARTS: RangeInclusive<i128> = -100..=200;
+
+/// Where the paths from these instants end that agree with s and the book, each of them walked.
+fn walked(book: &Book, s: Term) -> BTreeSet<i128> {
+    book.lines().iter().fold(STARTS.collect(), |here: BTreeSet<i128>, line| match line {
+        Line::Aged { least, greatest } => {
+            let amounts = i128::from(*least)..=i128::from(*greatest);
+            here.into_iter().flat_map(|x| amounts.clone().map(move |amount| x + amount)).collect()
+        }
+        Line::Received(Datum { interval, predicate }) => {
+            let inside = i128::from(interval.left)..=i128::from(interval.right);
+            here.into_iter().filter(|x| inside.contains(x) || holds(s, predicate)).collect()
+        }
+    })
+}
+
+/// A book of few names and small numbers, as if every call was taken.
+fn small_book(random: &mut Random) -> Book {
+    let drift = random.pick(&[0, 100, 1_000]);
+    let (mut book, mut reading) = (Book::new(4, drift, 0), 0);
+    for _ in 0..random.below(10) {
+        if random.once_in(3) {
+            reading += random.below(5);
+            book.enter(&Call::Age { reading }, 0);
+        } else {
+            let left = random.below(20);
+            let right = left + random.below(15);
+            let terms: &[&[Term]] = &[&[], &[], &[1], &[6], &[8], &[3, 12], &[0]];
+            let (sender, terms) = (random.below(4) as u32, random.pick(terms));
+            let message =
+                Message { sender, interval: Interval { left, right }, terms: terms.to_vec() };
+            let (least, greatest) = random.pick(&[(0, 0), (0, 2), (1, 3)]);
+            book.enter(&Call::Receive { least, greatest, message: message.bytes() }, 0);
+        }
+    }
+    book
+}
+
+/// Where all paths end that a receipt stops nowhere.
+fn unstopped(book: &Book) -> RangeInclusive<i128> {
+    book.lines().iter().fold(STARTS, |range, line| match line {
+        Line::Aged { least, greatest } => {
+            range.start() + i128::from(*least)..=range.end() + i128::from(*greatest)
+        }
+        Line::Received(_) => range,
+    })
+}
+
+#[test]
+fn book_reaches_what_paths_walked_one_by_one_do() {
+    let mut met = [0; 3];
+    for seed in 0..3_000 {
+        let book = small_book(&mut Random::new(seed));
+        for s in 0..1 << 4 {
+            let walked = walked(&book, s).into_iter();
+            let (kind, same) = match book.reached(s) {
+                Instants::Empty => (0, walked.eq([])),
+                Instants::All => (1, walked.eq(unstopped(&book))),
+                Instants::Between(left, right) => (2, walked.eq(left..=right)),
+            };
+            assert!(same, "seed {seed}: set {s}: {book:?}");
+            met[kind] += 1;
+        }
+    }
+    assert!(met.iter().all(|&count| count > 2_000), "{met:?}");
+}
+
+// ---- the answers
+
+#[test]
+fn book_of_a_run_gives_the_answers() {
+    let (mut tally, mut steps, mut refused) = (Tally::default(), 0, 0);
+    for seed in 0..20_000 {
+        let mut random = Random::new(seed);
+        let world = World::small(&mut random);
+        let mut run = Run::new(seed, random, &world);
+        for _ in 0..run.random.below(40) {
+            let state = run.state();
+            let step = world.step(&mut run.random, &state);
+            let number = run.call(&step);
+            steps += 1;
+            refused += u64::from(number != 0);
+            if run.random.once_in(10) {
+                run.agrees(&mut tally);
+            }
+        }
+        run.agrees(&mut tally);
+    }
+    report(&format!(
+        "20,000 runs, {steps} steps of which {refused} were refused: possible is nothing, all, \
+         between by limit {:?}\n",
+        tally.0
+    ));
+    assert!(tally.least() >= 1_000, "too few of an answer");
+    assert!(steps >= 300_000 && refused >= 50_000, "too few steps or refusals");
+}
+
+// ---- further receipts
+
+/// The instants that an answer's bytes say.
+fn instants(answer: &[u8]) -> Instants {
+    let numbers = answer.as_chunks().0.iter().map(|&number| u64::from_le_bytes(number));
+    match numbers.collect::<Vec<u64>>()[..] {
+        [0, 0, 0] => Instants::Empty,
+        [1, 0, 0] => Instants::All,
+        [2, left, right] => Instants::Between(left.into(), right.into()),
+        _ => panic!("{answer:?}"),
+    }
+}
+
+/// Runs P and Q, set up alike: Q is drawn, and P makes the same steps without some receipts. None
+/// if their taken steps do not differ in further receipts alone.
+fn further(seed: u64) -> Option<(Run, Run)> {
+    let mut random = Random::new(seed);
+    let world = World::small(&mut random);
+    let mut p = Run::new(seed, Random::new(!seed), &world);
+    let mut q = Run::new(seed, random, &world);
+    let mut shared = vec![];
+    for _ in 0..q.random.below(40) {
+        let state = q.state();
+        let step = world.step(&mut q.random, &state);
+        let taken = q.call(&step) == 0;
+        if matches!(step, Call::Receive { .. }) && q.random.once_in(3) {
+            continue;
+        }
+        p.call(&step);
+        if taken {
+            shared.push(step);
+        }
+    }
+    (p.taken == shared).then_some((p, q))
+}
+
+/// Each instant possible for Q is possible for P: set by set, and by the answers, where P is asked
+/// with a limit no smaller. Whether one of Q's answers says more.
+fn allows_no_more(p: &mut Run, q: &mut Run) -> bool {
+    for s in q.book.sets(GREATEST_LIMIT) {
+        let (less, more) = (q.book.reached(s), p.book.reached(s));
+        assert!(less.within(more), "seed {}: set {s}: {less:?} {more:?}", q.seed);
+    }
+    let answers = |run: &mut Run| LIMITS.map(|limit| instants(&run.answer(limit))).collect();
+    let (of_p, of_q): (Vec<Instants>, Vec<Instants>) = (answers(p), answers(q));
+    for (limit, less) in of_q.iter().enumerate() {
+        for more in &of_p[limit..] {
+            assert!(less.within(*more), "seed {}: limit {limit}: {less:?} {more:?}", q.seed);
+        }
+    }
+    of_p != of_q
+}
+
+#[test]
+fn book_with_further_receipts_allows_no_more() {
+    let (mut pairs, mut longer, mut narrower) = (0, 0, 0);
+    for seed in 0..24_000 {
+        if let Some((mut p, mut q)) = further(seed) {
+            pairs += 1;
+            longer += u64::from(p.taken.len() < q.taken.len());
+            narrower += u64::from(allows_no_more(&mut p, &mut q));
+        }
+    }
+    report(&format!(
+        "{pairs} pairs of runs, {longer} of them with further receipts, {narrower} with an answer \
+         that says more\n"
+    ));
+    assert!(pairs >= 20_000 && longer >= 15_000 && narrower >= 5_000, "too few");
+}
