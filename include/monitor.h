@@ -24,13 +24,30 @@ extern "C" {
 /** What message_read writes: sender, left, right, term count, 8 bytes each. */
 #define MONITOR_READING_BYTES 32
 
+/** What monitor_ask writes: kind of answer, left, right, 8 bytes each. */
+#define MONITOR_ANSWER_BYTES 24
+
+/** What monitor_fewest writes: count, mask, 8 bytes each. */
+#define MONITOR_FEWEST_BYTES 16
+
 /** Bytes of the longest message: 14 words. An output of this size is never too short for message_rewrite or monitor_write. */
 #define MONITOR_MESSAGE_BYTES 56
 
-/** The greatest own name, drift in parts per million and delay in microseconds. */
+/** The greatest own name, drift in parts per million, delay in microseconds and limit of failed monitors. */
 #define MONITOR_GREATEST_NAME 28
 #define MONITOR_GREATEST_DRIFT 1000
 #define MONITOR_GREATEST_DELAY 60000000
+#define MONITOR_GREATEST_LIMIT 4
+
+/** The count that monitor_fewest writes when more than 4 monitors must have failed. */
+#define MONITOR_FEWEST_OVER 5
+
+/** The kinds of answer that monitor_ask writes. */
+enum monitor_answer {
+    MONITOR_CONTRADICTED = 0,   /**< no instant counts: more monitors have failed than the limit allows */
+    MONITOR_OPEN = 1,           /**< every instant counts: nothing is known of the time */
+    MONITOR_BETWEEN = 2         /**< left is the least instant that counts, right the greatest */
+};
 
 /** The numbers that a call can return. */
 enum monitor_refusal {
@@ -52,6 +69,7 @@ enum monitor_refusal {
     /* caused by the host program */
     MONITOR_BACKWARDS = 20,     /**< reading below the last */
     MONITOR_DELAY = 21,         /**< least delay above greatest, or greatest above 60,000,000 */
+    MONITOR_LIMIT = 22,         /**< limit above 4 */
     MONITOR_POSITION = 23,      /**< no held datum there */
     MONITOR_BUFFER = 24,        /**< a lent buffer is too short */
     MONITOR_STATE_FORM = 25,    /**< state out of form */
@@ -95,6 +113,27 @@ uint32_t monitor_receive(uint8_t *state, size_t state_len, uint64_t least, uint6
  *  @param message_len  how many bytes are lent; MONITOR_MESSAGE_BYTES are always enough
  *  @return 0 when taken; else, tested in this order, 24 (state), 25, 23 or 24 (message), and no byte has changed */
 uint32_t monitor_write(const uint8_t *state, size_t state_len, uint64_t position, uint8_t *message, size_t message_len);
+
+/** Asks what time it can be at the reading the state was last aged to. An instant counts if some set of failed monitors within the limit, the
+ *  own one not among them, explains all that is known of failures, and each held interval that this set does not explain contains the instant.
+ *  @param state       the monitor's bytes; they are not changed
+ *  @param state_len   how many bytes are lent
+ *  @param limit       how many monitors may have failed, 0 to 4
+ *  @param answer      its kind (enum monitor_answer), left and right go to its first MONITOR_ANSWER_BYTES bytes, left and right 0 unless the
+ *                     kind is MONITOR_BETWEEN; those beyond stay as they are
+ *  @param answer_len  how many bytes are lent
+ *  @return 0 when taken; else, tested in this order, 24 (state), 25, 22 or 24 (answer), and no byte has changed */
+uint32_t monitor_ask(const uint8_t *state, size_t state_len, uint64_t limit, uint8_t *answer, size_t answer_len);
+
+/** Finds the fewest failures: of the sets of at most 4 failed monitors for which an instant counts as in monitor_ask, the smallest, and of
+ *  those the one with the least mask.
+ *  @param state       the monitor's bytes; they are not changed
+ *  @param state_len   how many bytes are lent
+ *  @param answer      the count of names and their mask, name n being the bit of value 2^n, go to its first MONITOR_FEWEST_BYTES bytes, or
+ *                     MONITOR_FEWEST_OVER and 0 if there is no such set; those beyond stay as they are
+ *  @param answer_len  how many bytes are lent
+ *  @return 0 when taken; else, tested in this order, 24 (state), 25 or 24 (answer), and no byte has changed */
+uint32_t monitor_fewest(const uint8_t *state, size_t state_len, uint8_t *answer, size_t answer_len);
 
 /** Reads a message.
  *  @param message      the words, four bytes each

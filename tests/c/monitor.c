@@ -1,4 +1,4 @@
-/* A monitor from C: set up, aged, fed with document 01's listing, and asked for what it holds by writing it, with monitor.h and the archive
+/* A monitor from C: set up, aged, fed and asked as in document 01's listing, and its oldest datum written, with monitor.h and the archive
  * alone. */
 #include <string.h>
 
@@ -20,41 +20,119 @@ static void set_up_refuses(void)
     check(monitor_age(state, s.n, 0) == MONITOR_STATE_FORM && untouched(&s, 0), "bytes that are no state are 25");
 }
 
+/* Whether the state is asked with this answer, and nothing beside its bytes is written. */
+static int answers(const uint8_t *state, uint64_t limit, uint64_t kind, uint64_t left, uint64_t right)
+{
+    struct lent a;
+    uint8_t *answer = lend(&a, MONITOR_ANSWER_BYTES);
+    return monitor_ask(state, MONITOR_STATE_BYTES, limit, answer, a.n) == MONITOR_TAKEN && untouched(&a, MONITOR_ANSWER_BYTES) &&
+           number(answer) == kind && number(answer + 8) == left && number(answer + 16) == right;
+}
+
+/* The same for the fewest failures. */
+static int fewest(const uint8_t *state, uint64_t count, uint64_t mask)
+{
+    struct lent a;
+    uint8_t *answer = lend(&a, MONITOR_FEWEST_BYTES);
+    return monitor_fewest(state, MONITOR_STATE_BYTES, answer, a.n) == MONITOR_TAKEN && untouched(&a, MONITOR_FEWEST_BYTES) &&
+           number(answer) == count && number(answer + 8) == mask;
+}
+
+static void refusals_leave(uint8_t *state, const uint8_t *message, size_t len)
+{
+    uint8_t before[MONITOR_STATE_BYTES];
+    memcpy(before, state, MONITOR_STATE_BYTES);
+    check(monitor_age(state, MONITOR_STATE_BYTES, 1999999) == MONITOR_BACKWARDS, "an earlier reading is 20");
+    check(monitor_receive(state, MONITOR_STATE_BYTES, 51, 50, message, len) == MONITOR_DELAY, "a least delay above the greatest is 21");
+    check(monitor_receive(state, MONITOR_STATE_BYTES, 0, 50, message, len - 1) == MONITOR_WORD_COUNT, "a length that leaves a rest is 10");
+    check(memcmp(before, state, MONITOR_STATE_BYTES) == 0, "and the refusals left every byte");
+}
+
+static void writing(const uint8_t *state)
+{
+    struct lent o;
+    uint8_t *out = lend(&o, MONITOR_MESSAGE_BYTES), reading[MONITOR_READING_BYTES];
+    check(monitor_write(state, MONITOR_STATE_BYTES, 0, out, o.n) == MONITOR_TAKEN && untouched(&o, 28), "the oldest is written as 7 words");
+    check(message_read(out, 28, reading, sizeof reading) == MONITOR_TAKEN, "what is written is read");
+    check(number(reading) == 5 && number(reading + 8) == 2999800 && number(reading + 16) == 3000450 && number(reading + 24) == 1,
+          "own name, interval and one term");
+}
+
+static void questions_refuse(const uint8_t *state)
+{
+    struct lent a, b;
+    uint8_t *answer = lend(&a, MONITOR_ANSWER_BYTES), *broken = lend(&b, MONITOR_STATE_BYTES);
+    check(monitor_ask(state, MONITOR_STATE_BYTES, MONITOR_GREATEST_LIMIT + 1, answer, a.n) == MONITOR_LIMIT, "limit 5 is 22");
+    check(monitor_ask(state, MONITOR_STATE_BYTES, UINT64_MAX, answer, 0) == MONITOR_LIMIT, "22 comes before 24 for the answer");
+    check(monitor_ask(state, MONITOR_STATE_BYTES - 1, 5, answer, a.n) == MONITOR_BUFFER, "a short state is 24, before 22");
+    check(monitor_ask(broken, b.n, 5, answer, a.n) == MONITOR_STATE_FORM, "bytes that are no state are 25, before 22");
+    check(monitor_fewest(state, MONITOR_STATE_BYTES - 1, answer, a.n) == MONITOR_BUFFER, "a short state is 24");
+    check(monitor_fewest(broken, b.n, answer, 0) == MONITOR_STATE_FORM, "25 comes before 24 for the answer");
+    check(untouched(&a, 0) && untouched(&b, 0), "and the refusals left every byte");
+    for (size_t n = 0; n < MONITOR_ANSWER_BYTES; n++) {
+        answer = lend(&a, n);
+        check(monitor_ask(state, MONITOR_STATE_BYTES, 1, answer, n) == MONITOR_BUFFER && untouched(&a, 0), "a short answer is 24, unchanged");
+    }
+    for (size_t n = 0; n < MONITOR_FEWEST_BYTES; n++) {
+        answer = lend(&a, n);
+        check(monitor_fewest(state, MONITOR_STATE_BYTES, answer, n) == MONITOR_BUFFER && untouched(&a, 0), "a short answer is 24, unchanged");
+    }
+    answer = lend(&a, 100);
+    check(monitor_ask(state, MONITOR_STATE_BYTES, 1, answer, a.n) == MONITOR_TAKEN && untouched(&a, 24), "a longer answer keeps what is beyond");
+    answer = lend(&a, 100);
+    check(monitor_fewest(state, MONITOR_STATE_BYTES, answer, a.n) == MONITOR_TAKEN && untouched(&a, 16), "and so for the fewest failures");
+}
+
 static void listing(void)
 {
     struct lent s, o;
-    uint8_t *state = lend(&s, MONITOR_STATE_BYTES), *out = lend(&o, MONITOR_MESSAGE_BYTES), message[24], before[MONITOR_STATE_BYTES];
+    uint8_t *state = lend(&s, MONITOR_STATE_BYTES), *out = lend(&o, MONITOR_MESSAGE_BYTES), message[24];
 
     check(monitor_set_up(state, s.n, 5, 100, 0) == MONITOR_TAKEN && untouched(&s, MONITOR_STATE_BYTES), "set 5 100 0");
     check(monitor_write(state, s.n, 0, out, o.n) == MONITOR_POSITION && untouched(&o, 0), "a fresh state holds nothing: 23");
+    check(answers(state, 0, MONITOR_OPEN, 0, 0) && answers(state, 4, MONITOR_OPEN, 0, 0), "a fresh state is open");
+    check(fewest(state, 0, 0), "and nobody need have failed");
 
     size_t len = bytes_of(message, first, 6);
     check(monitor_receive(state, s.n, 0, 50, message, len) == MONITOR_TAKEN, "get 0 50 of the first message");
     check(number(state + 24) == 1000000 && number(state + 32) == 1000250, "its interval has grown by the delays");
+    check(answers(state, 0, MONITOR_BETWEEN, 1000000, 1000250), "ask 0 is that interval");
     check(monitor_age(state, s.n, 2000000) == MONITOR_TAKEN, "age 2000000");
     check(number(state + 24) == 2999800 && number(state + 32) == 3000450, "it has widened by the drift");
-
-    memcpy(before, state, MONITOR_STATE_BYTES);
-    check(monitor_age(state, s.n, 1999999) == MONITOR_BACKWARDS, "an earlier reading is 20");
-    check(monitor_receive(state, s.n, 51, 50, message, len) == MONITOR_DELAY, "a least delay above the greatest is 21");
-    check(monitor_receive(state, s.n, 0, 50, message, len - 1) == MONITOR_WORD_COUNT, "a length that leaves a rest is 10");
-    check(memcmp(before, state, MONITOR_STATE_BYTES) == 0, "and the refusals left every byte");
+    check(answers(state, 0, MONITOR_BETWEEN, 2999800, 3000450), "and so has the answer");
+    refusals_leave(state, message, len);
 
     len = bytes_of(message, second, 6);
     check(monitor_receive(state, s.n, 0, 0, message, len) == MONITOR_TAKEN, "get 0 0 of the second message");
     check(state[16] == 2 && state[20] == 1, "two data are held, and that they are disjoint is known");
+    check(answers(state, 0, MONITOR_CONTRADICTED, 0, 0), "ask 0 is contradicted");
+    check(answers(state, 1, MONITOR_BETWEEN, 2999800, 3001000), "ask 1 is between");
+    check(answers(state, 2, MONITOR_OPEN, 0, 0), "ask 2 is open");
+    check(fewest(state, 1, 2), "fewest 1 2");
+    writing(state);
+    questions_refuse(state);
     check(untouched(&s, MONITOR_STATE_BYTES), "nothing beside the state is written");
+}
 
-    check(monitor_write(state, s.n, 0, out, o.n) == MONITOR_TAKEN && untouched(&o, 28), "the oldest is written as 7 words");
-    uint8_t reading[MONITOR_READING_BYTES];
-    check(message_read(out, 28, reading, sizeof reading) == MONITOR_TAKEN, "what is written is read");
-    check(number(reading) == 5 && number(reading + 8) == 2999800 && number(reading + 16) == 3000450 && number(reading + 24) == 1,
-          "own name, interval and one term");
+/* Sender n at its own place, so that no two of them agree. */
+static void over_4(void)
+{
+    struct lent s;
+    uint8_t *state = lend(&s, MONITOR_STATE_BYTES), message[24];
+    check(monitor_set_up(state, s.n, 0, 0, 0) == MONITOR_TAKEN, "a monitor is set up");
+    for (uint32_t n = 1; n <= 6; n++) {
+        uint32_t words[] = {1u << 29 | n, 2u << 29, 2u << 29 | 100 * n, 3u << 29, 3u << 29 | (100 * n + 9), 7u << 29 | (201 * n + 9)};
+        size_t len = bytes_of(message, words, 6);
+        check(monitor_receive(state, s.n, 0, 0, message, len) == MONITOR_TAKEN, "senders 1 to 6, all apart");
+        check(n > 5 ? fewest(state, MONITOR_FEWEST_OVER, 0) : fewest(state, n - 1, (1u << n) - 2), "all but one of them have failed");
+    }
+    check(answers(state, MONITOR_GREATEST_LIMIT, MONITOR_CONTRADICTED, 0, 0), "which is more than the greatest limit");
 }
 
 int main(void)
 {
     set_up_refuses();
     listing();
+    over_4();
     return report();
 }
