@@ -3,7 +3,7 @@
 -- keeps left at most right since the least advance is at most the greatest; what receiving does to the store is in `proofs.ReceiveLaws`.
 -- No contract cites this file. Assumes nothing.
 use Prim.Native.Nat.{ℕ, _+_, _*_, _-_, _^_, _≤_, _<_}
-use mathlib.Core.Path.{_≡_}
+use mathlib.Core.Path.{_≡_, refl}
 use mathlib.Core.Bool.{Bool, true, false, not}
 use mathlib.Core.List.{List, [], _∷_, map}
 use native.Mathlib.Nat.{mul-le-mul-left}
@@ -13,7 +13,7 @@ use lib.ListN.{length, length-map}
 use Rattle.predicates.specs.Lists.{any, all, In}
 use Rattle.predicates.specs.Predicates.{isTrue, isNormal}
 use Rattle.predicates.proofs.ListLaws.{both, both-l, both-r, neither}
-use Rattle.state.specs.Model.{Datum, Head, State, endLimit, readingLimit}
+use Rattle.state.specs.Model.{Datum, Head, Store, State, endLimit, readingLimit}
 use Rattle.state.specs.Form.{headOk, datumOk, storeOk, countsOk, stateOk}
 use Rattle.engine.specs.Ageing.{leastAdvance, greatestAdvance, slow, fast, widened, aged}
 use Rattle.engine.specs.Receiving.{Delivery, grown, received}
@@ -62,8 +62,17 @@ widened-ok own lo hi (d ∷ ds) l h k =
     (ok-datum-in own (widened lo hi d) record { ends = omega arith; below = nleb→lt endLimit (d .right + hi) (low .0); fit = o .fit })
     (widened-ok own lo hi ds l (both-r (datumOk own d) (all (datumOk own) ds) h) (low .1))
 
+-- "Entries stay."
+pub entries-stay : (lo hi : ℕ) (k : Store) → aged lo hi k .entries ≡ k .entries
+unfolding aged
+entries-stay lo hi k = refl
+
+held-widened : (lo hi : ℕ) (k : Store) → aged lo hi k .held ≡ map (widened lo hi) (k .held)
+unfolding aged
+held-widened lo hi k = refl
+
 pub age-ok : (st : State) (reading : ℕ) → T (stateOk st) → ageRefusal st reading ≡ 0 → T (stateOk (done st (age reading)))
-unfolding ageRefusal passesEnd done moved made aged stateOk headOk storeOk countsOk
+unfolding ageRefusal passesEnd done moved made stateOk headOk storeOk countsOk
 age-ok st reading h e =
     let own = st .head .own in
     let ds = st .store .held in
@@ -71,11 +80,11 @@ age-ok st reading h e =
     let hi = fast (st .head) reading in
     let a = refuse-none (leb readingLimit reading) 3 _ (omega arith) e in
     let b = refuse-none (ltb reading (st .head .reading)) 20 _ (omega arith) (a .1) in
-    let c = refuse-none (any (λ d. leb endLimit (d .right)) (map (widened lo hi) ds)) 30 _ (omega arith) (b .1) in
+    let c = refuse-none (any (λ d. leb endLimit (d .right)) (aged lo hi (st .store) .held)) 30 _ (omega arith) (b .1) in
     let now = lt→ltb reading readingLimit (nleb→lt readingLimit reading (a .0)) in
     let old : T (all (datumOk own) ds) = search (both-l, both-r) depth 9 in
-    let held = widened-ok own lo hi ds (slow-fast (st .head) reading) old (c .0) in
-    rw (length-map ds (widened lo hi)) (search (both, both-l, both-r) depth 12)
+    let held = widened-ok own lo hi ds (slow-fast (st .head) reading) old (rw (held-widened lo hi (st .store)) at (c .0)) in
+    rw (held-widened lo hi (st .store), entries-stay lo hi (st .store), length-map ds (widened lo hi)) (search (both, both-l, both-r) depth 12)
 
 -- ---- receiving
 

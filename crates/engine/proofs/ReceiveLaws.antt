@@ -329,17 +329,20 @@ length-held-after n ds es =
     cond-ind (λ cs. length cs ≤ length ds + 1) (explained es (n .terms)) us (stored (met n us) (without (n .terms) us)) (λ _. omega arith)
     (λ _. omega (arith, length-stored (met n us) (without (n .terms) us), length-without (n .terms) us))
 
--- a right store stays right; a new datum that is true is not looked at
-pub received-ok : (own : ℕ) (n : Datum) (k : Store) → T (storeOk own k) → (T (not (isTrue (n .terms))) → T (datumOk own n))
-    → T (storeOk own (received n k))
-unfolding storeOk received settled
-received-ok own n k h f =
+-- a right store stays right: rule 15 stores no empty interval
+settled-ok : (own : ℕ) (n : Datum) (k : Store) → T (storeOk own k) → T (datumOk own n) → T (storeOk own (settled n k))
+unfolding storeOk settled
+settled-ok own n k h t =
     let ds = k .held in
     let es = k .entries in
-    cond-ind (λ j. T (all (datumOk own) (j .held) && all (termsFit own 16) (j .entries))) (isTrue (n .terms)) k
-    record { held = heldAfter n ds (learnt n ds es); entries = learnt n ds es } (λ _. h)
-    (λ t.
     let held : T (all (datumOk own) ds) = both-l (all (datumOk own) ds) (all (termsFit own 16) es) h in
     let entries : T (all (termsFit own 16) es) = both-r (all (datumOk own) ds) (all (termsFit own 16) es) h in
-    both (all (datumOk own) (heldAfter n ds (learnt n ds es))) (all (termsFit own 16) (learnt n ds es))
-    (held-after-ok own n ds es (f t) held) (learnt-fit own n ds es (f t) held entries))
+    both (all (datumOk own) (settled n k .held)) (all (termsFit own 16) (settled n k .entries))
+    (held-after-ok own n ds es t held) (learnt-fit own n ds es t held entries)
+
+-- a new datum that is true is not looked at
+pub received-ok : (own : ℕ) (n : Datum) (k : Store) → T (storeOk own k) → (T (not (isTrue (n .terms))) → T (datumOk own n))
+    → T (storeOk own (received n k))
+unfolding received
+received-ok own n k h f =
+    cond-ind (λ j. T (storeOk own j)) (isTrue (n .terms)) k (settled n k) (λ _. h) (λ t. settled-ok own n k h (f t))
