@@ -30,7 +30,7 @@ use Rattle.asking.specs.Search.{Fits, Rows, predAt, preds}
 use Rattle.asking.specs.Tables.{entryClaim, claimsOf, claimAt, Loaded, Bounded, outside}
 use Rattle.asking.specs.Ends.{rowTerms, needs, Complete}
 use Rattle.asking.proofs.ClaimLaws.{claims-in, claims-out}
-use Rattle.asking.proofs.EndSteps.{in-take, getD-in}
+use Rattle.asking.proofs.EndSteps.{in-take, at-in, getD-map}
 
 -- ---- sets
 
@@ -55,16 +55,6 @@ pub in-at : {A : Type 0} (l : List A) (d a : A) → In a l → (j : ℕ) × (j <
 in-at [] d a m = absurd m
 in-at (x ∷ l) d a (inl e) = (0, omega arith, e)
 in-at (x ∷ l) d a (inr m) = let r = in-at l d a m in (suc (r .0), omega (arith, r .1), r .2)
-
-pub at-in : {A : Type 0} (l : List A) (d : A) (j : ℕ) → j < length l → In (getD l j d) l
-at-in [] d j h = absurd (omega arith)
-at-in (x ∷ l) d zero h = inl refl
-at-in (x ∷ l) d (suc j) h = inr (at-in l d j (omega arith))
-
-getD-map : {A B : Type 0} (f : A → B) (l : List A) (a : A) (b : B) (j : ℕ) → j < length l → getD (map f l) j b ≡ f (getD l j a)
-getD-map f [] a b j h = absurd (omega arith)
-getD-map f (x ∷ l) a b zero h = refl
-getD-map f (x ∷ l) a b (suc j) h = getD-map f l a b j (omega arith)
 
 module _ (k : Store) where
   abbrev entries : List (List ℕ)

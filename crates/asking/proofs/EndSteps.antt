@@ -133,15 +133,15 @@ in-take (suc n) [] x m = absurd m
 in-take (suc n) (y ∷ l) x (inl e) = (0, omega arith, e)
 in-take (suc n) (y ∷ l) x (inr m) = let r = in-take n l x m in (suc (r .0), omega (arith, r .1), r .2)
 
-pub getD-in : (l : List ℕ) (j : ℕ) → j < length l → In (getD l j 0) l
-getD-in [] j h = absurd (omega arith)
-getD-in (x ∷ l) zero h = inl refl
-getD-in (x ∷ l) (suc j) h = inr (getD-in l j (omega arith))
+pub at-in : {A : Type 0} (l : List A) (d : A) (j : ℕ) → j < length l → In (getD l j d) l
+at-in [] d j h = absurd (omega arith)
+at-in (x ∷ l) d zero h = inl refl
+at-in (x ∷ l) d (suc j) h = inr (at-in l d j (omega arith))
 
-getD-map : (g : ℕ → List ℕ) (l : List ℕ) (j : ℕ) → j < length l → g (getD l j 0) ≡ getD (map g l) j []
-getD-map g [] j h = absurd (omega arith)
-getD-map g (x ∷ l) zero h = refl
-getD-map g (x ∷ l) (suc j) h = getD-map g l j (omega arith)
+pub getD-map : {A B : Type 0} (f : A → B) (l : List A) (a : A) (b : B) (j : ℕ) → j < length l → getD (map f l) j b ≡ f (getD l j a)
+getD-map f [] a b j h = absurd (omega arith)
+getD-map f (x ∷ l) a b zero h = refl
+getD-map f (x ∷ l) a b (suc j) h = getD-map f l a b j (omega arith)
 
 module _ (n rows : ℕ) (lefts rights counts masks order l₀ l : List ℕ) (ready : Ready n rows lefts rights counts masks order) (long : rows ≤ length l₀)
     (x m : ℕ) (count : m ≡ length (keep (outside lefts rights x) (take rows order))) (few : m ≤ rows)
@@ -158,7 +158,7 @@ module _ (n rows : ℕ) (lefts rights counts masks order l₀ l : List ℕ) (rea
   -- each is a row
   listed-row : (j : ℕ) → j < m → getD l j 0 < rows
   listed-row j h =
-      let there = keep-out (outside lefts rights x) (take rows order) (getD kept j 0) (getD-in kept j (omega (arith, count))) in
+      let there = keep-out (outside lefts rights x) (take rows order) (getD kept j 0) (at-in kept 0 j (omega (arith, count))) in
       let w = in-take rows order (getD kept j 0) (there .0) in
       omega (arith, listed-at j h, w .2, ready .placed (w .0) (w .1))
 
@@ -175,7 +175,7 @@ module _ (n rows : ℕ) (lefts rights counts masks order l₀ l : List ℕ) (rea
   unfolding preds predAt needs
   listed-needs =
       tab-ext [] m (λ j. rowTerms counts masks (getD l j 0)) (map (rowTerms counts masks) kept) (length-map kept (rowTerms counts masks) ∙ sym count)
-      (λ j h. ap (rowTerms counts masks) (listed-at j h) ∙ getD-map (rowTerms counts masks) kept j (omega (arith, count)))
+      (λ j h. ap (rowTerms counts masks) (listed-at j h) ∙ sym (getD-map (rowTerms counts masks) kept 0 [] j (omega (arith, count))))
 
 -- ---- one end after the other
 

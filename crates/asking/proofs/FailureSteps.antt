@@ -18,7 +18,8 @@ use Rattle.asking.specs.Search.{Fits, Best, Rows, preds, none}
 use Rattle.asking.specs.Tables.{entryClaim, claimAt, Loaded, Bounded}
 use Rattle.asking.specs.Ends.{Ready, Complete, Least, needs}
 use Rattle.asking.specs.Fewest.{fewest, Works}
-use Rattle.asking.proofs.ArrayLaws.{fits-allowed, allowed-fits, in-at, at-in, claim-datum, order-everything, everything-order, needs-needed, needed-needs, left-outside}
+use Rattle.asking.proofs.EndSteps.{at-in}
+use Rattle.asking.proofs.ArrayLaws.{fits-allowed, allowed-fits, in-at, claim-datum, order-everything, everything-order, needs-needed, needed-needs, left-outside}
 use Rattle.asking.proofs.ReadyLaws.{Prepared}
 use Rattle.asking.proofs.FewestLaws.{Seen, works-ends, ends-works, fewest-found, fewest-over}
 

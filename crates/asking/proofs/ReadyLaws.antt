@@ -21,7 +21,8 @@ use Rattle.engine.proofs.ReceiveLaws.{ok-datum-out}
 use Rattle.asking.specs.Tables.{entryClaim, claimAt, Loaded, Bounded, claimPlace, claimLeft, claimRight, ranked}
 use Rattle.asking.specs.Ends.{noEnd, Ready, Complete}
 use Rattle.asking.proofs.TableLaws.{length-ranked, ranked-in, ranked-out, loaded-in, bounded-in}
-use Rattle.asking.proofs.ArrayLaws.{claim-entry, claim-datum, at-in}
+use Rattle.asking.proofs.EndSteps.{at-in}
+use Rattle.asking.proofs.ArrayLaws.{claim-entry, claim-datum}
 
 -- ---- the order
 

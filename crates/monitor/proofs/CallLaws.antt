@@ -26,6 +26,7 @@ use Rattle.state.specs.Form.{termFits, termsFit, headFits, inForm}
 use Rattle.state.proofs.StateLaws.{datum-at-ok, length-datum-at}
 use Rattle.engine.specs.Refusals.{refuse}
 use Rattle.engine.proofs.ReceiveLaws.{ok-datum-out, ok-terms-out}
+use Rattle.asking.proofs.AskSteps.{own-fits}
 use Rattle.monitor.specs.Messages.{readBytes, readNumber, readingBytes, answered}
 use Rattle.monitor.specs.Calls.{writtenWords, writtenBytes, writeNumber, writeOutput}
 
@@ -57,10 +58,6 @@ pub record Held (s : List ℕ) (position : ℕ) : Type 0 where
   pub count : length (datumAt s position .terms) ≡ num (datumPlace position + 16) 4 s
 
 module _ (s : List ℕ) (t : T (inForm s)) (position : ℕ) (h : position < heldCount s) where
-  own-fits : num 0 4 s ≤ 28
-  unfolding inForm headFits
-  own-fits = leb→le (num 0 4 s) 28 (search (both-l, both-r) depth 9)
-
   terms-small : T (termsFit (num 0 4 s) 8 (datumAt s position .terms)) → Masks (datumAt s position .terms)
   unfolding termsFit
   terms-small f = fit-masks (num 0 4 s) (datumAt s position .terms) (search (both-l, both-r) depth 9)
@@ -70,7 +67,7 @@ module _ (s : List ℕ) (t : T (inForm s)) (position : ℕ) (h : position < held
       let d = ok-datum-out (num 0 4 s) (datumAt s position) (datum-at-ok s t position h) in
       let p = ok-terms-out (num 0 4 s) 8 (datumAt s position .terms) (d .fit) in
       record {
-        own-le = own-fits;
+        own-le = own-fits s t;
         ends = d .ends;
         below = d .below;
         few = p .few;

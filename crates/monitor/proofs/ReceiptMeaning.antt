@@ -21,16 +21,9 @@ use Rattle.state.specs.Model.{Datum, Store}
 use Rattle.engine.specs.Receiving.{disjoint, explained, learn, learnt, unexplained, same, meet, met, without, betters, stored, heldAfter, settled, received}
 use Rattle.engine.proofs.ReceiveLaws.{overlap, same-out, learnt-ind, learn-keeps, learnt-has}
 use Rattle.asking.specs.Instants.{Within, InAll, Fine}
+use Rattle.asking.proofs.InstantLaws.{within-wider, within-meet, meet-within, inall-in, inall-out}
 
 -- ---- intervals
-
-within-meet : (a b c d : ℕ) (x : ℤ) → Within (max a c) (min b d) x ↔ (Within a b x × Within c d x)
-within-meet a b c d (pos k) = (λ h. omega arith, λ h. omega arith)
-within-meet a b c d (negsuc k) = (λ h. absurd h, λ h. h .0)
-
-within-wider : (a b c d : ℕ) → c ≤ a → b ≤ d → (x : ℤ) → Within a b x → Within c d x
-within-wider a b c d l r (pos k) h = omega arith
-within-wider a b c d l r (negsuc k) h = h
 
 disjoint-no : (d n : Datum) → T (disjoint d n) → (x : ℤ) → Within (d .left) (d .right) x → Within (n .left) (n .right) x → ⊥
 unfolding disjoint
@@ -57,10 +50,7 @@ module _ (s : ℕ) where
   Some k = T (all (holds s) (k .entries)) → (m : ℕ) × InAll s (k .held) (pos m)
 
   pub inall-each : (x : ℤ) (ds : List Datum) → InAll s ds x ↔ Each (Allows x) ds
-  inall-each x [] = (λ h d m. absurd m, λ f. tt)
-  inall-each x (d ∷ ds) =
-      let rest = inall-each x ds in
-      (λ h. each-cons (Allows x) d ds .1 (h .0, rest .0 (h .1)), λ f. let k = each-cons (Allows x) d ds .0 f in (k .0, rest .1 (k .1)))
+  inall-each x ds = (inall-out s ds x, inall-in s ds x)
 
   -- some datum is active, or all instants are allowed
   pub active-cases : (ds : List Datum) → ((d : Datum) × In d ds × Active d) ⊎ ((x : ℤ) → InAll s ds x)
@@ -135,8 +125,8 @@ module _ (s : ℕ) where
     meet-allows : (d n : Datum) → d .terms ≡ n .terms → Allows x (meet d n) ↔ (Allows x d × Allows x n)
     unfolding meet
     meet-allows d n e =
-        let same = within-meet (d .left) (d .right) (n .left) (n .right) x in
-        (λ f. (λ a. same .0 (f (rw e at a)) .0, λ a. same .0 (f a) .1), λ f a. same .1 (f .0 (rw e a), f .1 a))
+        let both = meet-within (d .left) (d .right) (n .left) (n .right) x in
+        (λ f. (λ a. both (f (rw e at a)) .0, λ a. both (f a) .1), λ f a. within-meet (d .left) (d .right) (n .left) (n .right) x (f .0 (rw e a)) (f .1 a))
 
     met-all : (n : Datum) (ds : List Datum) → (Allows x (met n ds) × InAll s (without (n .terms) ds) x) ↔ (Allows x n × InAll s ds x)
     unfolding met without
@@ -159,7 +149,7 @@ module _ (s : ℕ) where
         let i : T (implies (d .terms) (n .terms)) = search both-l in
         let l = leb→le (n .left) (d .left) (search (both-l, both-r) depth 9) in
         let r = leb→le (d .right) (n .right) (search (both-l, both-r) depth 9) in
-        within-wider (d .left) (d .right) (n .left) (n .right) l r x
+        within-wider (d .left) (d .right) (n .left) (n .right) x l r
         (f (not-T (holds s (d .terms)) (λ k. T-not (holds s (n .terms)) a (implies-out (d .terms) (n .terms) i s k))))
 
     stored-all : (n : Datum) (ds : List Datum) → InAll s (stored n ds) x ↔ (Allows x n × InAll s ds x)
