@@ -2,17 +2,16 @@
 -- sets for which those are true that it needs of the store; and the sets that fit are the allowed ones.
 -- The idea: both sides say of every claim by its place that it is true or that the instant is in its interval. No contract cites this file.
 -- Assumes nothing.
-use Prim.Native.Nat.{ℕ, zero, suc, _+_, _*_, _-_, _≤_, _<_}
-use mathlib.Core.Path.{_≡_, refl, sym, ap, subst, _∙_}
-use mathlib.Core.Logic.{_⊎_, _↔_, inl, inr, ⊎-elim}
+use Prim.Native.Nat.{ℕ, suc, _+_, _-_, _≤_, _<_}
+use mathlib.Core.Path.{_≡_, sym, ap, _∙_}
+use mathlib.Core.Logic.{inl, inr}
 use mathlib.Core.Bool.{Bool, true, false, _&&_, not}
 use mathlib.Core.List.{List, [], _∷_, _++_, map}
 use native.Mathlib.Decide.{decLt, decLe}
 use native.Mathlib.Omega.{arith}
 use borrow.Author.Tests.{le-leb, lt-leb}
-use lib.Dec.{T, T-not, not-T, leb, leb→le, le→leb}
-use lib.Count.{ones}
-use lib.ListN.{length, getD, take, drop, length-append, length-map, List·getD-append}
+use lib.Dec.{T, not-T, leb, leb→le}
+use lib.ListN.{length, getD, take, length-map, List·getD-append}
 use lib.Seq.{getD-append-add}
 use Rattle.numbers.specs.Numbers.{tab}
 use Rattle.numbers.proofs.NumberLaws.{length-tab, getD-tab}
@@ -21,11 +20,11 @@ use Rattle.names.proofs.SetLaws.{empty-subset, subset-trans, union-right, union
 use Rattle.names.proofs.PartLaws.{others-in, others-lt, others-out}
 use Rattle.predicates.specs.Lists.{all, keep, In}
 use Rattle.predicates.specs.Predicates.{holds}
-use Rattle.predicates.proofs.ListLaws.{both, both-l, both-r, split, all-in, all-out, keep-in, keep-out, map-in, map-out}
+use Rattle.predicates.proofs.ListLaws.{both-l, both-r, all-in, all-out, keep-in, keep-out, map-in, map-out}
 use Rattle.state.specs.Model.{Datum, Store}
 use Rattle.state.proofs.LayoutLaws.{all-tab}
 use Rattle.asking.specs.Instants.{Allowed}
-use Rattle.asking.specs.Claims.{inside, termsOf, neededAt, everything, Explained}
+use Rattle.asking.specs.Claims.{inside, neededAt, everything}
 use Rattle.asking.specs.Search.{Fits, Rows, predAt, preds}
 use Rattle.asking.specs.Tables.{entryClaim, claimsOf, claimAt, Loaded, Bounded, outside}
 use Rattle.asking.specs.Ends.{rowTerms, needs, Complete}

@@ -1,9 +1,9 @@
 -- From what the loops and the search find to the answer. The idea: an end that the arrays' search explains is one that the store's sets explain, and
 -- the other way round (`proofs.ArrayLaws`); what the ends then say is `proofs.EndLaws`. No contract cites this file. Assumes nothing.
-use Prim.Native.Nat.{ℕ, suc, _+_, _*_, _-_, _≤_, _<_, min, max}
-use mathlib.Core.Path.{_≡_, refl, sym, ap, subst, _∙_}
+use Prim.Native.Nat.{ℕ, suc, _+_, _-_, _≤_, _<_, min, max}
+use mathlib.Core.Path.{_≡_, refl, sym, ap, _∙_}
 use mathlib.Core.Logic.{_⊎_, inl, inr, ⊎-elim}
-use mathlib.Core.Bool.{Bool, true, false, not}
+use mathlib.Core.Bool.{not}
 use mathlib.Core.List.{List, [], _∷_, _++_}
 use native.Mathlib.Numerals.{add-one}
 use native.Mathlib.Decide.{decLt}
@@ -17,16 +17,13 @@ use Rattle.numbers.proofs.NumberLaws.{length-tab, getD-tab}
 use Rattle.names.specs.Sets.{others}
 use Rattle.names.proofs.SetLaws.{subset-refl}
 use Rattle.names.proofs.PartLaws.{others-lt}
-use Rattle.predicates.specs.Lists.{all, In}
-use Rattle.predicates.specs.Predicates.{holds}
+use Rattle.predicates.specs.Lists.{In}
 use Rattle.state.specs.Model.{Datum, Store, State}
 use Rattle.state.specs.Layout.{datumPlace, heldCount, entryCount, datumAt, headOf, storeOf, stateOf}
 use Rattle.state.specs.Form.{inForm}
 use Rattle.state.proofs.StateLaws.{state-out, length-held, length-entries, form-ok}
 use Rattle.engine.proofs.StoreLaws.{column-front, length-column}
-use Rattle.asking.specs.declared.Answer.{Answer}
 use Rattle.asking.specs.declared.Answer.the-variants.{Contradicted, Open, Between}
-use Rattle.asking.specs.Instants.{Allowed}
 use Rattle.asking.specs.Asking.{interval, highest, lowest, answer}
 use Rattle.asking.specs.Claims.{inside, neededAt, everything, Explained}
 use Rattle.asking.specs.Search.{Fits, Best, preds, none}

@@ -4,22 +4,22 @@ use mathlib.Core.Path.{_≡_, refl, sym, ap, subst, _∙_}
 use mathlib.Core.Logic.{_⊎_, inl, inr, ⊎-elim}
 use mathlib.Core.Bool.{Bool, true, false, _&&_, _||_, not, cond}
 use mathlib.Core.List.{List, [], _∷_, _++_, map, append-nil}
-use native.Mathlib.Nat.{le-refl, le-trans, eq-or-lt-of-le}
+use native.Mathlib.Nat.{le-refl, le-trans}
 use native.Mathlib.Numerals.{add-one}
 use native.Mathlib.Decide.{decLe, decLt}
 use native.Mathlib.Omega.{arith}
 use borrow.Author.Tests.{le-leb, lt-leb, le-ltb, lt-ltb}
-use lib.Dec.{T, eqb, leb, ltb, leb→le, ltb→lt, nleb→lt, nltb→le, T-not}
+use lib.Dec.{T, eqb, leb, ltb, leb→le, ltb→lt, nltb→le}
 use lib.ListN.{length, getD, take, drop, set, length-append, length-set, length-map, List·getD-append}
-use lib.Seq.{take-suc, length-take-le}
+use lib.Seq.{take-suc}
 use lib.Count.{ones}
 use Rattle.names.specs.Sets.{subset, union, less}
 use Rattle.names.proofs.SetLaws.{subset-le, ones-empty}
 use Rattle.names.proofs.PartLaws.{union-add}
 use Rattle.numbers.specs.Numbers.{put, tab}
-use Rattle.numbers.proofs.NumberLaws.{put-then, put-front, length-tab, getD-tab, tab-ext}
-use Rattle.predicates.specs.Lists.{all, keep, In}
-use Rattle.predicates.proofs.ListLaws.{both, both-l, both-r, or-cases, true-T, T-true, T-false, split, cond-ind, keep-out, length-keep}
+use Rattle.numbers.proofs.NumberLaws.{put-then, put-front, tab-ext}
+use Rattle.predicates.specs.Lists.{keep, In}
+use Rattle.predicates.proofs.ListLaws.{both, both-l, both-r, true-T, split, keep-out}
 use Rattle.engine.proofs.TableLaws.{keep-append}
 use Rattle.asking.specs.Search.{Fits, Best, Rows, predAt, preds, none}
 use Rattle.asking.specs.Tables.{outside}

@@ -2,9 +2,9 @@
 -- The idea: a set that fits and holds a term t holds s joined with t. If t adds one name and nothing better came of it, every set that is still of
 -- interest lacks that name, which is then no longer free. No contract cites this file. Assumes nothing.
 use Prim.Native.Nat.{ℕ, _+_, _≤_, _<_, min}
-use mathlib.Core.Path.{_≡_, refl, sym, subst, _∙_}
+use mathlib.Core.Path.{_≡_, refl, sym, subst}
 use mathlib.Core.Logic.{_⊎_, inl, inr, ⊎-elim}
-use mathlib.Core.Bool.{Bool, true, false, not, cond}
+use mathlib.Core.Bool.{Bool, not}
 use mathlib.Core.List.{List, [], _∷_}
 use native.Mathlib.Nat.{le-trans, le-refl}
 use native.Mathlib.Decide.{decLe}

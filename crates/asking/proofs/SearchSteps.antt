@@ -8,7 +8,7 @@ use native.Mathlib.Nat.{le-trans, le-refl}
 use native.Mathlib.Numerals.{add-one}
 use native.Mathlib.Omega.{arith}
 use borrow.Author.Tests.{le-leb, lt-leb, le-ltb, lt-ltb, eq-eqb, ne-eqb}
-use lib.Dec.{T, T-not, leb, leb→le, le→leb, ltb, ltb→lt, nltb→le, eqb, eqb→eq}
+use lib.Dec.{T, leb, leb→le, le→leb, ltb, nltb→le, eqb, eqb→eq}
 use lib.Count.{ones}
 use lib.ListN.{length, getD, take, drop, drop-of-length-le}
 use lib.Seq.{drop-cons}

@@ -1,7 +1,7 @@
 -- The answer over a state (document 01, "Asking"), set by set: the instants that each set leaves, and what all sets within the limit leave
 -- together. Assumes nothing: these are definitions.
 use Prim.Native.Nat.{ℕ, zero, suc, _^_, min, max}
-use mathlib.Core.Bool.{Bool, true, false, not, cond}
+use mathlib.Core.Bool.{not, cond}
 use mathlib.Core.List.{List, [], _∷_, _++_, map}
 use lib.Dec.{leb, eqb}
 use Rattle.names.specs.Sets.{union}

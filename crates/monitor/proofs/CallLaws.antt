@@ -8,7 +8,7 @@ use mathlib.Core.Bool.{Bool, true, false, not}
 use mathlib.Core.List.{List, [], _∷_, _++_}
 use native.Mathlib.Omega.{arith}
 use borrow.Author.Tests.{le-ltb, eq-eqb, not-false, leb-false, ltb-false}
-use lib.Dec.{T, leb, ltb, leb→le, ltb→lt}
+use lib.Dec.{T, leb, ltb, ltb→lt}
 use lib.ListN.{length, take}
 use lib.Seq.{take-append-le}
 use Rattle.numbers.specs.Numbers.{num, bytes, tab, Words, wordsOf, bytesOf, put}
@@ -22,7 +22,7 @@ use Rattle.message.specs.Write.{messageWords}
 use Rattle.message.specs.declared.Reading.the-variants.{Message}
 use Rattle.message.proofs.MessageLaws.{Masks, length-message, words-message, read-write, terms-write}
 use Rattle.state.specs.Layout.{stateSize, datumPlace, masksAt, rowAt, datumAt, heldCount}
-use Rattle.state.specs.Form.{termFits, termsFit, headFits, inForm}
+use Rattle.state.specs.Form.{termFits, termsFit, inForm}
 use Rattle.state.proofs.StateLaws.{datum-at-ok, length-datum-at}
 use Rattle.engine.specs.Refusals.{refuse}
 use Rattle.engine.proofs.ReceiveLaws.{ok-datum-out, ok-terms-out}

@@ -15,7 +15,7 @@ use lib.IntN.{ℤ, pos, negsuc}
 use Rattle.predicates.specs.Lists.{any, all, In}
 use Rattle.predicates.specs.Predicates.{holds, implies, isTrue, normal}
 use Rattle.predicates.proofs.ListLaws.{both-l, both-r, or-l, or-r, or-cases, split, cond-ind, any-in, any-out, all-in, all-out}
-use Rattle.predicates.proofs.EachLaws.{Each, each-cons, each-dropped, each-added}
+use Rattle.predicates.proofs.EachLaws.{Each, each-dropped, each-added}
 use Rattle.predicates.proofs.PredicateLaws.{holds-sum, holds-normal, implies-out, implies-refl, true-holds}
 use Rattle.state.specs.Model.{Datum, Store}
 use Rattle.engine.specs.Receiving.{disjoint, explained, learn, learnt, unexplained, same, meet, met, without, betters, stored, heldAfter, settled, received}

@@ -1,7 +1,7 @@
 -- `asking::ends::first_end` meets its contract: the ends are tried from the least on, and the terms of the first predicate one after the other.
 -- Invariants: no end below the floor is explained; what comes of the terms still to try comes of all that the end needs. Measures: the
 -- instants from the floor on; the terms still to try.
-use Prim.Native.Nat.{ℕ, _+_, _-_, _≤_, _<_}
+use Prim.Native.Nat.{ℕ, _-_, _≤_, _<_}
 use mathlib.Core.Path.{_≡_, refl, sym, ap, _∙_}
 use mathlib.Core.Logic.{⊎-elim}
 use native.Mathlib.Omega.{arith}

@@ -1,7 +1,7 @@
 -- `asking::search::alone` meets its contract, from the last term to the first.
 -- Invariant: the names are those of the terms from i on. Measure: i.
 use Prim.Native.Nat.{_≤_}
-use mathlib.Core.Path.{_≡_, refl, sym, ap, _∙_}
+use mathlib.Core.Path.{_≡_}
 use Prim.Native.Nat.{_-_}
 use native.Mathlib.Omega.{arith}
 use borrow.Author.Needs.{needs}

@@ -1,13 +1,7 @@
 -- `asking::search::freed` meets its contract: one test.
-use mathlib.Core.Path.{_≡_, refl, sym, _∙_}
-use native.Mathlib.Omega.{arith}
-use Prim.Native.Nat.{_+_}
-use mathlib.Core.Path.{ap}
-use lib.Count.{ones}
 use Rattle.names.specs.Sets.{union}
 use Rattle.asking.proofs.SearchSteps.{freed-one, freed-more}
 use borrow.Author.Needs.{needs}
-use borrow.Author.Tests.{eq-eqb, ne-eqb}
 use Rattle.asking.proofs.search.freed.Statement.{statement}
 use Rattle.asking.proofs.search.freed.Tie as tie
 

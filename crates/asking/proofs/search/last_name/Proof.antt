@@ -1,7 +1,7 @@
 -- `asking::search::last_name` meets its contract: the names that alone do for every predicate left are sifted out, and the least is taken.
 -- Invariant: sifting the names from place j on leaves what sifting all from place k on leaves. Measure: the places still to try.
 use Prim.Native.Nat.{ℕ, _-_, _≤_}
-use mathlib.Core.Path.{_≡_, refl, sym, ap, _∙_}
+use mathlib.Core.Path.{_≡_, sym, ap, _∙_}
 use native.Mathlib.Omega.{arith}
 use lib.ListN.{drop}
 use Rattle.names.specs.Sets.{union}

@@ -1,8 +1,7 @@
 -- `asking::search::worth` meets its contract: one test after the other.
-use mathlib.Core.Path.{_≡_, refl, sym, _∙_}
 use Rattle.asking.proofs.SearchSteps.{worth-room, worth-high, worth-count}
 use borrow.Author.Needs.{needs}
-use borrow.Author.Tests.{not-true, not-false, lt-ltb, le-ltb}
+use borrow.Author.Tests.{not-true, not-false}
 use Rattle.asking.proofs.search.worth.Statement.{statement}
 use Rattle.asking.proofs.search.worth.Tie as tie
 

@@ -1,5 +1,5 @@
 -- `monitor::questions::monitor_fewest` meets its contract: one refusal after the other; else the count and the mask at the front of the output.
-use mathlib.Core.Path.{sym, ap, _∙_}
+use mathlib.Core.Path.{sym, _∙_}
 use borrow.Author.Tests.{lt-ltb, le-ltb, not-true, not-false}
 use Rattle.predicates.proofs.ListLaws.{true-T}
 use Rattle.monitor.specs.Ask.{fewestBytes, fewestNumber, fewestOutput}
