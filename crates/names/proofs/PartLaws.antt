@@ -1,18 +1,18 @@
 -- Laws of parts of sets: what is left without another set's names, the least name, and sets that differ by one name. A set that holds another and
 -- has no more names is that other (`subset-same`); most of the rest follows from it. No contract cites this file. Assumes nothing.
-use mathlib.Core.Path.{_≡_, refl, sym, ap, subst, _∙_}
+use mathlib.Core.Path.{_≡_, sym, ap, subst, _∙_}
 use mathlib.Core.Logic.{_⊎_, inl, inr}
 use mathlib.Core.Bool.{not}
-use Prim.Native.Nat.{ℕ, zero, suc, _+_, _-_, _*_, _/_, _%_, _^_, _≤_, _<_, min, max}
+use Prim.Native.Nat.{ℕ, zero, suc, _+_, _-_, _*_, _/_, _%_, _^_, _≤_, _<_, min}
 use native.Mathlib.Nat.{mod-eq-of-lt}
 use native.Mathlib.Omega.{arith}
 use native.Mathlib.Decide.{ℕ-discrete, decLe}
-use lib.Dec.{T, T-not, not-T, eqb, eqb→eq, eqb-refl}
+use lib.Dec.{T, T-not, not-T}
 use lib.Arith.{bin-ind}
 use lib.Bits.{bitAnd, and-step, and-comm, and-self, and-le-l, and-mask, or-add-and}
 use lib.Count.{ones, ones-step}
 use Rattle.names.specs.Sets.{subset, union, has, shared, less, others, lowest, digit}
-use Rattle.names.proofs.SetLaws.{digit-lt, digit-single-same, digit-single-other, digit-zero, digit-suc, digit-and, digit-union, digit-empty, subset-and, and-subset, subset-out, subset-in, digits-ext, subset-refl, subset-trans, empty-subset, subset-empty, subset-le, union-left, union-right, union-least, ones-empty, ones-none, ones-mono, halves, has-in, has-out}
+use Rattle.names.proofs.SetLaws.{digit-lt, digit-single-same, digit-single-other, digit-zero, digit-suc, digit-and, digit-union, digit-empty, subset-and, and-subset, subset-out, subset-in, digits-ext, subset-trans, subset-empty, subset-le, union-left, union-right, union-least, ones-empty, ones-none, ones-mono, halves, has-in, has-out}
 
 -- ---- what both hold
 

@@ -1,8 +1,8 @@
 -- `engine::receiving::put_held` meets its contract: the data, the new one behind them where it is stored, and zeros in the places left over
 -- (`data-put`, `data-put-new`).
 use Prim.Native.Nat.{ℕ, _<_}
-use mathlib.Core.Path.{_≡_, sym, ap, _∙_}
-use mathlib.Core.Bool.{true, false, cond}
+use mathlib.Core.Path.{_≡_, ap}
+use mathlib.Core.Bool.{cond}
 use native.Mathlib.Omega.{arith}
 use Rattle.state.proofs.LayoutLaws.{length-datum}
 use Rattle.engine.specs.Tables.{newly, datum, dataIn}

@@ -1,5 +1,4 @@
 -- `engine::receiving::put_known` meets its contract: the entries, then zeros in the places left over (`entries-put`).
-use mathlib.Core.Path.{_≡_, sym, _∙_}
 use native.Mathlib.Omega.{arith}
 use Rattle.engine.proofs.ReceiptLaws.{entries-put}
 use borrow.Author.Needs.{needs}

@@ -1,10 +1,10 @@
 -- `engine::receiving::receive` meets its contract: in form, the arrays hold what the state holds (`data-form`, `entries-form`), the four steps are taken
 -- there (`settle`), and what they leave is the store of the definition (`outcome-settled`).
-use Prim.Native.Nat.{_+_, _≤_}
-use mathlib.Core.Path.{_≡_, refl, sym, ap, _∙_}
+use Prim.Native.Nat.{_≤_}
+use mathlib.Core.Path.{sym, _∙_}
 use native.Mathlib.Nat.{le-refl}
 use native.Mathlib.Omega.{arith}
-use Rattle.state.specs.Layout.{headOf, storeOf, stateBytes}
+use Rattle.state.specs.Layout.{storeOf}
 use Rattle.state.proofs.StateLaws.{held-count-le, entry-count-le}
 use Rattle.engine.specs.Tables.{outcomeStore}
 use Rattle.engine.proofs.StoreLaws.{table-fresh, columns-fresh, entries-form, entries-table, data-rows, data-form, data-columns}
