@@ -12,7 +12,7 @@ use lib.ListN.{length, getD, drop, set, length-append}
 use lib.Seq.{drop-cons}
 use Rattle.numbers.specs.Numbers.{put}
 use Rattle.numbers.proofs.NumberLaws.{put-append, put-then}
-use Rattle.lines.specs.Text.{digits}
+use Rattle.lines.specs.Text.{digits, decimal, withOne, withTwo}
 
 -- ---- a text that is copied
 
@@ -54,3 +54,33 @@ unfolding put
 digits-put at k n end s t p h e q =
     let more = digits-more k n p h in
     (rw (more, length-append) (omega arith), rw more (put-then _ at end (digits (k - 1) (n / 10)) ((48 + n % 10) ∷ []) s t _ refl e q refl))
+
+-- ---- lines put together
+
+-- two texts, the second stored behind the first: their place behind, and both at once
+text-then : (at next end : ℕ) (a b s t u : List ℕ) → next ≡ at + length a → t ≡ put at a s → end ≡ next + length b → u ≡ put next b t →
+    (end ≡ at + length (a ++ b)) × (u ≡ put at (a ++ b) s)
+text-then at next end a b s t u e p f q = (rw length-append (omega arith), put-then (length a) at next a b s t u refl e p q)
+
+-- a word and a number
+pub with-one : (word : List ℕ) (a i j end : ℕ) (s t u v : List ℕ) → i ≡ 0 + length word → t ≡ put 0 word s
+    → j ≡ i + length (decimal a) → u ≡ put i (decimal a) t → end ≡ j + 1 → v ≡ put j (10 ∷ []) u
+    → (end ≡ length (withOne word a)) × (v ≡ put 0 (withOne word a) s)
+unfolding withOne
+with-one word a i j end s t u v e₁ p₁ e₂ p₂ e₃ p₃ =
+    let tail = text-then i j end (decimal a) (10 ∷ []) t u v e₂ p₂ e₃ p₃ in
+    let all = text-then 0 i end word _ s t v e₁ p₁ (tail .0) (tail .1) in
+    (omega arith, all .1)
+
+-- a word and two numbers
+pub with-two : (word : List ℕ) (a b i j k l end : ℕ) (s t u v w x : List ℕ) → i ≡ 0 + length word → t ≡ put 0 word s
+    → j ≡ i + length (decimal a) → u ≡ put i (decimal a) t → k ≡ j + 1 → v ≡ put j (32 ∷ []) u
+    → l ≡ k + length (decimal b) → w ≡ put k (decimal b) v → end ≡ l + 1 → x ≡ put l (10 ∷ []) w
+    → (end ≡ length (withTwo word a b)) × (x ≡ put 0 (withTwo word a b) s)
+unfolding withTwo
+with-two word a b i j k l end s t u v w x e₁ p₁ e₂ p₂ e₃ p₃ e₄ p₄ e₅ p₅ =
+    let last = text-then k l end (decimal b) (10 ∷ []) v w x e₄ p₄ e₅ p₅ in
+    let third = text-then j k end (32 ∷ []) _ u v x e₃ p₃ (last .0) (last .1) in
+    let second = text-then i j end (decimal a) _ t u x e₂ p₂ (third .0) (third .1) in
+    let all = text-then 0 i end word _ s t x e₁ p₁ (second .0) (second .1) in
+    (omega arith, all .1)
