@@ -1,2 +1,3 @@
 -- The laws of texts and of lines.
 pub mod TextLaws
+pub mod LineLaws

@@ -25,6 +25,11 @@ unfoldable pub fields : List ℕ → List (List ℕ)
 fields [] = [] ∷ []
 fields (b ∷ bs) = cond (eqb b 32) ([] ∷ fields bs) (onto b (fields bs))
 
+-- how many bytes stand before the first space
+unfoldable pub spaceAt : List ℕ → ℕ
+spaceAt [] = 0
+spaceAt (b ∷ bs) = cond (eqb b 32) 0 (suc (spaceAt bs))
+
 -- ---- numbers: "All fields are decimal, 1 to 20 digits"
 
 abbrev pub isDigit : ℕ → Bool
@@ -64,9 +69,11 @@ badLine begun s = record { begun = begun; state = s; text = badText }
 unfoldable pub setLine : List ℕ → Bool → List ℕ → Outcome
 setLine ns begun s =
     cond (eqb (length ns) 3 && (isWord (getD ns 0 0) && isWord (getD ns 1 0)))
-    (record { begun = begun || eqb (setUpNumber s (getD ns 0 0) (getD ns 1 0) (getD ns 2 0)) 0
-            ; state = setUpState s (getD ns 0 0) (getD ns 1 0) (getD ns 2 0)
-            ; text = numberText (setUpNumber s (getD ns 0 0) (getD ns 1 0) (getD ns 2 0)) })
+    (record {
+      begun = begun || eqb (setUpNumber s (getD ns 0 0) (getD ns 1 0) (getD ns 2 0)) 0;
+      state = setUpState s (getD ns 0 0) (getD ns 1 0) (getD ns 2 0);
+      text = numberText (setUpNumber s (getD ns 0 0) (getD ns 1 0) (getD ns 2 0));
+    })
     (badLine begun s)
 
 -- "`age` reading"
@@ -80,9 +87,11 @@ ageLine ns s =
 unfoldable pub getLine : List ℕ → List ℕ → Outcome
 getLine ns s =
     cond (leb 2 (length ns) && all isWord (drop 2 ns))
-    (record { begun = true
-            ; state = receiveState s (getD ns 0 0) (getD ns 1 0) (bytesOf (drop 2 ns))
-            ; text = numberText (receiveNumber s (getD ns 0 0) (getD ns 1 0) (bytesOf (drop 2 ns))) })
+    (record {
+      begun = true;
+      state = receiveState s (getD ns 0 0) (getD ns 1 0) (bytesOf (drop 2 ns));
+      text = numberText (receiveNumber s (getD ns 0 0) (getD ns 1 0) (bytesOf (drop 2 ns)));
+    })
     (badLine true s)
 
 -- the line for a question: its answer where the number is 0
