@@ -10,12 +10,15 @@ use native.Mathlib.Omega.{arith}
 use borrow.Author.Tests.{lt-ltb, le-ltb, le-leb, lt-leb, eq-eqb, ne-eqb, eqb-true, eqb-false, leb-true}
 use lib.Dec.{T, ltb, leb, eqb}
 use lib.ListN.{length, getD, take, drop, set, drop-of-length-le, length-take, length-drop}
-use lib.Seq.{drop-drop}
+use lib.Seq.{drop-drop, take-all}
 use Rattle.predicates.specs.Lists.{all}
 use Rattle.predicates.proofs.ListLaws.{true-T, T-true, T-false, both-l, both-r, cond-ind, split}
 use Rattle.predicates.proofs.LoopLaws.{drop-next}
-use Rattle.numbers.specs.Numbers.{put}
-use Rattle.lines.specs.Lines.{onto, fields, spaceAt, isDigit, valueFrom, value, isNumber, sameBytes}
+use Rattle.numbers.specs.Numbers.{put, bytesOf}
+use Rattle.numbers.proofs.NumberLaws.{length-bytesOf, take-put}
+use Rattle.lines.specs.Lines.{onto, fields, later, spaceAt, isDigit, valueFrom, value, isNumber, isWord, sameBytes}
+use Rattle.lines.specs.Lines.{Outcome, badLine, ageLine, getLine, askLine, fewestLine, laterLine, wordLine, fieldsLine, lineOutcome}
+use Rattle.lines.specs.Lines.{ageWord, getWord, askWord, fewestWord}
 
 -- ---- spaceAt: the first space
 
@@ -165,3 +168,70 @@ module _ (a b : List ℕ) (i : ℕ) (p : i < length a) (q : i < length b) where
 pub same-done : (a b : List ℕ) (i : ℕ) → length a ≤ i → length b ≤ i → sameBytes (drop i a) (drop i b) ≡ true
 unfolding sameBytes
 same-done a b i p q = rw (drop-of-length-le a {i = i} p, drop-of-length-le b {i = i} q)
+
+-- ---- the message of a `get` line
+
+-- the part of the fields behind the two delays
+pub behind-two : (ns : List ℕ) → take (length ns - 2) (drop 2 ns) ≡ drop 2 ns
+behind-two ns = take-all (length ns - 2) (drop 2 ns) (omega (arith, length-drop 2 ns))
+
+-- its bytes at the front of a buffer
+pub message-at-front : (ns m₀ m : List ℕ) → (length ns - 2) * 4 ≤ length m₀ →
+    m ≡ put 0 (bytesOf (take (length ns - 2) (drop 2 ns))) m₀ → take ((length ns - 2) * 4) m ≡ bytesOf (drop 2 ns)
+message-at-front ns m₀ m h e =
+    let long : length (bytesOf (drop 2 ns)) ≡ (length ns - 2) * 4 = length-bytesOf (drop 2 ns) ∙ rw length-drop in
+    rw (e, behind-two ns) (take-put _ (bytesOf (drop 2 ns)) m₀ long h)
+
+-- ---- what stays
+
+pub ask-state : (ns s : List ℕ) → askLine ns s .state ≡ s
+unfolding askLine badLine
+ask-state ns s = cond-ind (λ o. o .state ≡ s) (eqb (length ns) 1) _ _ (λ _. refl) (λ _. refl)
+
+pub fewest-state : (ns s : List ℕ) → fewestLine ns s .state ≡ s
+unfolding fewestLine badLine
+fewest-state ns s = cond-ind (λ o. o .state ≡ s) (eqb (length ns) 0) _ _ (λ _. refl) (λ _. refl)
+
+-- after a taken `set` every line leaves it taken
+pub later-begun : (word ns s : List ℕ) → laterLine word ns s .begun ≡ true
+unfolding laterLine ageLine getLine askLine fewestLine badLine
+later-begun word ns s =
+    let P : Outcome → Type 0 = (λ o. o .begun ≡ true) in
+    cond-ind P (sameBytes word ageWord) _ _ (λ _. cond-ind P (eqb (length ns) 1) _ _ (λ _. refl) (λ _. refl))
+    (λ _. cond-ind P (sameBytes word getWord) _ _ (λ _. cond-ind P (leb 2 (length ns) && all isWord (drop 2 ns)) _ _ (λ _. refl) (λ _. refl))
+    (λ _. cond-ind P (sameBytes word askWord) _ _ (λ _. cond-ind P (eqb (length ns) 1) _ _ (λ _. refl) (λ _. refl))
+    (λ _. cond-ind P (sameBytes word fewestWord) _ _ (λ _. cond-ind P (eqb (length ns) 0) _ _ (λ _. refl) (λ _. refl)) (λ _. refl))))
+
+-- ---- a line: its first field, and those behind it
+
+-- the first field is what stands before the first space
+pub first-field : (line : List ℕ) → fields line ≡ take (spaceAt line) line ∷ later (fields line)
+unfolding later
+first-field line = rw (fields-split line)
+
+pub later-none : (line : List ℕ) → spaceAt line ≡ length line → later (fields line) ≡ []
+unfolding later
+later-none line e = rw (fields-split line, eq-eqb _ _ e)
+
+pub later-some : (line : List ℕ) → (spaceAt line ≡ length line → ⊥) → later (fields line) ≡ fields (drop (spaceAt line + 1) line)
+unfolding later
+later-some line e = rw (fields-split line, ne-eqb _ _ e, add-one)
+
+pub line-long : (line s : List ℕ) (begun : Bool) → 200 < length line → lineOutcome line begun s ≡ badLine begun s
+unfolding lineOutcome
+line-long line s begun h = rw (lt-ltb _ _ h)
+
+pub line-fields : (line s : List ℕ) (begun : Bool) → length line ≤ 200 →
+    lineOutcome line begun s
+    ≡ cond (all isNumber (later (fields line))) (wordLine (take (spaceAt line) line) (map value (later (fields line))) begun s) (badLine begun s)
+unfolding lineOutcome fieldsLine
+line-fields line s begun h = rw (le-ltb _ _ h) (ap (λ fs. fieldsLine fs begun s) (first-field line))
+
+-- the count of the fields tells whether all are numbers
+pub count-bad : (b : Bool) (n k : ℕ) → n ≡ cond b k 255 → (T b → n ≤ 101) → n ≡ 255 → b ≡ false
+count-bad true n k e h f = absurd (omega (arith, h tt))
+count-bad false n k e h f = refl
+
+pub count-good : (b : Bool) (n k : ℕ) → n ≡ cond b k 255 → (n ≡ 255 → ⊥) → (b ≡ true) × (n ≡ k)
+count-good true n k e h = (refl, e)
+count-good false n k e h = absurd (h e)

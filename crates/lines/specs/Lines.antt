@@ -25,6 +25,11 @@ unfoldable pub fields : List ℕ → List (List ℕ)
 fields [] = [] ∷ []
 fields (b ∷ bs) = cond (eqb b 32) ([] ∷ fields bs) (onto b (fields bs))
 
+-- the fields behind the first
+unfoldable pub later : List (List ℕ) → List (List ℕ)
+later [] = []
+later (f ∷ fs) = fs
+
 -- how many bytes stand before the first space
 unfoldable pub spaceAt : List ℕ → ℕ
 spaceAt [] = 0

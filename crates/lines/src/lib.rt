@@ -1,4 +1,40 @@
 // A line of the listing: read, carried out on the state bytes, and answered (document 01, "A listing, complete").
 // Every function here is proved, and the crate assumes nothing of its own.
+ghost use mathlib.Core.Path.{_≡_};
+ghost use Prim.Native.Nat.{_≤_};
+ghost use lib.ListN.{length};
+ghost use Rattle.numbers.specs.Numbers.{put};
+ghost use Rattle.lines.specs.Lines.{lineOutcome};
+
+pub mod commands;
 pub mod read;
 pub mod text;
+
+// Whether a `set` was taken by now, and how many bytes were printed.
+pub struct Answered {
+    pub begun: bool,
+    pub size: usize,
+}
+
+// Carries a line out, its bytes without the line feed, and writes the answer with its line feed at the front of `out`. `begun` says whether a `set`
+// was taken before, and the state is that of the last one.
+pub fn answer(line: &[u8], state: &mut [u8], begun: bool, out: &mut [u8]) -> Answered
+    requires { ⌜ 64 ≤ length (now out) ⌝ }
+    ensures { λ r. ⌜ r .begun ≡ lineOutcome (now (line .entry)) begun (now (state .entry)) .begun ⌝ }
+    ensures { λ r. ⌜ r .size ≡ length (lineOutcome (now (line .entry)) begun (now (state .entry)) .text) ⌝ }
+    ensures { λ _. ⌜ now (state .exit) ≡ lineOutcome (now (line .entry)) begun (now (state .entry)) .state ⌝ }
+    ensures { λ _. ⌜ now (out .exit) ≡ put 0 (lineOutcome (now (line .entry)) begun (now (state .entry)) .text) (now (out .entry)) ⌝ }
+{
+    if 200 < line.len() {
+        let size = text::put_text(out, 0, b"bad line\n");
+        return Answered { begun, size };
+    }
+    let end = read::field_end(line, 0);
+    let mut values = [0u64; 101];
+    let n = read::numbers_behind(line, end, &mut values);
+    if n == 255 {
+        let size = text::put_text(out, 0, b"bad line\n");
+        return Answered { begun, size };
+    }
+    commands::word_line(&line[..end], &values[..n], state, begun, out)
+}

@@ -7,7 +7,7 @@ ghost use lib.Dec.{T};
 ghost use lib.ListN.{length, drop};
 ghost use Rattle.predicates.specs.Lists.{all};
 ghost use Rattle.numbers.specs.Numbers.{put, bytesOf};
-ghost use Rattle.lines.specs.Lines.{fields, spaceAt, value, isNumber, isWord, sameBytes};
+ghost use Rattle.lines.specs.Lines.{fields, later, spaceAt, value, isNumber, isWord, sameBytes};
 
 // Whether a field is a number, and the number; 0 where it is none.
 struct Field {
@@ -96,6 +96,19 @@ fn numbers_from(line: &[u8], from: usize, values: &mut [u64]) -> usize
         }
         at = end + 1;
     }
+}
+
+// The same for the fields behind the first one, which ends at `end`.
+pub fn numbers_behind(line: &[u8], end: usize, values: &mut [u64]) -> usize
+    requires { ⌜ (end ≡ spaceAt (now line)) × (end ≤ length (now line)) ⌝ }
+    requires { ⌜ (length (now line) ≤ 200) × (101 ≤ length (now values)) ⌝ }
+    ensures { λ r. ⌜ r ≡ cond (all isNumber (later (fields (now (line .entry))))) (length (later (fields (now (line .entry))))) 255 ⌝ }
+    ensures { λ r. ⌜ (T (all isNumber (later (fields (now (line .entry))))) → (r ≤ 101) × (now (values .exit) ≡ put 0 (map value (later (fields (now (line .entry))))) (now (values .entry)))) ⌝ }
+{
+    if end == line.len() {
+        return 0;
+    }
+    numbers_from(line, end + 1, values)
 }
 
 // Whether two byte strings are the same.

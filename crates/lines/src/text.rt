@@ -3,7 +3,8 @@ ghost use mathlib.Core.Path.{_≡_};
 ghost use Prim.Native.Nat.{_+_, _^_, _≤_, _<_};
 ghost use lib.ListN.{length};
 ghost use Rattle.numbers.specs.Numbers.{put};
-ghost use Rattle.lines.specs.Text.{digits, decimal, withOne, withTwo, numberText};
+ghost use Rattle.monitor.specs.Runs.{answerIn, fewestIn};
+ghost use Rattle.lines.specs.Text.{digits, decimal, withOne, withTwo, numberText, answerText, fewestText};
 
 // Stores the bytes of `text` in `out` from index `at` on, and answers the place behind them.
 pub fn put_text(out: &mut [u8], at: usize, text: &[u8]) -> usize
@@ -88,4 +89,36 @@ pub fn put_number(out: &mut [u8], number: u32) -> usize
         return put_text(out, 0, b"ok\n");
     }
     put_one(out, b"refused ", number as u64)
+}
+
+// The line for the 24 bytes that asking gives: `contradicted`, `open`, or `between` and both ends.
+pub fn put_answer(out: &mut [u8], answer: &[u8]) -> usize
+    requires { ⌜ (24 ≤ length (now answer)) × (64 ≤ length (now out)) ⌝ }
+    ensures { λ r. ⌜ r ≡ length (answerText (answerIn (now (answer .entry)))) ⌝ }
+    ensures { λ _. ⌜ now (out .exit) ≡ put 0 (answerText (answerIn (now (answer .entry)))) (now (out .entry)) ⌝ }
+{
+    let kind = numbers::get64(answer, 0);
+    if kind == 0 {
+        return put_text(out, 0, b"contradicted\n");
+    }
+    if kind == 1 {
+        return put_text(out, 0, b"open\n");
+    }
+    let left = numbers::get64(answer, 8);
+    let right = numbers::get64(answer, 16);
+    put_two(out, b"between ", left, right)
+}
+
+// The line for the 16 bytes that the fewest failures give: `fewest over 4`, or `fewest` with count and mask.
+pub fn put_fewest(out: &mut [u8], answer: &[u8]) -> usize
+    requires { ⌜ (16 ≤ length (now answer)) × (64 ≤ length (now out)) ⌝ }
+    ensures { λ r. ⌜ r ≡ length (fewestText (fewestIn (now (answer .entry)))) ⌝ }
+    ensures { λ _. ⌜ now (out .exit) ≡ put 0 (fewestText (fewestIn (now (answer .entry)))) (now (out .entry)) ⌝ }
+{
+    let count = numbers::get64(answer, 0);
+    if count == 5 {
+        return put_text(out, 0, b"fewest over 4\n");
+    }
+    let mask = numbers::get64(answer, 8);
+    put_two(out, b"fewest ", count, mask)
 }
