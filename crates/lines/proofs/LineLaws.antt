@@ -186,11 +186,11 @@ message-at-front ns m₀ m h e =
 
 pub ask-state : (ns s : List ℕ) → askLine ns s .state ≡ s
 unfolding askLine badLine
-ask-state ns s = cond-ind (λ o. o .state ≡ s) (eqb (length ns) 1) _ _ (λ _. refl) (λ _. refl)
+ask-state ns s = cond-ind (λ (o : Outcome). o .state ≡ s) (eqb (length ns) 1) _ _ (λ _. refl) (λ _. refl)
 
 pub fewest-state : (ns s : List ℕ) → fewestLine ns s .state ≡ s
 unfolding fewestLine badLine
-fewest-state ns s = cond-ind (λ o. o .state ≡ s) (eqb (length ns) 0) _ _ (λ _. refl) (λ _. refl)
+fewest-state ns s = cond-ind (λ (o : Outcome). o .state ≡ s) (eqb (length ns) 0) _ _ (λ _. refl) (λ _. refl)
 
 -- after a taken `set` every line leaves it taken
 pub later-begun : (word ns s : List ℕ) → laterLine word ns s .begun ≡ true
