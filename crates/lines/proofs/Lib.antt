@@ -1,3 +1,4 @@
 -- The laws of texts and of lines.
 pub mod TextLaws
 pub mod LineLaws
+pub mod OutcomeLaws

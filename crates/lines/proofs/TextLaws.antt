@@ -7,12 +7,18 @@ use native.Mathlib.Nat.{pow-suc, div-lt-iff-lt-mul}
 use native.Mathlib.Numerals.{add-one}
 use native.Mathlib.Omega.{arith}
 use borrow.Author.Tests.{lt-ltb, le-ltb}
-use lib.Dec.{lit<}
+use lib.Dec.{lit<, ltb, eqb}
 use lib.ListN.{length, getD, drop, set, length-append}
 use lib.Seq.{drop-cons}
 use Rattle.numbers.specs.Numbers.{put}
 use Rattle.numbers.proofs.NumberLaws.{put-append, put-then}
-use Rattle.lines.specs.Text.{digits, decimal, withOne, withTwo}
+use Rattle.predicates.proofs.ListLaws.{cond-ind}
+use Rattle.asking.specs.declared.Answer.{Answer}
+use Rattle.asking.specs.declared.Answer.the-variants.{Contradicted, Open, Between}
+use Rattle.asking.specs.declared.Fewest.{Fewest}
+use Rattle.asking.specs.declared.Fewest.the-variants.{Over, Few}
+use Rattle.lines.specs.Text.{digits, decimal, withOne, withTwo, numberText, answerText, fewestText}
+use Rattle.lines.specs.Text.{refusedWord, betweenWord, fewestWord}
 
 -- ---- a text that is copied
 
@@ -84,3 +90,36 @@ with-two word a b i j k l end s t u v w x e₁ p₁ e₂ p₂ e₃ p₃ e₄ p�
     let second = text-then i j end (decimal a) _ t u x e₂ p₂ (third .0) (third .1) in
     let all = text-then 0 i end word _ s t x e₁ p₁ (second .0) (second .1) in
     (omega arith, all .1)
+
+-- ---- how long a line can be
+
+pub digits-length : (k n : ℕ) → length (digits k n) ≤ k
+unfolding digits
+digits-length zero n = omega arith
+digits-length (suc k) n =
+    cond-ind (λ (l : List ℕ). length l ≤ suc k) (ltb n 10) _ _ (λ _. omega arith)
+    (λ _. rw length-append (omega (arith, digits-length k (n / 10))))
+
+with-one-length : (word : List ℕ) (a : ℕ) → length word ≤ 8 → length (withOne word a) ≤ 64
+unfolding withOne
+with-one-length word a h = simp length-append (omega (arith, digits-length 20 a))
+
+with-two-length : (word : List ℕ) (a b : ℕ) → length word ≤ 8 → length (withTwo word a b) ≤ 64
+unfolding withTwo
+with-two-length word a b h = simp length-append (omega (arith, digits-length 20 a, digits-length 20 b))
+
+pub number-length : (number : ℕ) → length (numberText number) ≤ 64
+unfolding numberText
+number-length number =
+    cond-ind (λ (l : List ℕ). length l ≤ 64) (eqb number 0) _ _ (λ _. omega arith) (λ _. with-one-length refusedWord number (omega arith))
+
+pub answer-length : (a : Answer) → length (answerText a) ≤ 64
+unfolding answerText
+answer-length Contradicted = omega arith
+answer-length Open = omega arith
+answer-length (Between left right) = with-two-length betweenWord left right (omega arith)
+
+pub fewest-length : (f : Fewest) → length (fewestText f) ≤ 64
+unfolding fewestText
+fewest-length Over = omega arith
+fewest-length (Few count mask) = with-two-length fewestWord count mask (omega arith)
