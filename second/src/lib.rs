@@ -20,4 +20,5 @@ pub mod refusal;
 pub mod samples;
 pub mod set_up;
 pub mod state;
+pub mod timing;
 pub mod writing;

@@ -6,6 +6,8 @@ use crate::message::{bytes_of, check_word, kind, split, word, MOST_TERMS, PAYLOA
 use crate::predicates::{normal, Term, GREATEST_NAME};
 use crate::random::Random;
 
+pub mod climbing;
+pub mod loads;
 pub mod runs;
 pub mod states;
 

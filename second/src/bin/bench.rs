@@ -1,0 +1,210 @@
+//! How long each call takes, by the engine and by the second program, from one run. `bench` is the
+//! full measure, `bench quick` a short one that shows that it runs.
+//!
+//! States are quiet, usual, full and the dearest that hill climbing finds for either program. Each
+//! line has the median times, and the engine's as a multiple of the second program's and of the
+//! time that copying a state's 3,032 bytes takes.
+
+use second::asking::{ANSWER_BYTES, FEWEST_BYTES};
+use second::samples::climbing::Climb;
+use second::samples::loads::{Filling, Load, FULL, QUIET, USUAL};
+use second::state::{State, STATE_BYTES};
+use second::timing::{least, medians, Effort};
+use second::{ageing, asking, engine, message, receiving, set_up, writing};
+use std::hint::black_box;
+
+/// What a call is lent.
+#[derive(Clone)]
+struct Case {
+    state: Vec<u8>,
+    message: Vec<u8>,
+    reading: u64,
+    out: Vec<u8>,
+}
+
+impl Case {
+    fn new(load: &Load) -> Case {
+        Case::of(&load.state, &load.message)
+    }
+
+    fn of(state: &[u8], message: &[u8]) -> Case {
+        let reading = State::of(state).expect("a state in form").reading;
+        Case { state: state.to_vec(), message: message.to_vec(), reading, out: vec![0; 64] }
+    }
+}
+
+/// A call with its other arguments, by one of the programs.
+type Run = fn(&mut Case) -> u32;
+
+/// A call by the engine and by the second program, and the number that both return.
+struct Call {
+    name: &'static str,
+    engine: Run,
+    second: Run,
+    number: u32,
+}
+
+const SET_UP: Call = Call {
+    name: "set up",
+    engine: |case| engine::monitor_set_up(&mut case.state, 3, 100, 7),
+    second: |case| set_up::call(&mut case.state, 3, 100, 7),
+    number: 0,
+};
+/// Nothing is held at that position, which is found out after the form.
+const FORM: Call = Call {
+    name: "form check",
+    engine: |case| engine::monitor_write(&case.state, u64::MAX, &mut case.out),
+    second: |case| writing::call(&case.state, u64::MAX, &mut case.out),
+    number: 23,
+};
+const AGE: Call = Call {
+    name: "age",
+    engine: |case| {
+        case.reading += 1;
+        engine::monitor_age(&mut case.state, case.reading)
+    },
+    second: |case| {
+        case.reading += 1;
+        ageing::call(&mut case.state, case.reading)
+    },
+    number: 0,
+};
+const RECEIVE: Call = Call {
+    name: "receive",
+    engine: |case| engine::monitor_receive(&mut case.state, 10, 60, &case.message),
+    second: |case| receiving::call(&mut case.state, 10, 60, &case.message),
+    number: 0,
+};
+const WRITE: Call = Call {
+    name: "write",
+    engine: |case| engine::monitor_write(&case.state, 2, &mut case.out),
+    second: |case| writing::call(&case.state, 2, &mut case.out),
+    number: 0,
+};
+const READ: Call = Call {
+    name: "read",
+    engine: |case| engine::message_read(&case.message, &mut case.out),
+    second: |case| message::read_call(&case.message, &mut case.out),
+    number: 0,
+};
+const REWRITE: Call = Call {
+    name: "rewrite",
+    engine: |case| engine::message_rewrite(&case.message, &mut case.out),
+    second: |case| message::rewrite_call(&case.message, &mut case.out),
+    number: 0,
+};
+
+/// Asking at each limit.
+const ASK: [Call; 5] = [
+    asking_at::<0>("ask 0"),
+    asking_at::<1>("ask 1"),
+    asking_at::<2>("ask 2"),
+    asking_at::<3>("ask 3"),
+    asking_at::<4>("ask 4"),
+];
+
+const fn asking_at<const LIMIT: u64>(name: &'static str) -> Call {
+    Call {
+        name,
+        engine: |case| engine::monitor_ask(&case.state, LIMIT, &mut case.out[..ANSWER_BYTES]),
+        second: |case| asking::ask_call(&case.state, LIMIT, &mut case.out[..ANSWER_BYTES]),
+        number: 0,
+    }
+}
+
+const FEWEST: Call = Call {
+    name: "fewest",
+    engine: |case| engine::monitor_fewest(&case.state, &mut case.out[..FEWEST_BYTES]),
+    second: |case| asking::fewest_call(&case.state, &mut case.out[..FEWEST_BYTES]),
+    number: 0,
+};
+
+/// Measures a call in all of the cases, and prints its line.
+fn line(effort: Effort, call: &Call, state: &str, cases: &[Case], goal: Option<f64>) {
+    let (from, mut to) = ([1; STATE_BYTES], [0; STATE_BYTES]);
+    let run = |run: Run| {
+        let mut cases = cases.to_vec();
+        move || {
+            for case in &mut cases {
+                assert_eq!(run(black_box(case)), call.number);
+            }
+        }
+    };
+    let mut copy = || black_box(&mut to).copy_from_slice(black_box(&from));
+    let (mut engine, mut second) = (run(call.engine), run(call.second));
+    let [copy, engine, second] = medians([&mut copy, &mut engine, &mut second], effort);
+    let count = cases.len() as f64;
+    let (engine, second) = (engine / count, second / count);
+    let goal_text = goal.map_or(String::new(), |goal| goal.to_string());
+    let late = goal.is_some_and(|goal| engine > goal * copy);
+    println!(
+        "| {} | {state} | {engine:.0} | {second:.0} | {:.2}{} | {:.2}{} | {goal_text} |",
+        call.name,
+        engine / second,
+        if engine > second { " !" } else { "" },
+        engine / copy,
+        if late { " !" } else { "" },
+    );
+}
+
+/// The lines of quiet, usual and full states; the goals are multiples of the copying.
+fn fillings(effort: Effort, count: usize) {
+    let lines = |filling: Filling, goals: [Option<f64>; 9]| {
+        let near: Vec<Case> = filling.loads(count, false).iter().map(Case::new).collect();
+        let [form, age, receive, ask @ .., fewest] = goals;
+        line(effort, &FORM, filling.name, &near, form);
+        line(effort, &AGE, filling.name, &near, age);
+        line(effort, &RECEIVE, filling.name, &near, receive);
+        if filling.entries > 0 {
+            let far: Vec<Case> = filling.loads(count, true).iter().map(Case::new).collect();
+            line(effort, &RECEIVE, &format!("{}, far off", filling.name), &far, receive);
+        }
+        for (call, goal) in ASK.iter().zip(ask) {
+            line(effort, call, filling.name, &near, goal);
+        }
+        line(effort, &FEWEST, filling.name, &near, fewest);
+        for call in [&WRITE, &READ, &REWRITE] {
+            line(effort, call, filling.name, &near, None);
+        }
+    };
+    let goals = |goals: [f64; 6]| {
+        let [form, receive, ask_0, ask_2, ask_4, _] = goals.map(Some);
+        [form, form, receive, ask_0, None, ask_2, None, ask_4, None]
+    };
+    lines(QUIET, goals([2., 2.5, 2., 4., 2., 0.]));
+    lines(USUAL, goals([10., 46., 2.5, 10., 30., 0.]));
+    lines(FULL, goals([10., 46., 10., 60., 500., 0.]));
+}
+
+/// The lines of the dearest states that are found for either program.
+fn worst(effort: Effort, climb: Climb) {
+    for call in [&ASK[4], &FEWEST] {
+        for (name, run) in [("worst for the engine", call.engine), ("worst for Rust", call.second)]
+        {
+            let mut case = Case::of(&State::fresh(0, 0, 0).bytes(), &[]);
+            let state = climb.worst(|bytes| {
+                case.state.copy_from_slice(bytes);
+                least(|| assert_eq!(run(black_box(&mut case)), 0), 3)
+            });
+            eprintln!("{} {name}: {state:?}", call.name);
+            line(effort, call, name, &[Case::of(&state.bytes(), &[])], Some(20_000.));
+        }
+    }
+}
+
+fn main() {
+    let quick = std::env::args().nth(1).is_some_and(|mode| mode == "quick");
+    let effort =
+        if quick { Effort { batch: 1e3, rounds: 3 } } else { Effort { batch: 2e4, rounds: 501 } };
+    let climb = if quick {
+        Climb { seed: 1, starts: 2, steps: 20 }
+    } else {
+        Climb { seed: 1, starts: 12, steps: 6_000 }
+    };
+    println!("| call | state | engine ns | Rust ns | engine / Rust | engine / copy | goal |");
+    println!("|---|---|---|---|---|---|---|");
+    let fresh = Case::of(&State::fresh(0, 0, 0).bytes(), &[]);
+    line(effort, &SET_UP, "any", &[fresh], None);
+    fillings(effort, if quick { 2 } else { 8 });
+    worst(effort, climb);
+}

@@ -1,0 +1,87 @@
+//! States and messages to measure with, all of them reached by receipts: senders that agree around
+//! one instant, and a few that are far off, so that entries are learnt.
+
+use crate::instants::Interval;
+use crate::message::Message;
+use crate::predicates::{normal, Term};
+use crate::random::Random;
+use crate::receiving;
+use crate::state::{State, STATE_BYTES};
+
+/// A state and a message that it has just received: to receive it again changes nothing.
+pub struct Load {
+    pub state: Vec<u8>,
+    pub message: Vec<u8>,
+}
+
+/// How full a state is to be.
+#[derive(Clone, Copy)]
+pub struct Filling {
+    pub name: &'static str,
+    pub data: usize,
+    pub entries: usize,
+    /// A message has up to so many terms.
+    terms: u64,
+    /// So many senders are far off.
+    astray: u32,
+}
+
+pub const QUIET: Filling = Filling { name: "quiet", data: 3, entries: 0, terms: 1, astray: 0 };
+pub const USUAL: Filling = Filling { name: "usual", data: 8, entries: 4, terms: 2, astray: 1 };
+pub const FULL: Filling = Filling { name: "full", data: 16, entries: 32, terms: 7, astray: 3 };
+
+/// The own name; senders are the others.
+const OWN: u32 = 5;
+/// True time is about here.
+const INSTANT: u64 = 1_000_000_000_000;
+
+impl Filling {
+    /// So many loads that differ; the last message of each came from a sender far off, or did not.
+    pub fn loads(self, count: usize, far: bool) -> Vec<Load> {
+        (0..).filter_map(|seed| self.load(&mut Random::new(seed), far)).take(count).collect()
+    }
+
+    /// What a run of receipts comes to, if it comes to such a load.
+    fn load(self, random: &mut Random, far: bool) -> Option<Load> {
+        let mut bytes = State::fresh(OWN, 100, 1_000_000).bytes();
+        for _ in 0..60 {
+            let (message, astray) = self.message(random);
+            let message = message.bytes();
+            receiving::call(&mut bytes, 10, 60, &message);
+            let mut again = bytes.clone();
+            let settled = receiving::call(&mut again, 10, 60, &message) == 0 && again == bytes;
+            if settled && astray == far && self.is_met(&bytes) {
+                return Some(Load { state: bytes, message });
+            }
+        }
+        None
+    }
+
+    fn is_met(self, bytes: &[u8]) -> bool {
+        let state = State::of(&bytes[..STATE_BYTES]).expect("a state in form");
+        (state.held.len(), state.entries.len()) == (self.data, self.entries)
+    }
+
+    /// A message, and whether its sender is far off.
+    fn message(self, random: &mut Random) -> (Message, bool) {
+        let sender = (OWN + 1 + random.below(28) as u32) % 29;
+        let astray = (sender + 29 - OWN - 1) % 29 < self.astray;
+        let shift = if astray { 1_000_000 * u64::from(sender + 1) } else { 0 };
+        let centre = INSTANT + shift + random.below(100);
+        let (low, high) = (100 + random.below(1_000), 100 + random.below(1_000));
+        let interval = Interval { left: centre - low, right: centre + high };
+        let terms = (0..random.below(self.terms + 1)).map(|_| self.term(random));
+        let mut terms = normal(&terms.collect::<Vec<Term>>());
+        terms.retain(|t| t >> OWN & 1 == 0);
+        (Message { sender, interval, terms }, astray)
+    }
+
+    /// One to three names that a message came through, seldom one that is far off.
+    fn term(self, random: &mut Random) -> Term {
+        let size = random.pick(&[1, 2, 2, 3]);
+        (0..size).fold(0, |t, _| {
+            let n = OWN + 1 + random.below(28) as u32;
+            t | 1 << (n % 29)
+        })
+    }
+}
