@@ -1,12 +1,15 @@
-//! Asking and fewest failures (document 01, "Asking"): every set within the limit is tried.
+//! Asking and fewest failures (document 01, "Asking"), made fast: `every_set` has them as the paper
+//! words them.
 //!
-//! Letters as in `predicates`: s is a set of failed names.
+//! The search goes from a claim that has to be explained to the names that explain it. Letters as
+//! in `predicates`: s is a set of failed names.
 
-use crate::instants::Instants;
+use crate::claims::{places, Claims};
+use crate::instants::{Instants, GREATEST_END};
 use crate::message;
-use crate::predicates::{names_within, sets, Term};
+use crate::predicates::{Term, ALL_NAMES};
 use crate::refusal;
-use crate::state::State;
+use crate::state::{self, Head, STATE_BYTES};
 
 /// The asker's limit is 0 to this one; fewest looks among the sets of so many names.
 pub const GREATEST_LIMIT: u32 = 4;
@@ -15,39 +18,273 @@ pub const ANSWER_BYTES: usize = 3 * 8;
 /// How many bytes fewest writes: count and mask.
 pub const FEWEST_BYTES: usize = 2 * 8;
 
-/// The instants that count for s: it makes every entry true, and each held interval whose
-/// predicate it leaves false contains them.
-pub fn counting(s: Term, state: &State) -> Instants {
-    if !state.entries.iter().all(|entry| entry.holds(s)) {
+// ---- the search
+
+/// Where the search is: a set, the claims that it may leave unexplained, the names that may still
+/// be added and how many of them.
+#[derive(Clone, Copy)]
+struct Node {
+    s: Term,
+    /// Those that a name of s explains alone are not among them.
+    unexplained: u64,
+    free: Term,
+    room: u32,
+}
+
+impl Node {
+    fn first(claims: &Claims, own: u32, limit: u32) -> Node {
+        let unexplained = claims.entries | claims.data;
+        Node { s: 0, unexplained, free: ALL_NAMES & !(1 << own), room: limit }
+    }
+
+    /// With more names, which are free.
+    fn with(self, claims: &Claims, new: Term) -> Node {
+        let unexplained = self.unexplained & !claims.explained_by(new);
+        Node { s: self.s | new, unexplained, room: self.room - new.count_ones(), ..self }
+    }
+
+    /// Those of the needed claims from the first on that s leaves unexplained.
+    fn needed(&mut self, claims: &Claims, needed: u64) -> u64 {
+        for i in places(self.unexplained & needed) {
+            if !claims.holds(i, self.s) {
+                break;
+            }
+            self.unexplained &= !(1 << i);
+        }
+        self.unexplained & needed
+    }
+
+    /// The data that s leaves unexplained, where all entries are explained.
+    fn active(&self, claims: &Claims) -> u64 {
+        let several = places(self.unexplained).filter(|&i| claims.holds(i, self.s));
+        several.fold(self.unexplained, |active, i| active & !(1 << i))
+    }
+}
+
+/// What to do at a node where all that has to be explained is.
+enum Next {
+    /// The search is over.
+    Stop,
+    /// No larger set is of use.
+    Back,
+    /// Something more has to be explained now.
+    Again,
+}
+
+/// What a search is after.
+trait Aim {
+    /// The claims that have to be explained; they may become more.
+    fn needed(&self) -> u64;
+
+    /// Whether s or a larger set can be of use.
+    fn worth(&self, s: Term) -> bool;
+
+    fn reached(&mut self, claims: &Claims, node: &Node) -> Next;
+}
+
+/// Tries the sets from a node on. Whether the search is over.
+fn search(claims: &Claims, aim: &mut impl Aim, mut node: Node) -> bool {
+    loop {
+        let needed = node.needed(claims, aim.needed());
+        if needed != 0 {
+            return match node.room {
+                0 => false,
+                1 => last_name(claims, aim, node, needed),
+                _ => terms(claims, aim, node, needed.trailing_zeros() as usize),
+            };
+        }
+        match aim.reached(claims, &node) {
+            Next::Stop => return true,
+            Next::Back => return false,
+            Next::Again => {}
+        }
+    }
+}
+
+/// With one name to add: those that explain all that is needed.
+fn last_name(claims: &Claims, aim: &mut impl Aim, node: Node, needed: u64) -> bool {
+    let mut last = node.free;
+    for i in places(needed) {
+        last &= claims.alone_beside(i, node.s);
+        if last == 0 {
+            return false;
+        }
+    }
+    places(last.into()).any(|n| {
+        let new = 1 << n;
+        aim.worth(node.s | new) && search(claims, aim, node.with(claims, new))
+    })
+}
+
+/// With more names to add: the terms of a claim, those of one name first. A name that was tried is
+/// forbidden from then on, since all sets with it have been looked at.
+fn terms(claims: &Claims, aim: &mut impl Aim, mut node: Node, claim: usize) -> bool {
+    for n in places((claims.alone(claim) & node.free).into()) {
+        let new = 1 << n;
+        if aim.worth(node.s | new) && search(claims, aim, node.with(claims, new)) {
+            return true;
+        }
+        node.free &= !new;
+    }
+    for t in claims.several(claim) {
+        let new = t & !node.s;
+        if new & !node.free != 0 || new.count_ones() > node.room || !aim.worth(node.s | new) {
+            continue;
+        }
+        if search(claims, aim, node.with(claims, new)) {
+            return true;
+        }
+        if new.is_power_of_two() {
+            node.free &= !new;
+        }
+    }
+    false
+}
+
+// ---- what is searched for
+
+/// A set that explains these claims.
+struct Explain(u64);
+
+impl Aim for Explain {
+    fn needed(&self) -> u64 {
+        self.0
+    }
+
+    fn worth(&self, _: Term) -> bool {
+        true
+    }
+
+    fn reached(&mut self, _: &Claims, _: &Node) -> Next {
+        Next::Stop
+    }
+}
+
+/// The least instant that counts for some set, where no set explains all claims. A set with an
+/// earlier one explains all data that do not begin before it, so that one search does for all ends.
+/// It is given up where intervals are apart though no entry says so, as no run leaves them: then
+/// each end is better searched for alone.
+struct First {
+    needed: u64,
+    instant: Option<u64>,
+    apart: bool,
+}
+
+impl Aim for First {
+    fn needed(&self) -> u64 {
+        self.needed
+    }
+
+    fn worth(&self, _: Term) -> bool {
+        true
+    }
+
+    fn reached(&mut self, claims: &Claims, node: &Node) -> Next {
+        let active = node.active(claims);
+        let left = claims.greatest_left(active);
+        if active & claims.without(left) != 0 {
+            self.apart = true;
+            return Next::Stop;
+        }
+        self.needed = claims.entries | claims.from_left(left);
+        self.instant = Some(left);
+        Next::Again
+    }
+}
+
+/// The least set for which an instant counts, where no smaller one has any; given up likewise.
+struct Least {
+    needed: u64,
+    s: Option<Term>,
+    apart: bool,
+}
+
+impl Aim for Least {
+    fn needed(&self) -> u64 {
+        self.needed
+    }
+
+    fn worth(&self, s: Term) -> bool {
+        self.s.is_none_or(|least| s < least)
+    }
+
+    fn reached(&mut self, claims: &Claims, node: &Node) -> Next {
+        let active = node.active(claims);
+        let left = claims.greatest_left(active);
+        if active & claims.without(left) != 0 {
+            self.apart = true;
+            return Next::Stop;
+        }
+        self.s = Some(node.s);
+        Next::Back
+    }
+}
+
+// ---- the answers
+
+/// The answer over a state in form: all that counts for some set within the limit, and the gaps.
+/// None is 'contradicted', all is 'open'.
+pub fn ask(bytes: &[u8; STATE_BYTES], limit: u32) -> Instants {
+    if limit == 0 {
+        return without_failures(bytes);
+    }
+    let claims = Claims::of(bytes, limit);
+    let first = Node::first(&claims, Head::of(bytes).own, limit);
+    if search(&claims, &mut Explain(first.unexplained), first) {
+        return Instants::All;
+    }
+    let Some(left) = first_instant(&claims, first) else {
+        return Instants::Empty;
+    };
+    let right = first_instant(&claims.mirrored(), first).expect("an instant counts");
+    Instants::Between(left.into(), (GREATEST_END - right).into())
+}
+
+/// The answer at limit 0: what all held intervals have in common, unless a failure is known.
+fn without_failures(bytes: &[u8; STATE_BYTES]) -> Instants {
+    let Head { held, entries, .. } = Head::of(bytes);
+    if entries > 0 {
         return Instants::Empty;
     }
-    let left_false = state.held.iter().filter(|datum| !datum.predicate.holds(s));
-    left_false.fold(Instants::All, |instants, datum| instants.meet(datum.interval))
+    let intervals = state::data_rows(bytes)[..held].iter().map(state::ends);
+    intervals.fold(Instants::All, Instants::meet)
 }
 
-/// The sets within the limit that can differ in what counts: a state in form has no term with the
-/// own name, and names of no term within the limit change nothing.
-fn sets_for(state: &State, limit: u32) -> Vec<Term> {
-    let data = state.held.iter().map(|datum| &datum.predicate);
-    let names = names_within(data.chain(&state.entries), limit);
-    sets(names & !(1 << state.own), limit)
-}
-
-/// The answer over a state: all that counts for some set within the limit, and the gaps. None is
-/// 'contradicted', all is 'open': where no set leaves all instants, each one's are bounded.
-pub fn ask(state: &State, limit: u32) -> Instants {
-    let sets = sets_for(state, limit).into_iter();
-    sets.fold(Instants::Empty, |all, s| all.join(counting(s, state)))
+fn first_instant(claims: &Claims, node: Node) -> Option<u64> {
+    let mut first = First { needed: claims.entries, instant: None, apart: false };
+    search(claims, &mut first, node);
+    if !first.apart {
+        return first.instant;
+    }
+    let counts = |&x: &u64| search(claims, &mut Explain(claims.without(x)), node);
+    let earlier = |&x: &u64| first.instant.is_none_or(|instant| x < instant);
+    claims.lefts().into_iter().filter(earlier).find(counts).or(first.instant)
 }
 
 /// The smallest set of at most 4 names for which an instant counts, and of those the least mask;
 /// none is 'over 4'.
-pub fn fewest(state: &State) -> Option<Term> {
-    let sets = sets_for(state, GREATEST_LIMIT).into_iter();
-    let mut counts = sets.filter(|&s| counting(s, state) != Instants::Empty);
-    // In the order of the sets the smallest come first, and of those the least mask.
-    counts.next()
+pub fn fewest(bytes: &[u8; STATE_BYTES]) -> Option<Term> {
+    if without_failures(bytes) != Instants::Empty {
+        return Some(0);
+    }
+    let claims = Claims::of(bytes, GREATEST_LIMIT);
+    let first = |limit| Node::first(&claims, Head::of(bytes).own, limit);
+    (1..=GREATEST_LIMIT).find_map(|limit| least_set(&claims, first(limit)))
 }
+
+fn least_set(claims: &Claims, node: Node) -> Option<Term> {
+    let mut least = Least { needed: claims.entries, s: None, apart: false };
+    search(claims, &mut least, node);
+    if least.apart {
+        for x in claims.lefts() {
+            least.needed = claims.without(x);
+            search(claims, &mut least, node);
+        }
+    }
+    least.s
+}
+
+// ---- the calls
 
 /// `monitor_ask`: the answer's 24 bytes, or 24 (state), 25, 22, 24 (output).
 pub fn ask_call(lent: &[u8], limit: u64, out: &mut [u8]) -> u32 {
@@ -55,23 +292,22 @@ pub fn ask_call(lent: &[u8], limit: u64, out: &mut [u8]) -> u32 {
 }
 
 fn asked(lent: &[u8], limit: u64) -> Result<Instants, u32> {
-    let state = State::of(lent)?;
+    let bytes = state::checked(lent)?;
     if limit > GREATEST_LIMIT.into() {
         return Err(refusal::LIMIT);
     }
-    Ok(ask(&state, limit as u32))
+    Ok(ask(bytes, limit as u32))
 }
 
 /// `monitor_fewest`: the 16 bytes of count and mask, or 24 (state), 25, 24 (output).
 pub fn fewest_call(lent: &[u8], out: &mut [u8]) -> u32 {
-    let found = State::of(lent).map(|state| fewest(&state));
-    message::answer(found.map(fewest_bytes), out)
+    message::answer(state::checked(lent).map(fewest).map(fewest_bytes), out)
 }
 
 /// 0 contradicted, 1 open, 2 between; left and right, both 0 unless between.
-pub fn answer_bytes(answer: Instants) -> Vec<u8> {
+pub fn answer_bytes(answer: Instants) -> [u8; ANSWER_BYTES] {
     let end = |x: i128| u64::try_from(x).expect("an end of 64 bits");
-    numbers(&match answer {
+    message::numbers(match answer {
         Instants::Empty => [0, 0, 0],
         Instants::All => [1, 0, 0],
         Instants::Between(left, right) => [2, end(left), end(right)],
@@ -79,14 +315,9 @@ pub fn answer_bytes(answer: Instants) -> Vec<u8> {
 }
 
 /// Count and mask; 5 and 0 for over 4.
-pub fn fewest_bytes(found: Option<Term>) -> Vec<u8> {
-    numbers(&match found {
+pub fn fewest_bytes(found: Option<Term>) -> [u8; FEWEST_BYTES] {
+    message::numbers(match found {
         Some(s) => [s.count_ones().into(), s.into()],
         None => [u64::from(GREATEST_LIMIT) + 1, 0],
     })
-}
-
-/// 8 bytes a number, little-endian.
-fn numbers(all: &[u64]) -> Vec<u8> {
-    all.iter().flat_map(|number| number.to_le_bytes()).collect()
 }

@@ -3,13 +3,16 @@
 //!
 //! A module for each section of the paper, and others to compare with: `engine` calls the archive,
 //! `calls` and `lent` lend the same bytes to both programs, `random` and `samples` make the seeded
-//! inputs. `book` has what demand 3 says of a whole run, without any state.
+//! inputs, `timing` takes times. `book` has what demand 3 says of a whole run, without any state;
+//! `every_set` has asking as the paper words it, which `asking` is a fast form of.
 
 pub mod ageing;
 pub mod asking;
 pub mod book;
 pub mod calls;
+pub mod claims;
 pub mod engine;
+pub mod every_set;
 pub mod instants;
 pub mod lent;
 pub mod message;

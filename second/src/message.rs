@@ -198,24 +198,28 @@ pub fn bytes_of(words: &[u32]) -> Vec<u8> {
     words.iter().map(|word| word.to_le_bytes()).collect::<Vec<_>>().into_flattened()
 }
 
-fn reading_bytes(message: &Message) -> Vec<u8> {
+fn reading_bytes(message: &Message) -> [u8; 32] {
     let Interval { left, right } = message.interval;
-    [u64::from(message.sender), left, right, message.terms.len() as u64]
-        .iter()
-        .flat_map(|number| number.to_le_bytes())
-        .collect()
+    numbers([message.sender.into(), left, right, message.terms.len() as u64])
+}
+
+/// 8 bytes a number, little-endian.
+pub(crate) fn numbers<const N: usize, const BYTES: usize>(all: [u64; N]) -> [u8; BYTES] {
+    let mut bytes = [0; BYTES];
+    bytes.as_chunks_mut().0.copy_from_slice(&all.map(u64::to_le_bytes));
+    bytes
 }
 
 /// Writes the result at the output's front. 24 for the output comes last, and a refusal leaves
 /// every byte as it was.
-pub(crate) fn answer(result: Result<Vec<u8>, u32>, out: &mut [u8]) -> u32 {
-    let bytes = match result {
-        Ok(bytes) => bytes,
-        Err(number) => return number,
+pub(crate) fn answer(result: Result<impl AsRef<[u8]>, u32>, out: &mut [u8]) -> u32 {
+    let bytes = match &result {
+        Ok(bytes) => bytes.as_ref(),
+        Err(number) => return *number,
     };
     let Some(front) = out.get_mut(..bytes.len()) else {
         return refusal::BUFFER;
     };
-    front.copy_from_slice(&bytes);
+    front.copy_from_slice(bytes);
     refusal::TAKEN
 }

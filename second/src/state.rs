@@ -174,11 +174,11 @@ fn all_zero(bytes: &[u8]) -> bool {
 
 // ---- rows
 
-fn data_rows(bytes: &[u8; STATE_BYTES]) -> &[[u8; DATUM_BYTES]] {
+pub fn data_rows(bytes: &[u8; STATE_BYTES]) -> &[[u8; DATUM_BYTES]] {
     bytes[HEAD_BYTES..][..MOST_DATA * DATUM_BYTES].as_chunks().0
 }
 
-fn entry_rows(bytes: &[u8; STATE_BYTES]) -> &[[u8; ENTRY_BYTES]] {
+pub fn entry_rows(bytes: &[u8; STATE_BYTES]) -> &[[u8; ENTRY_BYTES]] {
     bytes[HEAD_BYTES + MOST_DATA * DATUM_BYTES..].as_chunks().0
 }
 
@@ -208,7 +208,18 @@ pub fn put_ends(row: &mut [u8], interval: Interval) {
     row[8..16].copy_from_slice(&interval.right.to_le_bytes());
 }
 
-/// The terms that a count and the masks behind it give.
+/// The count and the masks in a datum's row, as an entry's row has them.
+pub fn terms_field(row: &[u8; DATUM_BYTES]) -> &[u8] {
+    &row[ENDS_BYTES..]
+}
+
+/// The terms that a count and the masks behind it give, as they stand in bytes that are in form.
+pub fn terms(field: &[u8]) -> impl Iterator<Item = Term> + '_ {
+    let masks = &field[4..].as_chunks().0[..u32_at(field, 0) as usize];
+    masks.iter().map(|&mask| u32::from_le_bytes(mask))
+}
+
+/// The same terms as a predicate.
 fn predicate(field: &[u8]) -> Predicate {
     Predicate::of_array(u32_at(field, 0) as usize, masks(field))
 }

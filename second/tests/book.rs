@@ -1,9 +1,10 @@
 //! Demand 3 over seeded runs: both programs' answers after a run are those that its book gives, set
 //! by set and at every limit, and further receipts make nothing possible that was not.
 
-use second::asking::{answer_bytes, counting, ANSWER_BYTES, GREATEST_LIMIT};
+use second::asking::{answer_bytes, ANSWER_BYTES, GREATEST_LIMIT};
 use second::book::{Book, Line};
 use second::calls::Call;
+use second::every_set::counting;
 use second::instants::{Instants, Interval};
 use second::lent::Lent;
 use second::message::Message;

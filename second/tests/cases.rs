@@ -2,8 +2,8 @@
 //! bytes, what a run leaves true, set by set, and what asking says, instant by instant.
 
 use second::ageing::advance;
-use second::asking::{ask, counting, fewest};
 use second::calls::Call;
+use second::every_set::{ask, counting, fewest};
 use second::instants::{Instants, Interval};
 use second::message::{self, Message};
 use second::predicates::{self, holds, struck, Predicate, Term, ALL_NAMES};
