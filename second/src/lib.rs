@@ -15,6 +15,7 @@ pub mod engine;
 pub mod every_set;
 pub mod instants;
 pub mod lent;
+pub mod listing;
 pub mod message;
 pub mod predicates;
 pub mod random;

@@ -10,6 +10,7 @@ pub mod climbing;
 pub mod loads;
 pub mod runs;
 pub mod states;
+pub mod texts;
 
 /// A message lent from within a longer buffer, at any alignment. Where it was cut short, its last
 /// words still lie behind it, so that reading past its length shows.

@@ -1,0 +1,181 @@
+//! The listing by both programs: document 01's, the one that the engine's program comes with, and
+//! seeded texts, compared whole.
+//!
+//! The engine's program is `target/bin/listing`, or `MONITOR_LISTING` says where it is. Without it
+//! the tests fail, unless `SECOND_WITHOUT_LISTING` is 1.
+
+use second::listing::listing;
+use second::random::Random;
+use second::samples::texts;
+use std::collections::BTreeMap;
+use std::io::{Read, Write};
+use std::path::PathBuf;
+use std::process::{Command, Stdio};
+use std::{env, fs, thread};
+
+const DOCUMENT_01: &str = "\
+set 5 100 0
+get 0 50 536870913 1073741824 1074741824 1610612736 1611612936 3760096585
+ask 0
+age 2000000
+ask 0
+get 0 0 536870914 1073741824 1076742824 1610612736 1613613736 3764098386
+ask 0
+ask 1
+ask 2
+fewest
+";
+
+const PRINTED: &str = "\
+ok
+ok
+between 1000000 1000250
+ok
+between 2999800 3000450
+ok
+contradicted
+between 2999800 3001000
+open
+fewest 1 2
+";
+
+// ---- the engine's program
+
+fn beside_package(path: &str) -> PathBuf {
+    PathBuf::from(env!("CARGO_MANIFEST_DIR")).join("..").join(path)
+}
+
+/// Where the engine's program is; none if the tests are to be left out without it.
+fn program() -> Option<PathBuf> {
+    let named = env::var_os("MONITOR_LISTING").map(PathBuf::from);
+    let path = named.unwrap_or_else(|| beside_package("target/bin/listing"));
+    if path.is_file() {
+        return Some(path);
+    }
+    let without = env::var_os("SECOND_WITHOUT_LISTING").is_some_and(|value| value == "1");
+    assert!(without, "no program at {}: `rt check listing` builds it", path.display());
+    report("left out, as SECOND_WITHOUT_LISTING is 1: the listing by the engine's program\n");
+    None
+}
+
+/// What the engine's program prints.
+fn printed(program: &PathBuf, input: &[u8]) -> Vec<u8> {
+    let mut child = Command::new(program)
+        .stdin(Stdio::piped())
+        .stdout(Stdio::piped())
+        .spawn()
+        .expect("the program runs");
+    let mut stdin = child.stdin.take().expect("a pipe");
+    let mut stdout = child.stdout.take().expect("a pipe");
+    let mut output = vec![];
+    thread::scope(|scope| {
+        // Both pipes at once: the program may print before it has read all.
+        scope.spawn(move || stdin.write_all(input).expect("the program reads its input"));
+        stdout.read_to_end(&mut output).expect("the program prints");
+    });
+    assert!(child.wait().expect("the program ends").success());
+    output
+}
+
+/// Compares what both print for an input, and gives it.
+fn compare(program: &PathBuf, title: &str, input: &[u8]) -> String {
+    let (engine, second) = (printed(program, input), listing(input));
+    if engine != second.as_bytes() {
+        let engine = String::from_utf8_lossy(&engine);
+        let lines = input.split(|&byte| byte == b'\n').map(String::from_utf8_lossy);
+        let place = engine.lines().zip(second.lines()).position(|(a, b)| a != b);
+        let place = place.unwrap_or(engine.lines().count().min(second.lines().count()));
+        let [engine, second] = [&engine[..], &second].map(|all| all.lines().nth(place));
+        let line = lines.into_iter().nth(place);
+        panic!("{title}: line {place}, {line:?}: engine {engine:?}, second {second:?}");
+    }
+    second
+}
+
+/// Written past the capture of a passing test's output: each run shows what it reached.
+fn report(text: &str) {
+    std::io::stderr().write_all(text.as_bytes()).expect("standard error");
+}
+
+// ---- what was printed
+
+/// How often each kind of line came.
+#[derive(Default)]
+struct Tally(BTreeMap<String, u64>);
+
+impl Tally {
+    fn count(&mut self, printed: &str) {
+        for line in printed.lines() {
+            let kind = match line.split(' ').next() {
+                Some("between") => "between",
+                Some("fewest") if line != "fewest over 4" => &line[..8],
+                _ => line,
+            };
+            *self.0.entry(kind.into()).or_default() += 1;
+        }
+    }
+
+    /// Every line that there is came so often.
+    fn check(&self, title: &str, enough: u64) {
+        report(&format!("{title}: {:?}\n", self.0));
+        let refusals = (1..=3).chain(10..=18).chain(20..=22).chain(30..=32);
+        let refusals = refusals.map(|number| format!("refused {number}"));
+        let fewest = (0..=4).map(|count| format!("fewest {count}"));
+        let others = ["ok", "bad line", "open", "contradicted", "between", "fewest over 4"];
+        let lines: Vec<String> = refusals.chain(fewest).chain(others.map(String::from)).collect();
+        for line in &lines {
+            assert!(self.0.get(line) >= Some(&enough), "{title}: too few of {line:?}");
+        }
+        assert_eq!(self.0.len(), lines.len(), "{title}: {:?}", self.0.keys());
+    }
+}
+
+// ---- the texts
+
+#[test]
+fn listing_of_document_01_and_the_stored_one() {
+    let Some(program) = program() else { return };
+    assert_eq!(compare(&program, "document 01", DOCUMENT_01.as_bytes()), PRINTED);
+    let [stdin, stdout] = ["stdin", "stdout"].map(|name| {
+        let path = beside_package("crates/listing").join(name);
+        fs::read(path).ok()
+    });
+    if let Some(input) = stdin {
+        let second = compare(&program, "crates/listing/stdin", &input);
+        assert!(stdout.is_none_or(|stdout| stdout == second.as_bytes()), "crates/listing/stdout");
+    }
+}
+
+/// Document 01's listing cut at every byte, so at every byte of lines of all kinds.
+#[test]
+fn listing_cut_at_every_byte() {
+    let Some(program) = program() else { return };
+    for len in 0..DOCUMENT_01.len() {
+        compare(&program, &format!("cut to {len} bytes"), &DOCUMENT_01.as_bytes()[..len]);
+    }
+}
+
+#[test]
+fn listing_of_seeded_texts() {
+    let Some(program) = program() else { return };
+    let mut tally = Tally::default();
+    let seeds: Vec<u64> = (0..20_000).collect();
+    for some in seeds.chunks(200) {
+        let texts: Vec<Vec<u8>> =
+            some.iter().map(|&seed| texts::text(&mut Random::new(seed))).collect();
+        let title = format!("seeds {} to {}", some[0], some[some.len() - 1]);
+        tally.count(&compare(&program, &title, &texts.concat()));
+    }
+    tally.check("20,000 texts", 300);
+}
+
+#[test]
+fn listing_of_seeded_texts_alone() {
+    let Some(program) = program() else { return };
+    let mut bad = 0;
+    for seed in 0..1_000 {
+        let text = texts::loose(&mut Random::new(seed));
+        bad += u64::from(compare(&program, &format!("seed {seed}"), &text).contains("bad line"));
+    }
+    assert!(bad > 300, "{bad}");
+}
