@@ -6,10 +6,15 @@ use crate::state::{self, Head, GREATEST_READING, STATE_BYTES};
 /// By how much true time advances at least and at most while d local microseconds pass, with a
 /// drift of r parts per million.
 pub fn advance(d: u64, r: u32) -> (u64, u64) {
-    const MILLION: u128 = 1_000_000;
-    let (d, r) = (u128::from(d), u128::from(r));
-    let least = d * (MILLION - r) / MILLION;
-    let greatest = (d * (MILLION + r)).div_ceil(MILLION);
+    const MILLION: u64 = 1_000_000;
+    let r = u64::from(r);
+    // Numbers of 128 bits are slow to divide, and seldom needed.
+    if d < 1 << 43 {
+        return (d * (MILLION - r) / MILLION, (d * (MILLION + r)).div_ceil(MILLION));
+    }
+    let product = |factor: u64| u128::from(d) * u128::from(factor);
+    let least = product(MILLION - r) / u128::from(MILLION);
+    let greatest = product(MILLION + r).div_ceil(MILLION.into());
     (least as u64, greatest as u64)
 }
 

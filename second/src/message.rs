@@ -1,8 +1,9 @@
 //! The radio message (document 01, "The radio message") as words, and the two calls over bytes.
 
 use crate::instants::Interval;
-use crate::predicates::{self, Term, GREATEST_NAME};
+use crate::predicates::{self, Predicate, Term, GREATEST_NAME};
 use crate::refusal;
+use std::ops::Deref;
 
 /// The kinds of a word: its top 3 bits.
 pub mod kind {
@@ -28,13 +29,38 @@ pub struct Message {
     pub sender: u32,
     pub interval: Interval,
     /// In normal form.
-    pub terms: Vec<Term>,
+    pub terms: Predicate,
 }
 
 impl Message {
     /// Its bytes in ends form.
     pub fn bytes(&self) -> Vec<u8> {
         bytes_of(&write(self))
+    }
+}
+
+/// The longest message, in words.
+const MOST_WORDS: usize = 14;
+
+/// The words of a message, held in place. They read as a slice.
+#[derive(Clone, Copy, Debug, Default, PartialEq, Eq)]
+pub struct Words {
+    len: usize,
+    words: [u32; MOST_WORDS],
+}
+
+impl Words {
+    fn push(&mut self, word: u32) {
+        self.words[self.len] = word;
+        self.len += 1;
+    }
+}
+
+impl Deref for Words {
+    type Target = [u32];
+
+    fn deref(&self) -> &[u32] {
+        &self.words[..self.len]
     }
 }
 
@@ -149,7 +175,11 @@ pub fn read(words: &[u32]) -> Result<Message, u32> {
         return Err(refusal::CHECK);
     }
     let interval = form.interval(ends).ok_or(refusal::ENDS)?;
-    let terms: Vec<Term> = terms.iter().map(|&w| payload_of(w)).collect();
+    let mut payloads = [0; Predicate::MOST_TERMS];
+    for (payload, &w) in payloads.iter_mut().zip(terms) {
+        *payload = payload_of(w);
+    }
+    let terms = Predicate::of_array(terms.len(), payloads);
     if !predicates::is_normal(&terms) {
         return Err(refusal::TERMS);
     }
@@ -157,18 +187,27 @@ pub fn read(words: &[u32]) -> Result<Message, u32> {
 }
 
 /// The words of a message, in ends form.
-pub fn write(message: &Message) -> Vec<u32> {
-    let head = Head { sender: message.sender, count: message.terms.len() as u32 };
-    let mut words = vec![head.word()];
-    words.extend(split(kind::LEFT, message.interval.left));
-    words.extend(split(kind::RIGHT, message.interval.right));
-    words.extend(message.terms.iter().map(|&t| word(kind::TERM, t)));
+pub fn write(message: &Message) -> Words {
+    let Message { sender, interval: Interval { left, right }, terms } = message;
+    write_parts(*sender, *left, *right, terms)
+}
+
+/// The words of a message that has these parts.
+pub(crate) fn write_parts(sender: u32, left: u64, right: u64, terms: &[Term]) -> Words {
+    let mut words = Words::default();
+    words.push(Head { sender, count: terms.len() as u32 }.word());
+    for half in [split(kind::LEFT, left), split(kind::RIGHT, right)].as_flattened() {
+        words.push(*half);
+    }
+    for &t in terms {
+        words.push(word(kind::TERM, t));
+    }
     words.push(check_word(&words));
     words
 }
 
 /// The same message in ends form, or the refusal's number as in reading.
-pub fn rewrite(words: &[u32]) -> Result<Vec<u32>, u32> {
+pub fn rewrite(words: &[u32]) -> Result<Words, u32> {
     read(words).map(|message| write(&message))
 }
 
@@ -181,16 +220,21 @@ pub fn read_call(message: &[u8], out: &mut [u8]) -> u32 {
 /// `message_rewrite`: the message in ends form, 6 + term count words.
 pub fn rewrite_call(message: &[u8], out: &mut [u8]) -> u32 {
     let written = words_of(message).and_then(|words| rewrite(&words));
-    answer(written.map(|words| bytes_of(&words)), out)
+    answer_words(written, out)
 }
 
-/// Four bytes make a word, little-endian; a byte length that is not a multiple of 4 is 10.
-pub fn words_of(bytes: &[u8]) -> Result<Vec<u32>, u32> {
-    let (words, rest) = bytes.as_chunks::<4>();
-    if !rest.is_empty() {
+/// Four bytes make a word, little-endian; a byte length that is not a multiple of 4 is 10, and so
+/// is one above that of the longest message.
+pub fn words_of(bytes: &[u8]) -> Result<Words, u32> {
+    let (all, rest) = bytes.as_chunks::<4>();
+    if !rest.is_empty() || all.len() > MOST_WORDS {
         return Err(refusal::WORD_COUNT);
     }
-    Ok(words.iter().map(|&word| u32::from_le_bytes(word)).collect())
+    let mut words = Words::default();
+    for &word in all {
+        words.push(u32::from_le_bytes(word));
+    }
+    Ok(words)
 }
 
 /// The bytes of words, little-endian.
@@ -221,5 +265,20 @@ pub(crate) fn answer(result: Result<impl AsRef<[u8]>, u32>, out: &mut [u8]) -> u
         return refusal::BUFFER;
     };
     front.copy_from_slice(bytes);
+    refusal::TAKEN
+}
+
+/// The same for words.
+pub(crate) fn answer_words(result: Result<Words, u32>, out: &mut [u8]) -> u32 {
+    let words = match result {
+        Ok(words) => words,
+        Err(number) => return number,
+    };
+    let Some(front) = out.get_mut(..4 * words.len()) else {
+        return refusal::BUFFER;
+    };
+    for (place, word) in front.as_chunks_mut().0.iter_mut().zip(&words[..]) {
+        *place = word.to_le_bytes();
+    }
     refusal::TAKEN
 }

@@ -1,22 +1,18 @@
 //! Writing (document 01, "The radio message"): one held datum as a message in ends form.
 
-use crate::message::{self, Message};
+use crate::message::{self, Words};
 use crate::refusal;
 use crate::state::{self, Head};
 
 /// `monitor_write`: 6 + term count words, or 24 (state), 25, 23, 24 (output).
 pub fn call(lent: &[u8], position: u64, out: &mut [u8]) -> u32 {
-    message::answer(written(lent, position), out)
+    message::answer_words(written(lent, position), out)
 }
 
-/// The bytes of the held datum's message, with the own name as sender.
-fn written(lent: &[u8], position: u64) -> Result<Vec<u8>, u32> {
+/// The words of the held datum's message, with the own name as sender.
+fn written(lent: &[u8], position: u64) -> Result<Words, u32> {
     let bytes = state::checked(lent)?;
     let datum = state::held_at(bytes, position).ok_or(refusal::POSITION)?;
-    let message = Message {
-        sender: Head::of(bytes).own,
-        interval: datum.interval,
-        terms: datum.predicate.to_vec(),
-    };
-    Ok(message.bytes())
+    let (own, interval) = (Head::of(bytes).own, datum.interval);
+    Ok(message::write_parts(own, interval.left, interval.right, &datum.predicate))
 }

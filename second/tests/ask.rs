@@ -108,7 +108,8 @@ fn state(held: &[Held], entries: &[&[u32]]) -> State {
 fn after(receipts: &[(u32, u64, u64, &[Term])]) -> State {
     let mut bytes = State::fresh(0, 100, 1_000).bytes();
     for &(sender, left, right, terms) in receipts {
-        let message = Message { sender, interval: Interval { left, right }, terms: terms.to_vec() };
+        let message =
+            Message { sender, interval: Interval { left, right }, terms: Predicate::of(terms) };
         let call = Call::Receive { least: 0, greatest: 0, message: message.bytes() };
         let (number, after, _) = call_in(&call, &bytes, 0);
         assert_eq!(number, 0, "{call:?}");

@@ -8,7 +8,7 @@ use second::every_set::counting;
 use second::instants::{Instants, Interval};
 use second::lent::Lent;
 use second::message::Message;
-use second::predicates::{holds, Term};
+use second::predicates::{holds, Predicate, Term};
 use second::random::Random;
 use second::receiving::Branches;
 use second::samples::runs::World;
@@ -130,7 +130,8 @@ fn report(text: &str) {
 // ---- what is entered
 
 fn received(sender: u32, left: u64, right: u64, terms: &[Term]) -> Call {
-    let message = Message { sender, interval: Interval { left, right }, terms: terms.to_vec() };
+    let message =
+        Message { sender, interval: Interval { left, right }, terms: Predicate::of(terms) };
     Call::Receive { least: 0, greatest: 50, message: message.bytes() }
 }
 
@@ -178,7 +179,7 @@ fn book_of_the_listing_gives_its_answers() {
     let message = Message {
         sender: 2,
         interval: Interval { left: 3_001_000, right: 3_001_000 },
-        terms: vec![],
+        terms: Predicate::of(&[]),
     };
     book.enter(&Call::Receive { least: 0, greatest: 0, message: message.bytes() }, 0);
     assert_eq!(book.possible(0), Instants::Empty);
@@ -219,7 +220,7 @@ fn small_book(random: &mut Random) -> Book {
             let terms: &[&[Term]] = &[&[], &[], &[1], &[6], &[8], &[3, 12], &[0]];
             let (sender, terms) = (random.below(4) as u32, random.pick(terms));
             let message =
-                Message { sender, interval: Interval { left, right }, terms: terms.to_vec() };
+                Message { sender, interval: Interval { left, right }, terms: Predicate::of(terms) };
             let (least, greatest) = random.pick(&[(0, 0), (0, 2), (1, 3)]);
             book.enter(&Call::Receive { least, greatest, message: message.bytes() }, 0);
         }

@@ -23,7 +23,8 @@ fn set_up(own: u32, drift: u32) -> Vec<u8> {
 }
 
 fn get(bytes: &mut [u8], sender: u32, left: u64, right: u64, terms: &[Term]) {
-    let message = Message { sender, interval: Interval { left, right }, terms: terms.to_vec() };
+    let message =
+        Message { sender, interval: Interval { left, right }, terms: Predicate::of(terms) };
     assert_eq!(receiving::call(bytes, 0, 0, &message.bytes()), 0);
 }
 

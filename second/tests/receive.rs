@@ -36,7 +36,8 @@ type Held<'a> = (u64, u64, &'a [Term]);
 
 fn words(sent: Sent) -> Vec<u32> {
     let (sender, left, right, terms) = sent;
-    write(&Message { sender, interval: Interval { left, right }, terms: terms.to_vec() })
+    let terms = Predicate::of(terms);
+    write(&Message { sender, interval: Interval { left, right }, terms }).to_vec()
 }
 
 /// A state of own name 0 with these data and entries.

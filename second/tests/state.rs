@@ -28,7 +28,7 @@ fn sound_calls(bytes: &[u8]) -> [Call; 2] {
     let reading = u64::from_le_bytes(bytes[8..16].try_into().expect("eight bytes"));
     let sender = u32::from(bytes[0] == 1) + 1;
     let interval = Interval { left: 0, right: 9 };
-    let message = Message { sender, interval, terms: vec![0] }.bytes();
+    let message = Message { sender, interval, terms: Predicate::of(&[0]) }.bytes();
     [Call::Age { reading }, Call::Receive { least: 0, greatest: 0, message }]
 }
 
@@ -126,7 +126,7 @@ fn state_all_zero_is_in_form() {
     let zeros = [0; STATE_BYTES];
     in_form(&zeros);
     let interval = Interval { left: 1, right: 2 };
-    let message = Message { sender: 1, interval, terms: vec![] }.bytes();
+    let message = Message { sender: 1, interval, terms: Predicate::of(&[]) }.bytes();
     assert_eq!(number(&zeros, &Call::Receive { least: 0, greatest: 0, message }, 0), 0);
     assert_eq!(number(&zeros, &Call::Age { reading: GREATEST_END }, 0), 0);
 }

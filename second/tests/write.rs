@@ -37,7 +37,7 @@ fn written(state: &State, position: u64) -> Vec<u32> {
     let len = 4 * (6 + terms);
     let (number, out) = write_in(&state.bytes(), position, len, len);
     assert_eq!(number, 0, "{position} in {state:?}");
-    message::words_of(&out).expect("whole words")
+    message::words_of(&out).expect("whole words").to_vec()
 }
 
 fn holding(own: u32, held: Vec<Datum>) -> State {
@@ -145,7 +145,7 @@ fn write_every_datum_of_any_state_reads_back() {
         let state = states::in_form(&mut Random::new(seed));
         for (position, datum) in state.held.iter().enumerate() {
             let words = written(&state, position as u64);
-            let terms = datum.predicate.to_vec();
+            let terms = datum.predicate;
             let message = Message { sender: state.own, interval: datum.interval, terms };
             assert_eq!(message::read(&words), Ok(message), "seed {seed}");
         }

@@ -3,7 +3,7 @@
 
 use crate::instants::Interval;
 use crate::message::Message;
-use crate::predicates::{normal, Term};
+use crate::predicates::{normal, Predicate, Term};
 use crate::random::Random;
 use crate::receiving;
 use crate::state::{State, STATE_BYTES};
@@ -73,7 +73,7 @@ impl Filling {
         let terms = (0..random.below(self.terms + 1)).map(|_| self.term(random));
         let mut terms = normal(&terms.collect::<Vec<Term>>());
         terms.retain(|t| t >> OWN & 1 == 0);
-        (Message { sender, interval, terms }, astray)
+        (Message { sender, interval, terms: Predicate::of(&terms) }, astray)
     }
 
     /// One to three names that a message came through, seldom one that is far off.
