@@ -1,10 +1,10 @@
 //! Asking and fewest failures, by both programs: document 01's listing and cases, edges by name,
 //! refusals, then seeded states and runs. What the book of a run says is in tests/book.rs.
 
-use second::asking::{self, ANSWER_BYTES, FEWEST_BYTES};
+use second::asking::{answer_bytes, fewest_bytes, ANSWER_BYTES, FEWEST_BYTES};
 use second::calls::Call;
 use second::every_set;
-use second::instants::{Instants, Interval, GREATEST_END};
+use second::instants::{Interval, GREATEST_END};
 use second::lent::Lent;
 use second::message::{bytes_of, Message};
 use second::predicates::{Predicate, Term};
@@ -695,13 +695,15 @@ struct Asked<'a> {
     seed: u64,
     random: Random,
     state: Lent,
+    /// What the last call left in its output.
+    answer: Vec<u8>,
     tally: &'a mut Tally,
 }
 
 impl<'a> Asked<'a> {
     fn new(seed: u64, mut random: Random, bytes: &[u8], tally: &'a mut Tally) -> Asked<'a> {
         let state = Lent::new(bytes, &mut random);
-        Asked { seed, random, state, tally }
+        Asked { seed, random, state, answer: vec![], tally }
     }
 
     /// Runs a call with an output of so many bytes.
@@ -716,18 +718,26 @@ impl<'a> Asked<'a> {
         if matches!(call, Call::Ask { .. } | Call::Fewest) {
             self.tally.count(call, number, out.bytes());
         }
+        self.answer = out.bytes().to_vec();
         number
     }
 
-    /// Every limit, two past them, and fewest.
+    /// Every limit, two past them, and fewest. Both programs search; trying every set decides.
     fn questions(&mut self) {
+        let state = State::of(self.state.bytes()).expect("a state in form");
         for limit in [0, 1, 2, 3, 4, 5, u64::MAX] {
             let more = self.random.pick(&[0, 0, 1, 20]);
             let number = self.call(&Call::Ask { limit }, ANSWER_BYTES + more);
             assert_eq!(number, if limit > 4 { 22 } else { 0 }, "seed {}", self.seed);
+            if limit <= 4 {
+                let wanted = answer_bytes(every_set::ask(&state, limit as u32));
+                assert_eq!(self.answer[..ANSWER_BYTES], wanted, "seed {}: {state:?}", self.seed);
+            }
         }
         let more = self.random.pick(&[0, 0, 1, 20]);
         assert_eq!(self.call(&Call::Fewest, FEWEST_BYTES + more), 0, "seed {}", self.seed);
+        let wanted = fewest_bytes(every_set::fewest(&state));
+        assert_eq!(self.answer[..FEWEST_BYTES], wanted, "seed {}: {state:?}", self.seed);
     }
 
     /// A question with an output of any length, in a damaged state, a shorter one, both or neither.
@@ -832,7 +842,8 @@ fn ask_along_runs_is_answered_alike() {
     let mut tally = Tally::default();
     for seed in 0..20_000 {
         let mut random = Random::new(seed);
-        let world = World::small(&mut random);
+        let crowded = random.once_in(4);
+        let world = if crowded { World::crowded(&mut random) } else { World::small(&mut random) };
         let (steps, beyond) = (random.below(40), random.index(9));
         let bytes = random.bytes(STATE_BYTES + beyond);
         let mut run = Asked::new(seed, random, &bytes, &mut tally);
@@ -850,75 +861,4 @@ fn ask_along_runs_is_answered_alike() {
         run.questions();
     }
     tally.check("20,000 runs", FLAWED, 1_000);
-}
-
-// ---- every set
-
-/// How often the search gave each answer that trying every set gives: contradicted, open and
-/// between by limit, then fewest by count, the last being over 4.
-#[derive(Debug, Default)]
-struct Searched {
-    kinds: [[u64; 3]; 5],
-    fewest: [u64; 6],
-}
-
-impl Searched {
-    /// Compares the search with trying every set in one state.
-    fn compare(&mut self, seed: u64, state: &State) {
-        let bytes = state.bytes().try_into().expect("a state's bytes");
-        for limit in 0..=4 {
-            let answer = asking::ask(&bytes, limit);
-            let wanted = every_set::ask(state, limit);
-            assert_eq!(answer, wanted, "seed {seed}: limit {limit} in {state:?}");
-            let kind = match answer {
-                Instants::Empty => 0,
-                Instants::All => 1,
-                Instants::Between(..) => 2,
-            };
-            self.kinds[limit as usize][kind] += 1;
-        }
-        let fewest = asking::fewest(&bytes);
-        assert_eq!(fewest, every_set::fewest(state), "seed {seed}: fewest in {state:?}");
-        self.fewest[fewest.map_or(5, |s| s.count_ones() as usize)] += 1;
-    }
-
-    fn check(&self, title: &str, enough: u64) {
-        report(&format!("{title}, the search and every set: {self:?}\n"));
-        let least = self.kinds.as_flattened().iter().chain(&self.fewest).min();
-        assert!(least >= Some(&enough), "{title}: too few of an answer");
-    }
-}
-
-#[test]
-fn ask_search_answers_as_every_set_in_states() {
-    let samples: [fn(&mut Random) -> State; 2] = [states::to_ask, states::in_form];
-    let mut searched = Searched::default();
-    // Other seeds than those of the states that the engine is compared in.
-    for seed in 1_000_000..1_016_000 {
-        for sample in samples {
-            searched.compare(seed, &sample(&mut Random::new(seed)));
-        }
-    }
-    searched.check("32,000 states", 1_000);
-}
-
-#[test]
-fn ask_search_answers_as_every_set_along_runs() {
-    let mut searched = Searched::default();
-    for seed in 1_000_000..1_004_000 {
-        let mut random = Random::new(seed);
-        let crowded = random.once_in(4);
-        let world = if crowded { World::crowded(&mut random) } else { World::small(&mut random) };
-        let (mut bytes, mut out) = (vec![0; STATE_BYTES], [0; 56]);
-        world.set_up().second(&mut bytes, &mut out, &mut Branches::default());
-        for _ in 0..random.below(40) {
-            let state = State::of(&bytes).expect("a state in form");
-            let step = world.step(&mut random, &state);
-            step.second(&mut bytes, &mut out, &mut Branches::default());
-            if random.once_in(6) {
-                searched.compare(seed, &State::of(&bytes).expect("a state in form"));
-            }
-        }
-    }
-    searched.check("4,000 runs", 50);
 }

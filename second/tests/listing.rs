@@ -146,6 +146,25 @@ fn listing_of_document_01_and_the_stored_one() {
     }
 }
 
+/// The files of examples/scenarios, each beside what is printed for it.
+#[test]
+fn listing_of_the_scenarios() {
+    let Some(program) = program() else { return };
+    let mut scenarios = 0;
+    for file in fs::read_dir(beside_package("examples/scenarios")).expect("the scenarios") {
+        let printed = file.expect("a scenario").path();
+        if printed.extension().is_some_and(|extension| extension == "printed") {
+            let path = printed.with_extension("");
+            let input = fs::read(&path).expect("a scenario");
+            let wanted = fs::read(&printed).expect("what it prints");
+            let second = compare(&program, &path.display().to_string(), &input);
+            assert_eq!(second.as_bytes(), wanted, "{}", path.display());
+            scenarios += 1;
+        }
+    }
+    assert!(scenarios >= 5, "{scenarios}");
+}
+
 /// Document 01's listing cut at every byte, so at every byte of lines of all kinds.
 #[test]
 fn listing_cut_at_every_byte() {
