@@ -8,7 +8,7 @@ use native.Mathlib.Nat.{le-trans, le-refl}
 use native.Mathlib.Numerals.{add-one}
 use native.Mathlib.Omega.{arith}
 use borrow.Author.Tests.{le-leb, lt-leb, le-ltb, lt-ltb, eq-eqb, ne-eqb}
-use lib.Dec.{T, leb, leb→le, le→leb, ltb, nltb→le, eqb, eqb→eq}
+use lib.Dec.{T, not-T, leb, leb→le, le→leb, ltb, nltb→le, eqb, eqb→eq}
 use lib.Count.{ones}
 use lib.ListN.{length, getD, take, drop, drop-of-length-le}
 use lib.Seq.{drop-cons}
@@ -18,10 +18,12 @@ use Rattle.names.specs.Sets.{subset, union, shared, less, lowest}
 use Rattle.names.proofs.SetLaws.{subset-le, subset-trans, union-least, ones-mono}
 use Rattle.names.proofs.PartLaws.{less-add}
 use Rattle.predicates.specs.Predicates.{holds}
-use Rattle.predicates.proofs.ListLaws.{both, both-l, both-r, true-T, split, cond-ind}
+use Rattle.predicates.proofs.ListLaws.{both, both-l, both-r, true-T, T-true, T-false, split, cond-ind}
+use Rattle.predicates.specs.Lists.{In}
+use Rattle.predicates.proofs.PredicateLaws.{holds-in}
 use Rattle.predicates.proofs.LoopLaws.{drop-next}
 use Rattle.asking.specs.Search.{Fits, Best, skipped, alone, sieve, predAt, preds}
-use Rattle.asking.proofs.LastLaws.{sieve-stop, sieve-above, last-none, last-found}
+use Rattle.asking.proofs.LastLaws.{adds-none, adds-some, adds-one, one-added, sieve-stop, sieve-above, last-none, last-found}
 use Rattle.asking.proofs.SearchLaws.{best-skipped, best-done, best-full, terms-none, terms-skip, terms-stop, terms-on, terms-bar}
 
 -- ---- the predicates from place i on
@@ -54,12 +56,12 @@ module _ (n : ℕ) (listed counts masks : List ℕ) where
     unfolding skipped
     skip-done h = rest-none n (omega arith) ∙ sym (ap (λ (ps : List (List ℕ)). skipped s ps) (rest-none i h))
 
-    pub sieve-turn : (limit m x : ℕ) → i < n
-        → x ≡ cond (holds s (predAt listed counts masks i)) m (shared m (alone limit s (predAt listed counts masks i)))
+    pub sieve-turn : (limit m x : ℕ) → i < n → ones s + 1 ≡ limit
+        → x ≡ cond (holds s (predAt listed counts masks i)) m (shared m (alone (ones s + 1) s (predAt listed counts masks i)))
         → sieve limit s m (rest i) ≡ sieve limit s x (rest (i + 1))
     unfolding sieve
-    sieve-turn limit m x h e =
-        ap (λ (ps : List (List ℕ)). sieve limit s m ps) (rest-next i h) ∙ ap (λ (y : ℕ). sieve limit s y (rest (i + 1))) (sym e)
+    sieve-turn limit m x h few e =
+        ap (λ (ps : List (List ℕ)). sieve limit s m ps) (rest-next i h) ∙ ap (λ (y : ℕ). sieve limit s y (rest (i + 1))) (sym (rw few at e))
 
     pub sieve-done : (limit m : ℕ) → n ≤ i → sieve limit s m (rest i) ≡ m
     unfolding sieve
@@ -208,41 +210,59 @@ worth-few limit s free t best w =
 
 -- ---- the names that do alone
 
--- from the last term to the first: i is the place before which the names are known
-module _ (limit s : ℕ) (p : List ℕ) (i names w x : ℕ) (h : 0 < i) (l : i ≤ length p) (e : names ≡ alone limit s (drop i p))
-    (a : w ≡ union s (getD p (i - 1) 0)) (b : x ≡ ones w) where
+-- one term that the set holds is enough
+pub terms-hold : (s : ℕ) (p : List ℕ) (t v names x : ℕ) → In t p → v ≡ less t s → v ≡ 0 → names ≡ cond (holds s p) names x
+terms-hold s p t v names x m a z =
+    let yes : holds s p ≡ true = T-true (holds s p) (holds-in s p t m (adds-none s t (sym a ∙ z))) in
+    rw yes
+
+-- from the last term to the first: i is the place before which the names are known, v what the term before it adds
+module _ (s : ℕ) (p : List ℕ) (i does v : ℕ) (h : 0 < i) (l : i ≤ length p) (e : does ≡ alone (ones s + 1) s (drop i p))
+    (f : holds s (drop i p) ≡ false) (a : v ≡ less (getD p (i - 1) 0) s) (g : v ≡ 0 → ⊥) where
   last : drop (i - 1) p ≡ getD p (i - 1) 0 ∷ drop i p
   last = let back : i - 1 + 1 ≡ i = omega arith in rw back at (drop-next p (i - 1) (omega arith))
 
-  pub alone-with : x ≤ limit → (r : ℕ) → r ≡ union w names → r ≡ alone limit s (drop (i - 1) p)
+  some : 0 < less (getD p (i - 1) 0) s
+  some = rw a at (above v g)
+    where
+      above : (x : ℕ) → (x ≡ 0 → ⊥) → 0 < x
+      above x k = omega arith
+
+  pub terms-false : holds s (drop (i - 1) p) ≡ false
+  unfolding holds
+  terms-false =
+      let no : subset (getD p (i - 1) 0) s ≡ false = T-false (subset (getD p (i - 1) 0) s) (not-T (subset (getD p (i - 1) 0) s) (adds-some s (getD p (i - 1) 0) (λ z. g (a ∙ z)))) in
+      rw (last, no) f
+
+  pub terms-with : v ≡ lowest v → (w r : ℕ) → w ≡ union s (getD p (i - 1) 0) → r ≡ union w does → r ≡ alone (ones s + 1) s (drop (i - 1) p)
   unfolding alone
-  alone-with k r d = rw (last, le-leb (ones (union s (getD p (i - 1) 0))) limit (omega (arith, ap ones a)), sym a, sym e) d
+  terms-with k w r b d =
+      rw (last, le-leb (ones (union s (getD p (i - 1) 0))) (ones s + 1) (adds-one s (getD p (i - 1) 0) some (sym a ∙ k ∙ ap lowest a)), sym b, sym e) d
 
-  pub alone-past : limit < x → names ≡ alone limit s (drop (i - 1) p)
+  pub terms-past : (v ≡ lowest v → ⊥) → does ≡ alone (ones s + 1) s (drop (i - 1) p)
   unfolding alone
-  alone-past k = rw (last, lt-leb (ones (union s (getD p (i - 1) 0))) limit (omega (arith, ap ones a))) e
+  terms-past k =
+      rw (last, lt-leb (ones (union s (getD p (i - 1) 0))) (ones s + 1) (not-le (λ q. k (a ∙ one-added s (getD p (i - 1) 0) some q ∙ ap lowest (sym a))))) e
+    where
+      not-le : {x y : ℕ} → (x ≤ y → ⊥) → y < x
+      not-le q = omega arith
 
--- what is left of the names after the predicate at place j
-module _ (listed counts masks : List ℕ) (j limit s m at end : ℕ) (p : at ≡ getD listed j 0 * 16)
-    (q : end ≡ getD listed j 0 * 16 + getD counts (getD listed j 0) 0) where
-  abbrev sifted : ℕ
-  sifted = cond (holds s (predAt listed counts masks j)) m (shared m (alone limit s (predAt listed counts masks j)))
+-- what is left of the names after a predicate
+pub terms-done : (s : ℕ) (p : List ℕ) (does names r : ℕ) → does ≡ alone (ones s + 1) s p → holds s p ≡ false → r ≡ shared names does
+    → r ≡ cond (holds s p) names (shared names (alone (ones s + 1) s p))
+terms-done s p does names r e f d = rw (f, sym e) d
 
-  same : take (end - at) (drop at masks) ≡ predAt listed counts masks j
-  same = pred-part listed counts masks j at end p q
+-- the predicate at place j is a part of the array
+pub sift-part : (listed counts masks : List ℕ) (j s m at end r : ℕ) → at ≡ getD listed j 0 * 16
+    → end ≡ getD listed j 0 * 16 + getD counts (getD listed j 0) 0
+    → r ≡ cond (holds s (take (end - at) (drop at masks))) m (shared m (alone (ones s + 1) s (take (end - at) (drop at masks))))
+    → r ≡ cond (holds s (predAt listed counts masks j)) m (shared m (alone (ones s + 1) s (predAt listed counts masks j)))
+sift-part listed counts masks j s m at end r p q e =
+    e ∙ ap (λ (x : List ℕ). cond (holds s x) m (shared m (alone (ones s + 1) s x))) (pred-part listed counts masks j at end p q)
 
-  pub sift-all : (b : Bool) → b ≡ holds s (take (end - at) (drop at masks)) → b ≡ true → m ≡ sifted
-  sift-all b e h = let t : holds s (predAt listed counts masks j) ≡ true = ap (holds s) (sym same) ∙ sym e ∙ h in rw t
-
-  pub sift-some : (b : Bool) (x r : ℕ) → b ≡ holds s (take (end - at) (drop at masks)) → b ≡ false → x ≡ alone limit s (take (end - at) (drop at masks))
-      → r ≡ shared m x → r ≡ sifted
-  sift-some b x r e h a c =
-      let t : holds s (predAt listed counts masks j) ≡ false = ap (holds s) (sym same) ∙ sym e ∙ h in
-      rw t (c ∙ ap (shared m) (a ∙ ap (alone limit s) same))
-
-pub alone-none : (limit s : ℕ) (p : List ℕ) → s ≡ alone limit s (drop (length p) p)
-unfolding alone
-alone-none limit s p = rw (drop-of-length-le p {i = length p} (le-refl (length p)))
+pub terms-start : (limit s : ℕ) (p : List ℕ) → (s ≡ alone limit s (drop (length p) p)) × (holds s (drop (length p) p) ≡ false)
+unfolding alone holds
+terms-start limit s p = let none = drop-of-length-le p {i = length p} (le-refl (length p)) in (rw none, rw none)
 
 -- ---- the last name: m are the names that do for the predicates from k up to j
 

@@ -9,7 +9,7 @@ ghost use lib.Count.{ones};
 ghost use lib.ListN.{length, getD, take, drop};
 ghost use Rattle.names.specs.Sets.{subset, union, shared, less};
 ghost use Rattle.predicates.specs.Predicates.{holds as Predicates·holds};
-ghost use Rattle.asking.specs.Search.{Best, Rows, predAt, preds, skipped, alone as Search·alone};
+ghost use Rattle.asking.specs.Search.{Best, Rows, predAt, preds, skipped, alone};
 
 // The lesser of two masks.
 pub fn lesser(a: u32, b: u32) -> u32
@@ -71,42 +71,36 @@ fn next_unexplained(
     n
 }
 
-// The set with the names that alone, beside it, make the terms' sum true within the limit.
-fn alone(p: &[u32], set: u32, limit: u32) -> u32
-    ensures { λ r. ⌜ r ≡ Search·alone limit set (now (p .entry)) ⌝ }
+// Of the names those that alone, beside the set, make the terms' sum true; all of them where the set makes it true. A term that the set does not hold
+// adds one name where its lowest is all that it adds.
+fn sift_terms(p: &[u32], set: u32, names: u32) -> u32
+    ensures { λ r. ⌜ r ≡ cond (Predicates·holds set (now (p .entry))) names (shared names (alone (ones set + 1) set (now (p .entry)))) ⌝ }
 {
-    let mut names = set;
+    let mut does = set;
     let mut i: usize = p.len();
     while 0 < i {
         i -= 1;
-        let wider = names::union(set, p[i]);
-        if names::count(wider) <= limit {
-            names = names::union(wider, names);
+        let t = p[i];
+        let added = names::less(t, set);
+        if added == 0 {
+            return names;
+        }
+        if added == names::lowest(added) {
+            does = names::union(names::union(set, t), does);
         }
     }
-    names
+    names::shared(names, does)
 }
 
-// Of the names those that alone, beside the set, do for the predicate at place j; all of them where the set makes it true.
-fn sift(
-    listed: &[u32],
-    counts: &[u32],
-    masks: &[u32],
-    j: usize,
-    set: u32,
-    limit: u32,
-    names: u32,
-) -> u32
+// The same for the predicate at place j.
+fn sift(listed: &[u32], counts: &[u32], masks: &[u32], j: usize, set: u32, names: u32) -> u32
     requires { ⌜ (j < length (now listed)) × (getD (now listed) j 0 < length (now counts)) × (getD (now listed) j 0 * 16 + getD (now counts) (getD (now listed) j 0) 0 ≤ length (now masks)) ⌝ }
-    ensures { λ r. ⌜ r ≡ cond (Predicates·holds set (predAt (now (listed .entry)) (now (counts .entry)) (now (masks .entry)) j)) names (shared names (Search·alone limit set (predAt (now (listed .entry)) (now (counts .entry)) (now (masks .entry)) j))) ⌝ }
+    ensures { λ r. ⌜ r ≡ cond (Predicates·holds set (predAt (now (listed .entry)) (now (counts .entry)) (now (masks .entry)) j)) names (shared names (alone (ones set + 1) set (predAt (now (listed .entry)) (now (counts .entry)) (now (masks .entry)) j))) ⌝ }
 {
     let part = terms_at(listed, counts, masks, j);
     let at = part.at;
     let end = part.end;
-    if predicates::holds(&masks[at..end], set) {
-        return names;
-    }
-    names::shared(names, alone(&masks[at..end], set, limit))
+    sift_terms(&masks[at..end], set, names)
 }
 
 // With one name left to add: the least set that makes the predicates from k on true, or `best`.
@@ -131,7 +125,7 @@ fn last_name(
         if names == set {
             return best;
         }
-        names = sift(listed, counts, masks, j, set, limit, names);
+        names = sift(listed, counts, masks, j, set, names);
         j += 1;
     }
     if names == set {

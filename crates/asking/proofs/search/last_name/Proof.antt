@@ -47,7 +47,8 @@ loop-again c =
       omega arith,
       omega arith,
       head .loop .inv .2
-          ∙ sieve-turn (a .args .n) (a .args .listed .now) (a .args .counts .now) (a .args .masks .now) (a .args .set) (head .loop .j) (a .args .limit) _ _ (c .before .before .loop-test .taken) (c .sift .ensures),
+          ∙ sieve-turn (a .args .n) (a .args .listed .now) (a .args .counts .now) (a .args .masks .now) (a .args .set) (head .loop .j) (a .args .limit) _ _ (c .before .before .loop-test .taken) (a .pre .0 .2)
+          (c .sift .ensures),
     )
 
 returns-2 : tie.Need-returns-2 Inv-loop μ-loop
