@@ -1,0 +1,24 @@
+-- The tables of `specs.Cases` hold: each row is a test on bytes that are written out, so the tables compute. Assumes nothing.
+use mathlib.Core.Bool.{_&&_, true, false}
+use mathlib.Core.List.{[]}
+use lib.Dec.{T}
+use Rattle.predicates.specs.Lists.{all}
+use Rattle.numbers.specs.Numbers.{tab}
+use Rattle.monitor.specs.Calls.{setUpNumber, setUpState, ageNumber, ageState}
+use Rattle.monitor.specs.Receive.{receiveNumber, receiveState}
+use Rattle.monitor.specs.Ask.{askNumber, fewestNumber}
+use Rattle.lines.specs.Text.{digits, withOne, withTwo, numberText, answerText, fewestText}
+use Rattle.lines.specs.Lines.{onto, fields, valueFrom, value, isNumber, badLine, setLine, ageLine, getLine, answeredText, askText, askLine}
+use Rattle.lines.specs.Lines.{fewestAnswer, fewestLine, sameBytes, laterLine, wordLine, fieldsLine, lineOutcome}
+use Rattle.lines.specs.Cases.{ascii, printsThen, eachPrints, early, lines, asPrinted, answers}
+
+pub good-and-bad : T (eachPrints early false [] && eachPrints lines true [])
+unfolding tab setUpNumber setUpState ageNumber ageState receiveNumber receiveState askNumber fewestNumber digits withOne numberText
+    onto fields valueFrom value isNumber badLine setLine ageLine getLine answeredText askText askLine
+    fewestAnswer fewestLine sameBytes laterLine wordLine fieldsLine lineOutcome
+    ascii printsThen eachPrints early lines
+good-and-bad = tt
+
+pub each-printed : T (all asPrinted answers)
+unfolding tab digits withOne withTwo numberText answerText fewestText sameBytes ascii asPrinted answers
+each-printed = tt
