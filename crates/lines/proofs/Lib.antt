@@ -3,3 +3,4 @@ pub mod TextLaws
 pub mod LineLaws
 pub mod OutcomeLaws
 pub mod WorkedCases
+pub mod StreamLaws

@@ -8,6 +8,7 @@ ghost use Rattle.lines.specs.Lines.{lineOutcome};
 
 pub mod commands;
 pub mod read;
+pub mod stream;
 pub mod text;
 
 // Whether a `set` was taken by now, and how many bytes were printed.

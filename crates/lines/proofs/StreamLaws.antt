@@ -1,0 +1,55 @@
+-- Laws of `specs.Listing`: a byte more at the end of those that were taken, and the bytes of a line that are kept.
+-- The idea: `deskAfter` and `textAfter` go from the first byte on, the loop adds one behind. No contract cites this file. Assumes nothing.
+use Prim.Native.Nat.{ℕ, suc, _+_, _≤_, _<_}
+use mathlib.Core.Path.{_≡_, refl, sym, ap, _∙_}
+use mathlib.Core.List.{List, [], _∷_, _++_, append-assoc, append-nil}
+use native.Mathlib.Nat.{add-zero}
+use native.Mathlib.Numerals.{add-one}
+use native.Mathlib.Omega.{arith}
+use lib.ListN.{length, getD, take, set, length-append}
+use lib.Seq.{take-suc, take-suc-set, take-all, take-at, length-take-le}
+use Rattle.numbers.specs.Numbers.{put}
+use Rattle.numbers.proofs.NumberLaws.{put-then}
+use Rattle.lines.specs.Listing.{Desk, deskNext, textNext, deskAfter, textAfter}
+
+-- ---- the line so far
+
+pub kept-byte : (l : List ℕ) (n b : ℕ) → n < 201 → 201 ≤ length l → take (n + 1) (set l n b) ≡ take 201 (take n l ++ (b ∷ []))
+kept-byte l n b h k =
+    let front : length (take n l) ≡ n = length-take-le n l (omega arith) in
+    let short : length (take n l ++ (b ∷ [])) ≤ 201 = rw length-append (omega arith) in
+    rw (add-one, take-suc-set l n b (omega arith), take-all 201 (take n l ++ (b ∷ [])) short)
+
+pub kept-full : (l : List ℕ) (n b : ℕ) → n ≤ 201 → 201 ≤ n → 201 ≤ length l → take n l ≡ take 201 (take n l ++ (b ∷ []))
+kept-full l n b h k m =
+    let front : length (take n l) ≡ 201 = length-take-le n l (omega arith) ∙ omega arith in
+    sym (take-at (take n l) (b ∷ []) 201 front)
+
+-- ---- a byte behind the others
+
+desk-snoc : (d : Desk) (xs : List ℕ) (b : ℕ) → deskAfter d (xs ++ (b ∷ [])) ≡ deskNext (deskAfter d xs) b
+unfolding deskAfter
+desk-snoc d [] b = refl
+desk-snoc d (x ∷ xs) b = desk-snoc (deskNext d x) xs b
+
+text-snoc : (d : Desk) (xs : List ℕ) (b : ℕ) → textAfter d (xs ++ (b ∷ [])) ≡ textAfter d xs ++ textNext (deskAfter d xs) b
+unfolding textAfter deskAfter
+text-snoc d [] b = append-nil (textNext d b)
+text-snoc d (x ∷ xs) b = rw (text-snoc (deskNext d x) xs b, append-assoc)
+
+-- a turn of the loop
+module _ (d₀ d d' : Desk) (piece : List ℕ) (i filled₀ filled filled' : ℕ) (o₀ o o' : List ℕ) (inside : i < length piece) where
+  pub feed-next : d ≡ deskAfter d₀ (take i piece) → filled ≡ filled₀ + length (textAfter d₀ (take i piece))
+      → o ≡ put filled₀ (textAfter d₀ (take i piece)) o₀
+      → d' ≡ deskNext d (getD piece i 0) → filled' ≡ filled + length (textNext d (getD piece i 0))
+      → o' ≡ put filled (textNext d (getD piece i 0)) o
+      → (d' ≡ deskAfter d₀ (take (i + 1) piece)) × (filled' ≡ filled₀ + length (textAfter d₀ (take (i + 1) piece)))
+      × (o' ≡ put filled₀ (textAfter d₀ (take (i + 1) piece)) o₀)
+  feed-next e f g e' f' g' =
+      let bytes : take (i + 1) piece ≡ take i piece ++ (getD piece i 0 ∷ []) = rw (add-one, take-suc piece i 0 inside) in
+      let next = rw e at f' in
+      let text = rw e at g' in (
+        rw (bytes, desk-snoc d₀ (take i piece), ← e) e',
+        rw (bytes, text-snoc d₀ (take i piece), length-append) (omega arith),
+        rw (bytes, text-snoc d₀ (take i piece)) (put-then _ filled₀ filled (textAfter d₀ (take i piece)) _ o₀ o o' refl f g text),
+      )
