@@ -2,12 +2,13 @@
 -- The idea: each loop answers for the elements from its place on, so a turn takes one element off. No contract cites this file. Assumes nothing.
 use Prim.Native.Nat.{ℕ, zero, suc, _+_, _*_, _-_, _^_, _≤_, _<_}
 use mathlib.Core.Path.{_≡_, refl, sym, ap, _∙_}
-use mathlib.Core.Bool.{Bool, true, false, _&&_, cond, and-false}
+use mathlib.Core.Bool.{Bool, true, false, not, _&&_, cond, and-false}
+use mathlib.Core.Logic.{⊎-elim}
 use mathlib.Core.List.{List, [], _∷_, map}
 use native.Mathlib.Nat.{le-refl}
 use native.Mathlib.Numerals.{add-one}
 use native.Mathlib.Omega.{arith}
-use borrow.Author.Tests.{lt-ltb, le-ltb, le-leb, lt-leb, eq-eqb, ne-eqb, eqb-true, eqb-false, leb-true}
+use borrow.Author.Tests.{lt-ltb, le-ltb, le-leb, lt-leb, eq-eqb, ne-eqb, eqb-true, eqb-false, leb-true, ltb-true, ltb-false}
 use lib.Dec.{T, ltb, leb, eqb}
 use lib.ListN.{length, getD, take, drop, set, drop-of-length-le, length-take, length-drop}
 use lib.Seq.{drop-drop, take-all}
@@ -235,3 +236,15 @@ count-bad false n k e h f = refl
 pub count-good : (b : Bool) (n k : ℕ) → n ≡ cond b k 255 → (n ≡ 255 → ⊥) → (b ≡ true) × (n ≡ k)
 count-good true n k e h = (refl, e)
 count-good false n k e h = absurd (h e)
+
+-- the first 201 bytes of a line decide
+pub line-cut : (line s : List ℕ) (begun : Bool) → lineOutcome (take 201 line) begun s ≡ lineOutcome line begun s
+line-cut line s begun =
+    ⊎-elim
+    (λ (h : T (ltb 200 (length line))).
+    let long : 200 < length line = ltb-true _ _ (T-true _ h) in
+    line-long (take 201 line) s begun (rw length-take (omega arith)) ∙ sym (line-long line s begun long))
+    (λ (h : T (not (ltb 200 (length line)))).
+    let short : length line ≤ 200 = ltb-false _ _ (T-false _ h) in
+    rw (take-all 201 line (omega arith)))
+    (split (ltb 200 (length line)))

@@ -1,13 +1,13 @@
 -- Laws of `specs.Listing`: a byte more at the end of those that were taken, and the bytes of a line that are kept.
 -- The idea: `deskAfter` and `textAfter` go from the first byte on, the loop adds one behind. No contract cites this file. Assumes nothing.
-use Prim.Native.Nat.{ℕ, suc, _+_, _≤_, _<_}
+use Prim.Native.Nat.{ℕ, suc, _+_, _-_, _≤_, _<_}
 use mathlib.Core.Path.{_≡_, refl, sym, ap, _∙_}
 use mathlib.Core.List.{List, [], _∷_, _++_, append-assoc, append-nil}
 use native.Mathlib.Nat.{add-zero}
 use native.Mathlib.Numerals.{add-one}
 use native.Mathlib.Omega.{arith}
-use lib.ListN.{length, getD, take, set, length-append}
-use lib.Seq.{take-suc, take-suc-set, take-all, take-at, length-take-le}
+use lib.ListN.{length, getD, take, drop, set, length-append, length-drop, take-append-drop, drop-of-length-le}
+use lib.Seq.{take-suc, take-suc-set, take-all, take-at, length-take-le, drop-drop}
 use Rattle.numbers.specs.Numbers.{put}
 use Rattle.numbers.proofs.NumberLaws.{put-then}
 use Rattle.lines.specs.Listing.{Desk, deskNext, textNext, deskAfter, textAfter}
@@ -53,3 +53,22 @@ module _ (d₀ d d' : Desk) (piece : List ℕ) (i filled₀ filled filled' : ℕ
         rw (bytes, text-snoc d₀ (take i piece), length-append) (omega arith),
         rw (bytes, text-snoc d₀ (take i piece)) (put-then _ filled₀ filled (textAfter d₀ (take i piece)) _ o₀ o o' refl f g text),
       )
+
+-- ---- pieces
+
+desk-append : (d : Desk) (xs ys : List ℕ) → deskAfter d (xs ++ ys) ≡ deskAfter (deskAfter d xs) ys
+unfolding deskAfter
+desk-append d [] ys = refl
+desk-append d (x ∷ xs) ys = desk-append (deskNext d x) xs ys
+
+-- behind the bytes that were taken the rest of a piece leads where the whole of it does
+pub feed-rest : (d d' : Desk) (piece : List ℕ) (at n : ℕ) → d' ≡ deskAfter d (take n (take (length piece - at) (drop at piece)))
+    → deskAfter d' (drop (at + n) piece) ≡ deskAfter d (drop at piece)
+feed-rest d d' piece at n e =
+    let whole = take-all (length piece - at) (drop at piece) (omega (arith, length-drop at piece)) in
+    rw (rw whole at e, ← (drop-drop n at piece), ← (desk-append d (take n (drop at piece)) (drop n (drop at piece))), take-append-drop)
+
+-- at the end of a piece nothing is left
+pub feed-done : (d : Desk) (piece : List ℕ) (at : ℕ) → length piece ≤ at → deskAfter d (drop at piece) ≡ d
+unfolding deskAfter
+feed-done d piece at h = rw (drop-of-length-le piece {i = at} h)
