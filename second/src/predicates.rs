@@ -91,10 +91,10 @@ fn normal_to_front(p: &mut [Term]) -> usize {
 
 /// Whether p is in normal form. All pairs are looked at, which is faster than stopping.
 pub fn is_normal(p: &[Term]) -> bool {
+    let rises = p.windows(2).fold(true, |all, pair| all & (pair[0] < pair[1]));
     // Where masks rise, only an earlier term can lie in a later one.
-    let fits = |u: Term, t: Term| u < t && !within(u, t);
-    let pairs = |i: usize| p[..i].iter().fold(true, |all, &u| all & fits(u, p[i]));
-    (1..p.len()).fold(true, |all, i| all & pairs(i))
+    let holds_none = |i: usize| p[..i].iter().fold(true, |all, &u| all & !within(u, p[i]));
+    rises & (1..p.len()).fold(true, |all, i| all & holds_none(i))
 }
 
 /// A predicate of up to 16 terms, held in place. It reads as the slice of its terms.

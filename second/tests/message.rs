@@ -526,7 +526,7 @@ fn read_and_rewrite_much_longer_output_is_taken() {
 fn rewrite_centre_form_gives_ends_form() {
     let words = [536870980, 2147483648, 2147484648, 2684354660, 3221225478, 3221225480, 3758097566];
     assert_eq!(words[..], centre(4, 1000, 100, &[6, 8]));
-    let rewritten = vec![
+    let rewritten = [
         536870980, 1073741824, 1073742724, 1610612736, 1610613836, 3221225478, 3221225480,
         3758098466,
     ];

@@ -119,9 +119,9 @@ const FEWEST: Call = Call {
     number: 0,
 };
 
-/// Measures a call in all of the cases, and prints its line.
+/// Measures a call in all of the cases, and prints its line. The goal is a multiple of the copying.
 fn line(effort: Effort, call: &Call, state: &str, cases: &[Case], goal: Option<f64>) {
-    let (from, mut to) = ([1; STATE_BYTES], [0; STATE_BYTES]);
+    let (from, mut to) = (vec![1u8; STATE_BYTES], vec![0u8; STATE_BYTES]);
     let run = |run: Run| {
         let mut cases = cases.to_vec();
         move || {
@@ -130,50 +130,53 @@ fn line(effort: Effort, call: &Call, state: &str, cases: &[Case], goal: Option<f
             }
         }
     };
-    let mut copy = || black_box(&mut to).copy_from_slice(black_box(&from));
+    let mut copy = || black_box(&mut to[..]).copy_from_slice(black_box(&from));
     let (mut engine, mut second) = (run(call.engine), run(call.second));
     let [copy, engine, second] = medians([&mut copy, &mut engine, &mut second], effort);
     let count = cases.len() as f64;
     let (engine, second) = (engine / count, second / count);
-    let goal_text = goal.map_or(String::new(), |goal| goal.to_string());
-    let late = goal.is_some_and(|goal| engine > goal * copy);
+    let missed = |missed: bool| if missed { " !" } else { "" };
     println!(
-        "| {} | {state} | {engine:.0} | {second:.0} | {:.2}{} | {:.2}{} | {goal_text} |",
+        "| {} | {state} | {engine:.0} | {second:.0} | {copy:.0} | {:.2}{} | {:.1}{} | {} |",
         call.name,
         engine / second,
-        if engine > second { " !" } else { "" },
+        missed(engine > second),
         engine / copy,
-        if late { " !" } else { "" },
+        missed(goal.is_some_and(|goal| engine > goal * copy)),
+        goal.map_or(String::new(), |goal| goal.to_string()),
     );
 }
 
-/// The lines of quiet, usual and full states; the goals are multiples of the copying.
-fn fillings(effort: Effort, count: usize) {
-    let lines = |filling: Filling, goals: [Option<f64>; 9]| {
-        let near: Vec<Case> = filling.loads(count, false).iter().map(Case::new).collect();
-        let [form, age, receive, ask @ .., fewest] = goals;
-        line(effort, &FORM, filling.name, &near, form);
-        line(effort, &AGE, filling.name, &near, age);
-        line(effort, &RECEIVE, filling.name, &near, receive);
-        if filling.entries > 0 {
-            let far: Vec<Case> = filling.loads(count, true).iter().map(Case::new).collect();
-            line(effort, &RECEIVE, &format!("{}, far off", filling.name), &far, receive);
-        }
-        for (call, goal) in ASK.iter().zip(ask) {
-            line(effort, call, filling.name, &near, goal);
-        }
-        line(effort, &FEWEST, filling.name, &near, fewest);
-        for call in [&WRITE, &READ, &REWRITE] {
-            line(effort, call, filling.name, &near, None);
-        }
-    };
-    let goals = |goals: [f64; 6]| {
-        let [form, receive, ask_0, ask_2, ask_4, _] = goals.map(Some);
-        [form, form, receive, ask_0, None, ask_2, None, ask_4, None]
-    };
-    lines(QUIET, goals([2., 2.5, 2., 4., 2., 0.]));
-    lines(USUAL, goals([10., 46., 2.5, 10., 30., 0.]));
-    lines(FULL, goals([10., 46., 10., 60., 500., 0.]));
+/// The goals for a filling; where there is none, the program alone is compared with.
+struct Goals {
+    form: Option<f64>,
+    receive: Option<f64>,
+    /// At limits 0, 2 and 4.
+    ask: [f64; 3],
+}
+
+const QUIET_GOALS: Goals = Goals { form: Some(2.), receive: Some(2.5), ask: [2., 4., 2.] };
+const USUAL_GOALS: Goals = Goals { form: None, receive: None, ask: [2.5, 10., 30.] };
+const FULL_GOALS: Goals = Goals { form: Some(10.), receive: Some(46.), ask: [10., 60., 500.] };
+
+/// The lines of states that are filled in one way.
+fn filled(effort: Effort, count: usize, filling: Filling, goals: Goals) {
+    let cases = |far| -> Vec<Case> { filling.loads(count, far).iter().map(Case::new).collect() };
+    let near = cases(false);
+    line(effort, &FORM, filling.name, &near, goals.form);
+    line(effort, &AGE, filling.name, &near, goals.form);
+    line(effort, &RECEIVE, filling.name, &near, goals.receive);
+    if filling.entries > 0 {
+        let state = format!("{}, far off", filling.name);
+        line(effort, &RECEIVE, &state, &cases(true), goals.receive);
+    }
+    let [at_0, at_2, at_4] = goals.ask.map(Some);
+    for (call, goal) in ASK.iter().zip([at_0, None, at_2, None, at_4]) {
+        line(effort, call, filling.name, &near, goal);
+    }
+    for call in [&FEWEST, &WRITE, &READ, &REWRITE] {
+        line(effort, call, filling.name, &near, None);
+    }
 }
 
 /// The lines of the dearest states that are found for either program.
@@ -186,25 +189,41 @@ fn worst(effort: Effort, climb: Climb) {
                 case.state.copy_from_slice(bytes);
                 least(|| assert_eq!(run(black_box(&mut case)), 0), 3)
             });
-            eprintln!("{} {name}: {state:?}", call.name);
             line(effort, call, name, &[Case::of(&state.bytes(), &[])], Some(20_000.));
         }
     }
 }
 
+/// The processor's name, where the system tells it.
+fn machine() -> String {
+    let text = std::fs::read_to_string("/proc/cpuinfo").unwrap_or_default();
+    let field = |name: &str| {
+        let line = text.lines().find(|line| line.starts_with(name))?;
+        Some(line.split_once(':')?.1.trim().to_string())
+    };
+    let name = field("model name").unwrap_or("an unknown processor".into());
+    let numbers =
+        ["cpu family", "model\t", "cpu MHz"].map(|name| field(name).unwrap_or("?".into()));
+    let [family, model, mhz] = numbers;
+    format!("{name}, family {family}, model {model}, {mhz} MHz")
+}
+
 fn main() {
     let quick = std::env::args().nth(1).is_some_and(|mode| mode == "quick");
-    let effort =
-        if quick { Effort { batch: 1e3, rounds: 3 } } else { Effort { batch: 2e4, rounds: 501 } };
-    let climb = if quick {
-        Climb { seed: 1, starts: 2, steps: 20 }
+    let (effort, climb, count) = if quick {
+        (Effort { batch: 1e3, rounds: 3 }, Climb { seed: 1, starts: 2, steps: 20 }, 2)
     } else {
-        Climb { seed: 1, starts: 12, steps: 6_000 }
+        (Effort { batch: 2e4, rounds: 1_001 }, Climb { seed: 1, starts: 12, steps: 6_000 }, 8)
     };
-    println!("| call | state | engine ns | Rust ns | engine / Rust | engine / copy | goal |");
-    println!("|---|---|---|---|---|---|---|");
+    println!("{}\n", machine());
+    println!(
+        "| call | state | engine ns | Rust ns | copy ns | engine / Rust | engine / copy | goal |"
+    );
+    println!("|---|---|---|---|---|---|---|---|");
     let fresh = Case::of(&State::fresh(0, 0, 0).bytes(), &[]);
     line(effort, &SET_UP, "any", &[fresh], None);
-    fillings(effort, if quick { 2 } else { 8 });
+    filled(effort, count, QUIET, QUIET_GOALS);
+    filled(effort, count, USUAL, USUAL_GOALS);
+    filled(effort, count, FULL, FULL_GOALS);
     worst(effort, climb);
 }

@@ -1,0 +1,19 @@
+//! The benchmark runs, and has a line for each call.
+
+use std::process::Command;
+
+#[test]
+fn bench_quick_has_a_line_for_each_call() {
+    let output = Command::new(env!("CARGO_BIN_EXE_bench")).arg("quick").output();
+    let output = output.expect("the program runs");
+    assert!(output.status.success(), "{}", String::from_utf8_lossy(&output.stderr));
+    let printed = String::from_utf8(output.stdout).expect("a text");
+    let names = ["set up", "form check", "age", "receive", "write", "read", "rewrite", "fewest"];
+    let asks = (0..=4).map(|limit| format!("ask {limit}"));
+    for name in names.map(String::from).into_iter().chain(asks) {
+        assert!(printed.contains(&format!("| {name} |")), "no line of {name} in {printed}");
+    }
+    for state in ["quiet", "usual", "full", "worst for the engine", "worst for Rust"] {
+        assert!(printed.contains(&format!("| {state} |")), "no line of {state} in {printed}");
+    }
+}
