@@ -228,7 +228,7 @@ pub fn ask(bytes: &[u8; STATE_BYTES], limit: u32) -> Instants {
     if limit == 0 {
         return without_failures(bytes);
     }
-    let claims = Claims::of(bytes, limit);
+    let mut claims = Claims::of(bytes, limit);
     let first = Node::first(&claims, Head::of(bytes).own, limit);
     if search(&claims, &mut Explain(first.unexplained), first) {
         return Instants::All;
@@ -236,7 +236,8 @@ pub fn ask(bytes: &[u8; STATE_BYTES], limit: u32) -> Instants {
     let Some(left) = first_instant(&claims, first) else {
         return Instants::Empty;
     };
-    let right = first_instant(&claims.mirrored(), first).expect("an instant counts");
+    claims.mirror();
+    let right = first_instant(&claims, first).expect("an instant counts");
     Instants::Between(left.into(), (GREATEST_END - right).into())
 }
 

@@ -162,13 +162,12 @@ impl Claims {
         lefts
     }
 
-    /// The same claims seen from the greatest end, so that right ends are left ones.
-    pub fn mirrored(mut self) -> Claims {
+    /// Sees the intervals from the greatest end, so that right ends are left ones.
+    pub fn mirror(&mut self) {
         for i in places(self.data) {
             let Interval { left, right } = self.intervals[i];
             self.intervals[i] = Interval { left: GREATEST_END - right, right: GREATEST_END - left };
         }
-        self
     }
 }
 

@@ -187,7 +187,7 @@ fn worst(effort: Effort, climb: Climb) {
             let mut case = Case::of(&State::fresh(0, 0, 0).bytes(), &[]);
             let state = climb.worst(|bytes| {
                 case.state.copy_from_slice(bytes);
-                least(|| assert_eq!(run(black_box(&mut case)), 0), 3)
+                least(|| assert_eq!(run(black_box(&mut case)), 0), 4)
             });
             line(effort, call, name, &[Case::of(&state.bytes(), &[])], Some(20_000.));
         }

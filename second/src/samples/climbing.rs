@@ -41,14 +41,17 @@ fn climbed(
     cost: &mut impl FnMut(&[u8]) -> f64,
 ) -> (State, f64) {
     let mut dearest = cost(&state.bytes());
-    for _ in 0..steps {
+    for step in 0..steps {
+        if step % 32 == 0 {
+            // A time that was long by chance would stop the climb.
+            dearest = dearest.min(cost(&state.bytes()));
+        }
         let mut other = state.clone();
         for _ in 0..random.pick(&[1, 1, 1, 2, 4]) {
             change(random, &mut other);
         }
         let bytes = other.bytes();
         if cost(&bytes) >= dearest {
-            // Again, since a time can be longer by chance.
             let again = cost(&bytes);
             if again >= dearest {
                 (state, dearest) = (other, again);
