@@ -297,43 +297,10 @@ fewest 1 2
 
     #[test]
     fn lines_of_any_other_shape_are_bad() {
-        let bad = [
-            "",
-            " ",
-            "set",
-            "set 1 2",
-            "set 1 2 3 4",
-            "age",
-            "age 8 9",
-            "get",
-            "get 0",
-            "ask",
-            "ask 0 0",
-            "fewest 0",
-            "fewest ",
-            " fewest",
-            "Fewest",
-            "few",
-            "ask  0",
-            "ask 0 ",
-            " ask 0",
-            "ask\t0",
-            "ask 0\r",
-            "fewest\r",
-            "ask +0",
-            "ask -1",
-            "ask 0x1",
-            "ask 1_0",
-            "ask 1.0",
-            "ask a",
-            "ask \u{0661}",
-            "ask \0",
-            "ask 0\0",
-            "ok",
-            "bad line",
-            "set 1 2 ",
-        ];
-        for line in bad {
+        let bad = "| |set|set 1 2|set 1 2 3 4|set 1 2 |age|age 8 9|get|get 0|ask|ask 0 0|fewest 0|\
+                   fewest | fewest|Fewest|few|ok|bad line|ask  0|ask 0 | ask 0|ask\t0|ask 0\r|\
+                   fewest\r|ask +0|ask -1|ask 0x1|ask 1_0|ask 1.0|ask a|ask \u{0661}|ask \0|ask 0\0";
+        for line in bad.split('|') {
             assert_eq!(one(&format!("{line}\n")), "bad line", "{line:?}");
         }
         assert_eq!(listing(b"set 5 0 0\nask \xff\n\xff\xfe\n"), "ok\nbad line\nbad line\n");
