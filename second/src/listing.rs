@@ -156,6 +156,7 @@ fn found([count, mask]: [u64; 2]) -> String {
 mod tests {
     use super::*;
     use crate::message::{check_word, kind, split, word};
+    use crate::samples::texts::{DOCUMENT_01, PRINTED};
 
     /// What the lines of a text yield, after a taken `set`.
     fn after_set(text: &str) -> Vec<String> {
@@ -199,31 +200,7 @@ mod tests {
 
     #[test]
     fn listing_of_document_01_prints_its_lines() {
-        let input = "\
-set 5 100 0
-get 0 50 536870913 1073741824 1074741824 1610612736 1611612936 3760096585
-ask 0
-age 2000000
-ask 0
-get 0 0 536870914 1073741824 1076742824 1610612736 1613613736 3764098386
-ask 0
-ask 1
-ask 2
-fewest
-";
-        let printed = "\
-ok
-ok
-between 1000000 1000250
-ok
-between 2999800 3000450
-ok
-contradicted
-between 2999800 3001000
-open
-fewest 1 2
-";
-        assert_eq!(listing(input.as_bytes()), printed);
+        assert_eq!(listing(DOCUMENT_01.as_bytes()), PRINTED);
     }
 
     #[test]

@@ -12,6 +12,7 @@ use second::random::Random;
 use second::receiving::Branches;
 use second::samples::runs::World;
 use second::samples::states;
+use second::samples::texts::{DOCUMENT_01, PRINTED};
 use second::state::{Datum, State, DATUM_TERMS, ENTRY_TERMS, MOST_DATA, MOST_ENTRIES, STATE_BYTES};
 use std::collections::BTreeMap;
 use std::io::Write as _;
@@ -127,32 +128,6 @@ fn aged(state: &State, reading: u64) -> State {
 
 // ---- document 01's listing
 
-const LISTING: &str = "\
-set 5 100 0
-get 0 50 536870913 1073741824 1074741824 1610612736 1611612936 3760096585
-ask 0
-age 2000000
-ask 0
-get 0 0 536870914 1073741824 1076742824 1610612736 1613613736 3764098386
-ask 0
-ask 1
-ask 2
-fewest
-";
-
-const PRINTED: &str = "\
-ok
-ok
-between 1000000 1000250
-ok
-between 2999800 3000450
-ok
-contradicted
-between 2999800 3001000
-open
-fewest 1 2
-";
-
 /// The call that a line of the listing asks for.
 fn listed(line: &str) -> Call {
     let mut fields = line.split(' ');
@@ -189,7 +164,7 @@ fn printed(call: &Call, out: &[u8]) -> String {
 fn listing_of_document_01_yields_its_lines() {
     let mut bytes = vec![9; STATE_BYTES];
     let mut lines = String::new();
-    for line in LISTING.lines() {
+    for line in DOCUMENT_01.lines() {
         let call = listed(line);
         let len = match call {
             Call::Ask { .. } => 24,

@@ -6,38 +6,12 @@
 
 use second::listing::listing;
 use second::random::Random;
-use second::samples::texts;
+use second::samples::texts::{self, DOCUMENT_01, PRINTED};
 use std::collections::BTreeMap;
 use std::io::{Read, Write};
 use std::path::PathBuf;
 use std::process::{Command, Stdio};
 use std::{env, fs, thread};
-
-const DOCUMENT_01: &str = "\
-set 5 100 0
-get 0 50 536870913 1073741824 1074741824 1610612736 1611612936 3760096585
-ask 0
-age 2000000
-ask 0
-get 0 0 536870914 1073741824 1076742824 1610612736 1613613736 3764098386
-ask 0
-ask 1
-ask 2
-fewest
-";
-
-const PRINTED: &str = "\
-ok
-ok
-between 1000000 1000250
-ok
-between 2999800 3000450
-ok
-contradicted
-between 2999800 3001000
-open
-fewest 1 2
-";
 
 // ---- the engine's program
 
