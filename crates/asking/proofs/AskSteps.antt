@@ -248,7 +248,7 @@ module _ (s : List ℕ) (t : T (inForm s)) (n rows : ℕ) (counts masks order : 
     ends-low = ends-below (stateOf s) (form-ok s t) loaded ends-bounded
 
     pub ends-ready : Ready n rows l r counts masks order
-    ends-ready = ready-in loaded rows-fit ends-bounded complete (λ i h. omega (arith, ends-low i h .0))
+    ends-ready = ready-in loaded rows-fit l r order ends-bounded complete (λ i h. omega (arith, ends-low i h .0))
 
     -- as seen from the last end
     module _ (low₀ high₀ low high : List ℕ) (a : rows ≤ length low₀) (b : rows ≤ length high₀)
@@ -268,11 +268,14 @@ module _ (s : List ℕ) (t : T (inForm s)) (n rows : ℕ) (counts masks order : 
             lefts-long = omega (arith, length-column (λ k. last - getD r k 0) rows low₀ low c a);
             rights-long = omega (arith, length-column (λ k. last - getD l k 0) rows high₀ high d b);
             below = λ i h. omega (arith, low-is i h);
+            empty = λ i h.
+                let j : i < rows = omega (arith, w .entries-le) in omega (arith, low-is i j, high-is i j, w .empty i h, ends-low i j);
             counted = w .counted;
             narrow = w .narrow;
             long = w .long;
             ordered = w .ordered;
             placed = w .placed;
+            present = w .present;
           }
 
       module _ (limit free : ℕ) (g : free ≡ others (num 0 4 s)) (every : Explained limit (stateOf s) (everything (storeOf s)) → ⊥)

@@ -19,11 +19,12 @@ use Rattle.names.proofs.PartLaws.{union-add}
 use Rattle.numbers.specs.Numbers.{put, tab}
 use Rattle.numbers.proofs.NumberLaws.{put-then, put-front, tab-ext}
 use Rattle.predicates.specs.Lists.{keep, In}
+use Rattle.predicates.specs.Predicates.{holds}
 use Rattle.predicates.proofs.ListLaws.{both, both-l, both-r, true-T, split, keep-out}
 use Rattle.engine.proofs.TableLaws.{keep-append}
-use Rattle.asking.specs.Search.{Fits, Best, Rows, predAt, preds, none}
+use Rattle.asking.specs.Search.{Fits, Best, Rows, rowTerms, predAt, preds, none}
 use Rattle.asking.specs.Tables.{outside}
-use Rattle.asking.specs.Ends.{noEnd, Next, Ready, rowTerms, needs, First, Unexplained, Trying}
+use Rattle.asking.specs.Ends.{noEnd, Next, Last, Latest, Ready, needs, Trying}
 use Rattle.asking.proofs.SearchLaws.{best-done}
 use Rattle.asking.proofs.SearchSteps.{rest-next, pred-part, term-none, term-skip, term-stop, term-on}
 
@@ -68,6 +69,73 @@ module _ (ends : List ℕ) (from i floor r : ℕ) (h : from ≤ i) (n : Next end
       go k a b c (no l) =
           let q : k ≡ i = omega arith in
           subst (λ (x : ℕ). floor ≤ getD ends x 0 → r ≤ getD ends x 0) (sym q) (λ d. at d (split (ltb (getD ends i 0) r))) c
+
+-- ---- the last end
+
+pub last-none : (ends : List ℕ) (from floor roof : ℕ) → Last ends from from floor roof floor
+last-none ends from floor roof = record { one = inl refl; over = le-refl floor; most = λ k a b. absurd (omega arith) }
+
+module _ (ends : List ℕ) (from i floor roof r : ℕ) (h : from ≤ i) (l : Last ends from i floor roof r) where
+  abbrev end : ℕ
+  end = getD ends i 0
+
+  -- with the end in place i, the greatest is `x`
+  grown : (x : ℕ) → r ≤ x → (end ≤ roof → end ≤ x) → (k : ℕ) → from ≤ k → k < i + 1 → getD ends k 0 ≤ roof → getD ends k 0 ≤ x
+  grown x p q k a b c = go (decLt k i)
+    where
+      go : Dec (k < i) → getD ends k 0 ≤ x
+      go (yes d) = le-trans (l .most k a d c) p
+      go (no d) = let e : k ≡ i = omega arith in subst (λ (y : ℕ). getD ends y 0 ≤ roof → getD ends y 0 ≤ x) (sym e) q c
+
+  pub last-take : ltb r end && leb end roof ≡ true → Last ends from (i + 1) floor roof end
+  last-take e =
+      let t = true-T _ e in
+      let up = ltb→lt r end (both-l (ltb r end) (leb end roof) t) in
+      record {
+        one = inr (i, h, omega arith, refl, leb→le end roof (both-r (ltb r end) (leb end roof) t));
+        over = omega (arith, l .over);
+        most = grown end (omega arith) (λ _. le-refl end);
+      }
+
+  pub last-pass : ltb r end && leb end roof ≡ false → Last ends from (i + 1) floor roof r
+  last-pass e =
+      record {
+        one = ⊎-elim (λ q. inl q) (λ w. inr (w .0, w .1, omega (arith, w .2), w .3, w .4)) (l .one);
+        over = l .over;
+        most = grown r (le-refl r) (λ c. at c (split (ltb r end)));
+      }
+    where
+      at : end ≤ roof → T (ltb r end) ⊎ T (not (ltb r end)) → end ≤ r
+      at c (inl t) = absurd (subst (λ (b : Bool). T b) e (both (ltb r end) (leb end roof) t (true-T _ (le-leb end roof c))))
+      at c (inr t) = nltb→le r end t
+
+-- ---- the latest left end that a set leaves false
+
+pub latest-none : (n : ℕ) (lefts counts masks : List ℕ) (set : ℕ) → Latest n n lefts counts masks set 0
+latest-none n lefts counts masks set = record { one = inl refl; most = λ k a b. absurd (omega arith) }
+
+module _ (n i : ℕ) (lefts counts masks : List ℕ) (set r : ℕ) (h : n ≤ i) (l : Latest n i lefts counts masks set r) where
+  -- with row i, the latest is `x`
+  later : (x : ℕ) → r ≤ x → (getD lefts i 0 ≤ x) ⊎ T (holds set (rowTerms counts masks i)) → (k : ℕ) → n ≤ k → k < i + 1
+      → (getD lefts k 0 ≤ x) ⊎ T (holds set (rowTerms counts masks k))
+  later x p q k a b = go (decLt k i)
+    where
+      go : Dec (k < i) → (getD lefts k 0 ≤ x) ⊎ T (holds set (rowTerms counts masks k))
+      go (yes d) = ⊎-elim (λ e. inl (le-trans e p)) (λ t. inr t) (l .most k a d)
+      go (no d) =
+          let e : k ≡ i = omega arith in
+          subst (λ (j : ℕ). (getD lefts j 0 ≤ x) ⊎ T (holds set (rowTerms counts masks j))) (sym e) q
+
+  pub latest-take : r < getD lefts i 0 → T (not (holds set (rowTerms counts masks i))) → Latest n (i + 1) lefts counts masks set (getD lefts i 0)
+  latest-take up t =
+      record { one = inr (i, h, omega arith, refl, t); most = later (getD lefts i 0) (omega arith) (inl (le-refl (getD lefts i 0))) }
+
+  pub latest-pass : (getD lefts i 0 ≤ r) ⊎ T (holds set (rowTerms counts masks i)) → Latest n (i + 1) lefts counts masks set r
+  latest-pass q =
+      record {
+        one = ⊎-elim (λ z. inl z) (λ w. inr (w .0, w .1, omega (arith, w .2), w .3, w .4)) (l .one);
+        most = later r (le-refl r) q;
+      }
 
 -- ---- the rows whose interval lacks an instant
 
@@ -156,7 +224,7 @@ module _ (n rows : ℕ) (lefts rights counts masks order l₀ l : List ℕ) (rea
   listed-at j h = ap (λ (z : List ℕ). getD z j 0) front ∙ List·getD-append kept (drop m l₀) 0 j (omega (arith, count))
 
   -- each is a row
-  listed-row : (j : ℕ) → j < m → getD l j 0 < rows
+  pub listed-row : (j : ℕ) → j < m → getD l j 0 < rows
   listed-row j h =
       let there = keep-out (outside lefts rights x) (take rows order) (getD kept j 0) (at-in kept 0 j (omega (arith, count))) in
       let w = in-take rows order (getD kept j 0) (there .0) in
@@ -176,60 +244,6 @@ module _ (n rows : ℕ) (lefts rights counts masks order l₀ l : List ℕ) (rea
   listed-needs =
       tab-ext [] m (λ j. rowTerms counts masks (getD l j 0)) (map (rowTerms counts masks) kept) (length-map kept (rowTerms counts masks) ∙ sym count)
       (λ j h. ap (rowTerms counts masks) (listed-at j h) ∙ sym (getD-map (rowTerms counts masks) kept 0 [] j (omega (arith, count))))
-
--- ---- one end after the other
-
-module _ (n rows : ℕ) (lefts rights counts masks order : List ℕ) (ready : Ready n rows lefts rights counts masks order) (limit free : ℕ) (small : free < none) where
-  abbrev Explains : ℕ → ℕ → Type 0
-  Explains x u = Fits limit 0 free (needs rows lefts rights counts masks order x) u
-
-  module _ (floor x : ℕ) (before : Unexplained n rows lefts rights counts masks order limit free floor) (next : Next lefts n rows floor x) where
-    -- an end below x is below the floor
-    passed : (k : ℕ) → n ≤ k → k < rows → getD lefts k 0 < x → getD lefts k 0 < floor
-    passed k a b c = go (decLt (getD lefts k 0) floor)
-      where
-        go : Dec (getD lefts k 0 < floor) → getD lefts k 0 < floor
-        go (yes l) = l
-        go (no l) = absurd (omega (arith, next .least k a b (omega arith)))
-
-    pub ends-none : x ≡ noEnd → First n rows lefts rights counts masks order limit free 0 none
-    ends-none e =
-        record {
-          found = λ h. absurd (omega arith);
-          others = λ k a b c. before k a b (passed k a b (omega (arith, ready .below k b)));
-        }
-
-    module _ (some : x ≡ noEnd → ⊥) where
-      -- the place where x stands
-      pub ends-place : (k : ℕ) × (n ≤ k) × (k < rows) × (x ≡ getD lefts k 0)
-      ends-place = ⊎-elim (λ e. absurd (some e)) (λ w. (w .0, w .1, w .2, w .3)) (next .one)
-
-      pub ends-found : (r : ℕ) → Best none limit 0 free (needs rows lefts rights counts masks order x) none r → r < none
-          → First n rows lefts rights counts masks order limit free x r
-      ends-found r b l =
-          record {
-            found = λ h. let p = ends-place in (p .0, p .1, p .2, p .3, ⊎-elim (λ e. absurd (omega arith)) (λ f. f) (b .from));
-            others = λ k a c d. before k a c (passed k a c (⊎-elim (λ e. absurd (omega arith)) (λ e. e) d));
-          }
-
-      pub ends-next : Best none limit 0 free (needs rows lefts rights counts masks order x) none none
-          → Unexplained n rows lefts rights counts masks order limit free (x + 1)
-      ends-next b k a c d u f = go (decLt (getD lefts k 0) x)
-        where
-          within : (u : ℕ) → Explains x u → ⊥
-          within u g =
-              let low : u < none = omega (arith, subset-le u (union 0 free) (g .within), union-add 0 free) in
-              ⊎-elim (λ e. absurd (omega arith)) (λ e. absurd (omega arith)) (b .least u g)
-
-          go : Dec (getD lefts k 0 < x) → ⊥
-          go (yes l) = before k a c (passed k a c l) u f
-          go (no l) = let e : getD lefts k 0 ≡ x = omega arith in within u (subst (λ (y : ℕ). Explains y u) e f)
-
-      pub ends-room : x < noEnd
-      ends-room = let p = ends-place in omega (arith, p .3, ready .below (p .0) (p .2))
-
-      pub ends-far : floor ≤ x
-      ends-far = ⊎-elim (λ e. absurd (some e)) (λ w. w .4) (next .one)
 
 -- ---- the terms of the first predicate, one after the other
 

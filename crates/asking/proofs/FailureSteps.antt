@@ -1,8 +1,8 @@
--- One turn of each loop over the sets of failed names: row by row to the least set within a limit, and by rising limits to the fewest failures.
--- The idea: a search keeps the least of the sets tried so far; with all rows tried, the sets tried are those within the limit for which an instant
+-- One turn of each loop over the sets of failed names: run by run to the least set within a limit, and by rising limits to the fewest failures.
+-- The idea: a search keeps the least of the sets tried so far; with all runs tried, the sets tried are those within the limit for which an instant
 -- counts; so a limit without one shows that a set that works has more names. No contract cites this file. Assumes nothing.
 use Prim.Native.Nat.{ℕ, _+_, _-_, _≤_, _<_}
-use mathlib.Core.Path.{_≡_, sym, ap, subst, _∙_}
+use mathlib.Core.Path.{_≡_, refl, sym, ap, subst, _∙_}
 use mathlib.Core.Logic.{_⊎_, inl, inr, ⊎-elim}
 use mathlib.Core.List.{List, []}
 use native.Mathlib.Nat.{le-trans}
@@ -16,9 +16,10 @@ use Rattle.asking.specs.declared.Fewest.the-variants.{Over, Few}
 use Rattle.asking.specs.Instants.{Allowed}
 use Rattle.asking.specs.Search.{Fits, Best, Rows, preds, none}
 use Rattle.asking.specs.Tables.{entryClaim, claimAt, Loaded, Bounded}
-use Rattle.asking.specs.Ends.{Ready, Complete, Least, needs}
+use Rattle.asking.specs.Ends.{noEnd, Next, IsEnd, Unbroken, Ready, Complete, Least, needs}
 use Rattle.asking.specs.Fewest.{fewest, Works}
 use Rattle.asking.proofs.EndSteps.{at-in}
+use Rattle.asking.proofs.RunLaws.{end-below, run-needs, all-explains}
 use Rattle.asking.proofs.ArrayLaws.{fits-allowed, allowed-fits, in-at, claim-datum, order-everything, everything-order, needs-needed, needed-needs, left-outside}
 use Rattle.asking.proofs.ReadyLaws.{Prepared}
 use Rattle.asking.proofs.FewestLaws.{Seen, works-ends, ends-works, fewest-found, fewest-over}
@@ -29,63 +30,99 @@ pub record LeastOf (W : ℕ → Type 0) (r : ℕ) : Type 0 where
   pub low : r ≤ none
   pub least : (u : ℕ) → W u → r ≤ u
 
--- ---- row by row
+-- ---- run by run
 
 module _ (n rows : ℕ) (lefts rights counts masks order : List ℕ) (limit free : ℕ) where
-  -- u makes all predicates true, or those that a left end of rows n to i needs
-  abbrev pub Tried : ℕ → ℕ → Type 0
-  Tried i u =
-      Fits limit 0 free (preds rows order counts masks) u
-      ⊎ ((k : ℕ) × (n ≤ k) × (k < i) × Fits limit 0 free (needs rows lefts rights counts masks order (getD lefts k 0)) u)
+  abbrev Explains : ℕ → ℕ → Type 0
+  Explains x u = Fits limit 0 free (needs rows lefts rights counts masks order x) u
 
-  pub least-begin : (r : ℕ) → Best 0 limit 0 free (preds rows order counts masks) none r → LeastOf (Tried n) r
-  least-begin r b =
-      record {
-        from = ⊎-elim (λ e. inl e) (λ f. inr (inl f)) (b .from);
-        low = b .low;
-        least = λ u. ⊎-elim
-            (λ f. ⊎-elim (λ l. l) (λ l. absurd (omega arith)) (b .least u f))
-            (λ w. absurd (omega (arith, w .1, w .2)));
-      }
+  -- u makes the predicates true that a left end below the floor needs
+  abbrev pub Passed : ℕ → ℕ → Type 0
+  Passed floor u = (k : ℕ) × (n ≤ k) × (k < rows) × (getD lefts k 0 < floor) × Explains (getD lefts k 0) u
 
-  module _ (i best : ℕ) (h : n ≤ i) (w : LeastOf (Tried i) best) where
-    more : (u : ℕ) → Tried i u → Tried (i + 1) u
-    more u = ⊎-elim (λ f. inl f) (λ t. inr (t .0, t .1, omega (arith, t .2), t .3))
+  pub least-begin : LeastOf (Passed 0) none
+  least-begin = record { from = inl refl; low = omega arith; least = λ u p. absurd (omega (arith, p .3)) }
 
-    pub least-next : (r : ℕ) → Best 0 limit 0 free (needs rows lefts rights counts masks order (getD lefts i 0)) best r → LeastOf (Tried (i + 1)) r
-    least-next r b =
+  module _ (ready : Ready n rows lefts rights counts masks order) (floor from best : ℕ) (w : LeastOf (Passed floor) best)
+      (next : Next lefts n rows floor from) where
+    -- an end below the next one is below the floor
+    under : (k : ℕ) → n ≤ k → k < rows → getD lefts k 0 < from → getD lefts k 0 < floor
+    under k a b c = go (decLt (getD lefts k 0) floor)
+      where
+        go : Dec (getD lefts k 0 < floor) → getD lefts k 0 < floor
+        go (yes l) = l
+        go (no l) = absurd (omega (arith, next .least k a b (omega arith)))
+
+    module _ (some : from ≡ noEnd → ⊥) (x : ℕ) (run : Unbroken n rows rights from x) (at : (x ≡ from) ⊎ IsEnd n rows lefts x) (r : ℕ)
+        (b : Best 0 limit 0 free (needs rows lefts rights counts masks order x) best r) where
+      end : IsEnd n rows lefts x
+      end =
+          ⊎-elim
+          (λ e. subst (λ (y : ℕ). IsEnd n rows lefts y) (sym e) (⊎-elim (λ q. absurd (some q)) (λ v. (v .0, v .1, v .2, v .3)) (next .one)))
+          (λ v. v) at
+
+      pub least-room : (x < noEnd) × (floor ≤ x)
+      least-room = (
+        end-below n rows lefts rights counts masks order ready x end,
+        ⊎-elim (λ q. absurd (some q)) (λ v. omega (arith, v .4, run .rising)) (next .one),
+      )
+
+      pub least-next : LeastOf (Passed (x + 1)) r
+      least-next =
+          record {
+            from = ⊎-elim
+                (λ (e : r ≡ best). ⊎-elim (λ d. inl (e ∙ d)) (λ p. inr (subst (λ (y : ℕ). Passed (x + 1) y) (sym e) (wider best p))) (w .from))
+                (λ f. inr (end .0, end .1, end .2, omega (arith, end .3), subst (λ (y : ℕ). Explains y r) (end .3) f))
+                (b .from);
+            low = le-trans (b .low) (w .low);
+            least = λ u p. go u p (decLt (getD lefts (p .0) 0) from);
+          }
+        where
+          wider : (u : ℕ) → Passed floor u → Passed (x + 1) u
+          wider u p = (p .0, p .1, p .2, omega (arith, p .3, least-room .1), p .4)
+
+          go : (u : ℕ) (p : Passed (x + 1) u) → Dec (getD lefts (p .0) 0 < from) → r ≤ u
+          go u p (yes l) = le-trans (b .low) (w .least u (p .0, p .1, p .2, under (p .0) (p .1) (p .2) l, p .4))
+          go u p (no l) =
+              ⊎-elim (λ h. h) (λ h. absurd (omega arith))
+              (b .least u (run-needs n rows lefts rights counts masks order ready limit free from x run (getD lefts (p .0) 0) u (omega arith) (omega (arith, p .3)) (p .4)))
+
+    -- no end is left
+    pub least-in : from ≡ noEnd → (n ≡ rows → ⊥) → Least n rows lefts rights counts masks order limit free best
+    least-in e some =
         record {
-          from = ⊎-elim
-              (λ (e : r ≡ best). ⊎-elim (λ d. inl (e ∙ d)) (λ t. inr (subst (λ (x : ℕ). Tried (i + 1) x) (sym e) (more best t))) (w .from))
-              (λ f. inr (inr (i, h, omega arith, f)))
-              (b .from);
-          low = le-trans (b .low) (w .low);
-          least = λ u t. go u t;
+          from = ⊎-elim (λ q. inl q) (λ p. inr (inr (p .0, p .1, p .2, p .4))) (w .from);
+          low = w .low;
+          all = λ u f. each n (omega arith) here u (all-explains n rows lefts rights counts masks order ready limit free (getD lefts n 0) u f);
+          each = each;
         }
       where
-        here : (u : ℕ) → Fits limit 0 free (needs rows lefts rights counts masks order (getD lefts i 0)) u → r ≤ u
-        here u f = ⊎-elim (λ l. l) (λ l. absurd (omega arith)) (b .least u f)
+        here : n < rows
+        here = go some (ready .entries-le)
+          where
+            go : (n ≡ rows → ⊥) → n ≤ rows → n < rows
+            go f l = omega arith
 
-        before : (u : ℕ) → Tried i u → r ≤ u
-        before u t = le-trans (b .low) (w .least u t)
+        each : (k : ℕ) → n ≤ k → k < rows → (u : ℕ) → Explains (getD lefts k 0) u → best ≤ u
+        each k a l u f = w .least u (k, a, l, under k a l (omega (arith, ready .below k l)), f)
 
-        last : (u k : ℕ) → n ≤ k → k < i + 1 → Fits limit 0 free (needs rows lefts rights counts masks order (getD lefts k 0)) u → Dec (k < i) → r ≤ u
-        last u k a l f (yes d) = before u (inr (k, a, d, f))
-        last u k a l f (no d) =
-            let e : k ≡ i = omega arith in
-            here u (subst (λ (j : ℕ). Fits limit 0 free (needs rows lefts rights counts masks order (getD lefts j 0)) u) e f)
+  -- there is no end at all
+  pub least-alone : n ≡ rows → (r : ℕ) → Best 0 limit 0 free (preds rows order counts masks) none r
+      → Least n rows lefts rights counts masks order limit free r
+  least-alone e r b =
+      record {
+        from = ⊎-elim (λ q. inl q) (λ f. inr (inl f)) (b .from);
+        low = b .low;
+        all = λ u f. ⊎-elim (λ l. l) (λ l. absurd (omega arith)) (b .least u f);
+        each = λ k a l. absurd (omega arith);
+      }
 
-        go : (u : ℕ) → Tried (i + 1) u → r ≤ u
-        go u (inl f) = before u (inl f)
-        go u (inr t) = last u (t .0) (t .1) (t .2) (t .3) (decLt (t .0) i)
+  -- u makes all predicates true, or those that a left end needs
+  abbrev Tried : ℕ → Type 0
+  Tried u =
+      Fits limit 0 free (preds rows order counts masks) u ⊎ ((k : ℕ) × (n ≤ k) × (k < rows) × Explains (getD lefts k 0) u)
 
-  -- with all rows tried, it is the least
-
-  pub least-in : (r : ℕ) → LeastOf (Tried rows) r → Least n rows lefts rights counts masks order limit free r
-  least-in r w =
-      record { from = w .from; low = w .low; all = λ u f. w .least u (inl f); each = λ k a l u f. w .least u (inr (k, a, l, f)) }
-
-  least-out : (r : ℕ) → Least n rows lefts rights counts masks order limit free r → LeastOf (Tried rows) r
+  least-out : (r : ℕ) → Least n rows lefts rights counts masks order limit free r → LeastOf Tried r
   least-out r w =
       record { from = w .from; low = w .low; least = λ u. ⊎-elim (w .all u) (λ t. w .each (t .0) (t .1) (t .2) u (t .3)) }
 
@@ -108,7 +145,7 @@ module _ (k : Store) (n rows : ℕ) (counts masks order lefts rights : List ℕ)
   row-datum i h =
       let place : i ≡ length (k .entries) + (i - n) = omega (arith, loaded .entries-are) in ap (claimAt k) place ∙ claim-datum k (i - n)
 
-  tried-seen : Tried n rows lefts rights counts masks order limit (others own) rows u → Allowed limit own u × Seen u k
+  tried-seen : Tried n rows lefts rights counts masks order limit (others own) u → Allowed limit own u × Seen u k
   tried-seen (inl f) = (fits-allowed limit own u _ f, inl (order-everything k n rows counts masks order loaded complete u (f .holding)))
   tried-seen (inr t) =
       let i = t .0 in
@@ -119,7 +156,7 @@ module _ (k : Store) (n rows : ℕ) (counts masks order lefts rights : List ℕ)
       let there = at-in (k .held) (entryClaim []) (i - n) (omega (arith, t .1, t .2, loaded .rows-are)) in
       (fits-allowed limit own u _ f, inr (getD (k .held) (i - n) (entryClaim []), there, rw end at needed))
 
-  seen-tried : Allowed limit own u → Seen u k → Tried n rows lefts rights counts masks order limit (others own) rows u
+  seen-tried : Allowed limit own u → Seen u k → Tried n rows lefts rights counts masks order limit (others own) u
   seen-tried a (inl t) = inl (allowed-fits limit own u _ a (everything-order k n rows counts masks order loaded complete u t))
   seen-tried a (inr t) =
       let w = in-at (k .held) (entryClaim []) (t .0) (t .1) in

@@ -11,6 +11,7 @@ pub mod LastLaws
 pub mod SearchSteps
 pub mod TableLaws
 pub mod EndSteps
+pub mod RunLaws
 pub mod ArrayLaws
 pub mod ReadyLaws
 pub mod AskSteps

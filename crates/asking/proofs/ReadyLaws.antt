@@ -58,21 +58,28 @@ module _ {k : Store} {n rows : ℕ} {counts masks : List ℕ} (loaded : Loaded k
           let at : getD order j 0 ≡ getD (zeros 48) j 0 = ap (λ (o : List ℕ). getD o j 0) e ∙ getD-put-after 0 j listed (zeros 48) (omega arith) in
           omega (arith, getD-replicate {A = ℕ} 48 j 0 0 (omega arith))
 
-  pub ready-in : {lefts rights order : List ℕ} → Bounded k rows lefts rights → Complete rows order → ((i : ℕ) → i < rows → getD lefts i 0 < noEnd)
+  pub ready-in : (lefts rights order : List ℕ) → Bounded k rows lefts rights → Complete rows order → ((i : ℕ) → i < rows → getD lefts i 0 < noEnd)
       → Ready n rows lefts rights counts masks order
-  ready-in bounded complete below =
+  ready-in lefts rights order bounded complete below =
       record {
         entries-le = omega (arith, loaded .rows-are);
         most = most;
         lefts-long = bounded .lefts-long;
         rights-long = bounded .rights-long;
         below = below;
+        empty = λ i h. hollow i (omega (arith, loaded .entries-are)) (bounded .left-is i (omega (arith, loaded .rows-are))) (bounded .right-is i (omega (arith, loaded .rows-are)));
         counted = loaded .counted;
         narrow = λ i h. loaded .few i h .1;
         long = loaded .long;
         ordered = complete .ordered;
         placed = complete .placed;
+        present = complete .present;
       }
+    where
+      -- an entry's ends are 1 and 0
+      hollow : (i : ℕ) → i < length (k .entries) → getD lefts i 0 ≡ claimAt k i .left → getD rights i 0 ≡ claimAt k i .right
+          → getD rights i 0 < getD lefts i 0
+      hollow i h a b = omega (arith, rw (claim-entry k i h) at a, rw (claim-entry k i h) at b)
 
 -- ---- the ends
 
@@ -125,4 +132,4 @@ module _ (s : List ℕ) (t : T (inForm s)) (n h : ℕ) (a : n ≡ entryCount s) 
       let most : rows ≤ 48 = omega (arith, rows-fit) in
       let complete : Complete rows order = complete-in loaded most order o in
       let below : (i : ℕ) → i < rows → getD lefts i 0 < noEnd = λ i k. omega (arith, ends-below (stateOf s) (form-ok s t) loaded bounded i k .0) in
-      record { loaded = loaded; bounded = bounded; complete = complete; ready = ready-in loaded most bounded complete below }
+      record { loaded = loaded; bounded = bounded; complete = complete; ready = ready-in loaded most lefts rights order bounded complete below }

@@ -22,7 +22,7 @@ use Rattle.predicates.proofs.ListLaws.{both, both-l, both-r, true-T, T-true, T-
 use Rattle.predicates.specs.Lists.{In}
 use Rattle.predicates.proofs.PredicateLaws.{holds-in}
 use Rattle.predicates.proofs.LoopLaws.{drop-next}
-use Rattle.asking.specs.Search.{Fits, Best, skipped, alone, sieve, predAt, preds}
+use Rattle.asking.specs.Search.{Fits, Best, skipped, alone, sieve, rowTerms, predAt, preds}
 use Rattle.asking.proofs.LastLaws.{adds-none, adds-some, adds-one, one-added, sieve-stop, sieve-above, last-none, last-found}
 use Rattle.asking.proofs.SearchLaws.{best-skipped, best-done, best-full, terms-none, terms-skip, terms-stop, terms-on, terms-bar}
 
@@ -68,12 +68,16 @@ module _ (n : ℕ) (listed counts masks : List ℕ) where
     sieve-done limit m h = ap (λ (ps : List (List ℕ)). sieve limit s m ps) (rest-none i h)
 
 -- the part of the array from `at` to `end`, where the code found the terms to stand
+pub row-part : (counts masks : List ℕ) (row at end : ℕ) → at ≡ row * 16 → end ≡ row * 16 + getD counts row 0
+    → take (end - at) (drop at masks) ≡ rowTerms counts masks row
+row-part counts masks row at end a b =
+    let width : end - at ≡ getD counts row 0 = omega arith in
+    ap (λ (w : ℕ). take w (drop at masks)) width ∙ ap (λ (x : ℕ). take (getD counts row 0) (drop x masks)) a
+
 pub pred-part : (listed counts masks : List ℕ) (j at end : ℕ) → at ≡ getD listed j 0 * 16
     → end ≡ getD listed j 0 * 16 + getD counts (getD listed j 0) 0 → take (end - at) (drop at masks) ≡ predAt listed counts masks j
 unfolding predAt
-pred-part listed counts masks j at end a b =
-    let width : end - at ≡ getD counts (getD listed j 0) 0 = omega arith in
-    ap (λ (w : ℕ). take w (drop at masks)) width ∙ ap (λ (x : ℕ). take (getD counts (getD listed j 0) 0) (drop x masks)) a
+pred-part listed counts masks j = row-part counts masks (getD listed j 0)
 
 -- the first of the predicates, if there is one, is left false
 abbrev First : ℕ → List (List ℕ) → Type 0

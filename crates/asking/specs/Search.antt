@@ -53,8 +53,12 @@ sieve limit s m (p ∷ ps) = sieve limit s (cond (holds s p) m (shared m (alone 
 
 -- ---- predicates in a flat array: row k has its count at k and its terms from 16 * k on; `listed` has the rows in the order of the search
 
+-- the predicate of row k
+abbrev pub rowTerms : List ℕ → List ℕ → ℕ → List ℕ
+rowTerms counts masks k = take (getD counts k 0) (drop (k * 16) masks)
+
 unfoldable pub predAt : List ℕ → List ℕ → List ℕ → ℕ → List ℕ
-predAt listed counts masks j = take (getD counts (getD listed j 0) 0) (drop (getD listed j 0 * 16) masks)
+predAt listed counts masks j = rowTerms counts masks (getD listed j 0)
 
 unfoldable pub preds : ℕ → List ℕ → List ℕ → List ℕ → List (List ℕ)
 preds n listed counts masks = tab n (predAt listed counts masks)

@@ -10,7 +10,8 @@ ghost use Rattle.asking.specs.Ends.{Ready, Least};
 use super::Fewest;
 
 // The least set within the limit that explains every claim, or those whose interval lacks the left end of one of rows n to `rows`; 2^29, the
-// mask of no set, where there is none.
+// mask of no set, where there is none. Of each run of ends the last is tried, which needs the fewest claims; where there is an end, every claim is
+// more than it needs.
 fn least_set(
     lefts: &[u64],
     rights: &[u64],
@@ -26,25 +27,32 @@ fn least_set(
     requires { ⌜ Ready n rows (now lefts) (now rights) (now counts) (now masks) (now order) × (rows ≤ length (now listed)) ⌝ }
     ensures { λ r. ⌜ Least n rows (now (lefts .entry)) (now (rights .entry)) (now (counts .entry)) (now (masks .entry)) (now (order .entry)) limit free r ⌝ }
 {
-    let mut best = super::search::predicate_step(
-        order,
-        counts,
-        masks,
-        rows,
-        limit,
-        0,
-        0,
-        0,
-        free,
-        536870912,
-    );
-    let mut i = n;
-    while i < rows {
-        let m = super::ends::list_outside(order, rows, lefts, rights, lefts[i], listed);
-        best = super::search::predicate_step(listed, counts, masks, m, limit, 0, 0, 0, free, best);
-        i += 1;
+    if n == rows {
+        return super::search::predicate_step(
+            order,
+            counts,
+            masks,
+            rows,
+            limit,
+            0,
+            0,
+            0,
+            free,
+            536870912,
+        );
     }
-    best
+    let mut best: u32 = 536870912;
+    let mut floor: u64 = 0;
+    loop {
+        let from = super::ends::next_end(lefts, n, rows, floor);
+        if from == 18446744073709551615 {
+            return best;
+        }
+        let x = super::ends::run_end(lefts, rights, n, rows, from);
+        let m = super::ends::list_outside(order, rows, lefts, rights, x, listed);
+        best = super::search::predicate_step(listed, counts, masks, m, limit, 0, 0, 0, free, best);
+        floor = x + 1;
+    }
 }
 
 // The fewest failures that explain a state in form.

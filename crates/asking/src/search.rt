@@ -9,7 +9,7 @@ ghost use lib.Count.{ones};
 ghost use lib.ListN.{length, getD, take, drop};
 ghost use Rattle.names.specs.Sets.{subset, union, shared, less};
 ghost use Rattle.predicates.specs.Predicates.{holds as Predicates·holds};
-ghost use Rattle.asking.specs.Search.{Best, Rows, predAt, preds, skipped, alone};
+ghost use Rattle.asking.specs.Search.{Best, Rows, rowTerms, predAt, preds, skipped, alone};
 
 // The lesser of two masks.
 pub fn lesser(a: u32, b: u32) -> u32
@@ -38,15 +38,22 @@ pub fn terms_at(listed: &[u32], counts: &[u32], masks: &[u32], j: usize) -> Part
     Part { at, end }
 }
 
+// Whether the set makes the predicate of the row true.
+pub fn row_holds(counts: &[u32], masks: &[u32], row: usize, set: u32) -> bool
+    requires { ⌜ (row < length (now counts)) × (row * 16 + getD (now counts) row 0 ≤ length (now masks)) ⌝ }
+    ensures { λ r. ⌜ r ≡ Predicates·holds set (rowTerms (now (counts .entry)) (now (masks .entry)) row) ⌝ }
+{
+    let at = row * 16;
+    let end = at + counts[row] as usize;
+    predicates::holds(&masks[at..end], set)
+}
+
 // Whether the set makes the predicate at place j true.
 fn explained(listed: &[u32], counts: &[u32], masks: &[u32], j: usize, set: u32) -> bool
     requires { ⌜ (j < length (now listed)) × (getD (now listed) j 0 < length (now counts)) × (getD (now listed) j 0 * 16 + getD (now counts) (getD (now listed) j 0) 0 ≤ length (now masks)) ⌝ }
     ensures { λ r. ⌜ r ≡ Predicates·holds set (predAt (now (listed .entry)) (now (counts .entry)) (now (masks .entry)) j) ⌝ }
 {
-    let part = terms_at(listed, counts, masks, j);
-    let at = part.at;
-    let end = part.end;
-    predicates::holds(&masks[at..end], set)
+    row_holds(counts, masks, listed[j] as usize, set)
 }
 
 // The place of the next predicate from i on that the set leaves false, or n.

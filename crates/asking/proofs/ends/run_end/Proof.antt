@@ -1,0 +1,15 @@
+-- `asking::ends::run_end` meets its contract: no right end from x on is before the least of them, and so before a left end that is not beyond it.
+use native.Mathlib.Omega.{arith}
+use Rattle.asking.proofs.RunLaws.{run-in, run-at}
+use borrow.Author.Needs.{needs}
+use Rattle.asking.proofs.ends.run_end.Statement.{statement}
+use Rattle.asking.proofs.ends.run_end.Tie as tie
+
+returns : tie.Need-returns
+returns c =
+    let next = c .before .next-end .ensures in
+    let last = c .last-end .ensures in
+    (run-in _ _ _ _ _ _ _ next last, run-at _ _ _ _ _ _ last)
+
+pub run-end-spec : {M : Type 1} → statement M
+run-end-spec = tie.close (tie.spec (λ c κs. search needs) (λ c κs. search needs) returns)
