@@ -163,6 +163,7 @@ module _ (k : Store) (n rows : ℕ) (counts masks order : List ℕ) (loaded : Lo
         counted = λ j h. omega (arith, complete .placed j h, loaded .counted);
         narrow = λ j h. loaded .few (getD order j 0) (complete .placed j h) .1;
         long = λ j h. omega (arith, complete .placed j h, loaded .few (getD order j 0) (complete .placed j h) .1, loaded .long);
+        parted = λ j h. loaded .parted (getD order j 0) (complete .placed j h);
       }
 
   module _ (u : ℕ) where

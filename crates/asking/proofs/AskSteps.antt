@@ -276,6 +276,7 @@ module _ (s : List ℕ) (t : T (inForm s)) (n rows : ℕ) (counts masks order : 
             ordered = w .ordered;
             placed = w .placed;
             present = w .present;
+            parted = w .parted;
           }
 
       module _ (limit free : ℕ) (g : free ≡ others (num 0 4 s)) (every : Explained limit (stateOf s) (everything (storeOf s)) → ⊥)

@@ -237,6 +237,7 @@ module _ (n rows : ℕ) (lefts rights counts masks order l₀ l : List ℕ) (rea
         counted = λ j h. omega (arith, listed-row j h, ready .counted);
         narrow = λ j h. ready .narrow (getD l j 0) (listed-row j h);
         long = λ j h. omega (arith, listed-row j h, ready .narrow (getD l j 0) (listed-row j h), ready .long);
+        parted = λ j h. ready .parted (getD l j 0) (listed-row j h);
       }
 
   pub listed-needs : preds m l counts masks ≡ needs rows lefts rights counts masks order x

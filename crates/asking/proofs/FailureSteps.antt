@@ -134,6 +134,7 @@ ready-rows {order = order} ready =
       counted = λ j h. omega (arith, ready .placed j h, ready .counted);
       narrow = λ j h. ready .narrow (getD order j 0) (ready .placed j h);
       long = λ j h. omega (arith, ready .placed j h, ready .narrow (getD order j 0) (ready .placed j h), ready .long);
+      parted = λ j h. ready .parted (getD order j 0) (ready .placed j h);
     }
 
 -- ---- the sets tried, and those that work

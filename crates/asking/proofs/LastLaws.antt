@@ -17,7 +17,7 @@ use Rattle.predicates.specs.Lists.{all, In}
 use Rattle.predicates.specs.Predicates.{holds}
 use Rattle.predicates.proofs.ListLaws.{both, both-l, both-r, cond-ind}
 use Rattle.predicates.proofs.PredicateLaws.{holds-in, holds-out, holds-mono}
-use Rattle.asking.specs.Search.{Fits, Best, alone, sieve}
+use Rattle.asking.specs.Search.{Fits, Best, gather, alone, sieve}
 use Rattle.asking.proofs.SearchLaws.{best-none, best-of}
 
 -- ---- what a term adds to a set
@@ -64,7 +64,7 @@ module _ (limit s : ℕ) (last : ones s + 1 ≡ limit) where
   -- ---- the names that alone do for one predicate
 
   alone-above : (p : List ℕ) → T (subset s (alone limit s p))
-  unfolding alone
+  unfolding gather
   alone-above [] = subset-refl s
   alone-above (t ∷ p) =
       let rest = alone-above p in
@@ -73,7 +73,7 @@ module _ (limit s : ℕ) (last : ones s + 1 ≡ limit) where
 
   -- a term within the limit is part of them
   alone-has : (p : List ℕ) (t : ℕ) → In t p → ones (union s t) ≤ limit → T (subset (union s t) (alone limit s p))
-  unfolding alone
+  unfolding gather
   alone-has [] t m h = absurd m
   alone-has (v ∷ p) t (inl e) h =
       cond-ind (λ x. T (subset (union s t) x)) (leb (ones (union s v)) limit) (union (union s v) (alone limit s p)) (alone limit s p)
@@ -88,7 +88,7 @@ module _ (limit s : ℕ) (last : ones s + 1 ≡ limit) where
   -- one name of them, beyond s, is what one of the terms adds
   alone-out : (p : List ℕ) (c : ℕ) → ones c ≡ 1 → (T (subset c s) → ⊥) → T (subset c (alone limit s p))
       → (t : ℕ) × In t p × (ones (union s t) ≤ limit) × T (subset c (union s t))
-  unfolding alone
+  unfolding gather
   alone-out [] c e f = λ h. absurd (f h)
   alone-out (t ∷ p) c e f =
       let rest = alone-out p c e f in

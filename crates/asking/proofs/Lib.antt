@@ -8,6 +8,7 @@ pub mod EndLaws
 pub mod FewestLaws
 pub mod SearchLaws
 pub mod LastLaws
+pub mod PartedLaws
 pub mod SearchSteps
 pub mod TableLaws
 pub mod EndSteps

@@ -74,6 +74,7 @@ module _ {k : Store} {n rows : ℕ} {counts masks : List ℕ} (loaded : Loaded k
         ordered = complete .ordered;
         placed = complete .placed;
         present = complete .present;
+        parted = loaded .parted;
       }
     where
       -- an entry's ends are 1 and 0
@@ -119,17 +120,13 @@ module _ (s : List ℕ) (t : T (inForm s)) (n h : ℕ) (a : n ≡ entryCount s) 
   pub rows-fit : (n ≤ 32) × (h ≤ 16)
   rows-fit = (omega (arith, entry-count-le s t), omega (arith, held-count-le s t))
 
-  pub prepared-in : (counts masks order lefts rights : List ℕ) → counts ≡ tab rows (λ i. num (claimPlace n i) 4 s) ++ drop rows (zeros 48)
-      → masks ≡ joined (λ p. p) (tab rows (λ i. masksAt 16 (claimPlace n i) s)) ++ drop (rows * 16) (zeros 768)
-      → order ≡ put 0 (ranked 16 counts rows) (zeros 48) → lefts ≡ tab rows (λ i. claimLeft s n i) ++ drop rows (zeros 48)
-      → rights ≡ tab rows (λ i. claimRight s n i) ++ drop rows (zeros 48) → Prepared (stateOf s) n rows counts masks order lefts rights
+  pub prepared-in : (counts masks order lefts rights : List ℕ) → Loaded (storeOf s) n rows counts masks → Complete rows order
+      → lefts ≡ tab rows (λ i. claimLeft s n i) ++ drop rows (zeros 48) → rights ≡ tab rows (λ i. claimRight s n i) ++ drop rows (zeros 48)
+      → Prepared (stateOf s) n rows counts masks order lefts rights
   unfolding stateOf
-  prepared-in counts masks order lefts rights p q o l r =
+  prepared-in counts masks order lefts rights loaded complete l r =
       let room : rows ≤ length (zeros 48) = omega (arith, rows-fit, length-replicate {A = ℕ} 48 0) in
-      let wide : rows * 16 ≤ length (zeros 768) = omega (arith, rows-fit, length-replicate {A = ℕ} 768 0) in
-      let loaded : Loaded (storeOf s) n rows counts masks = loaded-in s t n h rows a b refl _ _ counts masks room wide p q in
       let bounded : Bounded (storeOf s) rows lefts rights = bounded-in s t n h rows a b refl _ _ lefts rights room room l r in
       let most : rows ≤ 48 = omega (arith, rows-fit) in
-      let complete : Complete rows order = complete-in loaded most order o in
       let below : (i : ℕ) → i < rows → getD lefts i 0 < noEnd = λ i k. omega (arith, ends-below (stateOf s) (form-ok s t) loaded bounded i k .0) in
       record { loaded = loaded; bounded = bounded; complete = complete; ready = ready-in loaded most lefts rights order bounded complete below }

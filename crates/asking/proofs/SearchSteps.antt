@@ -22,7 +22,7 @@ use Rattle.predicates.proofs.ListLaws.{both, both-l, both-r, true-T, T-true, T-
 use Rattle.predicates.specs.Lists.{In}
 use Rattle.predicates.proofs.PredicateLaws.{holds-in}
 use Rattle.predicates.proofs.LoopLaws.{drop-next}
-use Rattle.asking.specs.Search.{Fits, Best, skipped, alone, sieve, rowTerms, predAt, preds}
+use Rattle.asking.specs.Search.{Fits, Best, skipped, gather, alone, sieve, rowTerms, predAt, preds}
 use Rattle.asking.proofs.LastLaws.{adds-none, adds-some, adds-one, one-added, sieve-stop, sieve-above, last-none, last-found}
 use Rattle.asking.proofs.SearchLaws.{best-skipped, best-done, best-full, terms-none, terms-skip, terms-stop, terms-on, terms-bar}
 
@@ -221,7 +221,7 @@ terms-hold s p t v names x m a z =
     rw yes
 
 -- from the last term to the first: i is the place before which the names are known, v what the term before it adds
-module _ (s : ℕ) (p : List ℕ) (i does v : ℕ) (h : 0 < i) (l : i ≤ length p) (e : does ≡ alone (ones s + 1) s (drop i p))
+module _ (d s : ℕ) (p : List ℕ) (i does v : ℕ) (h : 0 < i) (l : i ≤ length p) (e : does ≡ gather d (ones s + 1) s (drop i p))
     (f : holds s (drop i p) ≡ false) (a : v ≡ less (getD p (i - 1) 0) s) (g : v ≡ 0 → ⊥) where
   last : drop (i - 1) p ≡ getD p (i - 1) 0 ∷ drop i p
   last = let back : i - 1 + 1 ≡ i = omega arith in rw back at (drop-next p (i - 1) (omega arith))
@@ -238,13 +238,13 @@ module _ (s : ℕ) (p : List ℕ) (i does v : ℕ) (h : 0 < i) (l : i ≤ length
       let no : subset (getD p (i - 1) 0) s ≡ false = T-false (subset (getD p (i - 1) 0) s) (not-T (subset (getD p (i - 1) 0) s) (adds-some s (getD p (i - 1) 0) (λ z. g (a ∙ z)))) in
       rw (last, no) f
 
-  pub terms-with : v ≡ lowest v → (w r : ℕ) → w ≡ union s (getD p (i - 1) 0) → r ≡ union w does → r ≡ alone (ones s + 1) s (drop (i - 1) p)
-  unfolding alone
-  terms-with k w r b d =
-      rw (last, le-leb (ones (union s (getD p (i - 1) 0))) (ones s + 1) (adds-one s (getD p (i - 1) 0) some (sym a ∙ k ∙ ap lowest a)), sym b, sym e) d
+  pub terms-with : v ≡ lowest v → (w r : ℕ) → w ≡ union s (getD p (i - 1) 0) → r ≡ union w does → r ≡ gather d (ones s + 1) s (drop (i - 1) p)
+  unfolding gather
+  terms-with k w r b c =
+      rw (last, le-leb (ones (union s (getD p (i - 1) 0))) (ones s + 1) (adds-one s (getD p (i - 1) 0) some (sym a ∙ k ∙ ap lowest a)), sym b, sym e) c
 
-  pub terms-past : (v ≡ lowest v → ⊥) → does ≡ alone (ones s + 1) s (drop (i - 1) p)
-  unfolding alone
+  pub terms-past : (v ≡ lowest v → ⊥) → does ≡ gather d (ones s + 1) s (drop (i - 1) p)
+  unfolding gather
   terms-past k =
       rw (last, lt-leb (ones (union s (getD p (i - 1) 0))) (ones s + 1) (not-le (λ q. k (a ∙ one-added s (getD p (i - 1) 0) some q ∙ ap lowest (sym a))))) e
     where
@@ -252,21 +252,13 @@ module _ (s : ℕ) (p : List ℕ) (i does v : ℕ) (h : 0 < i) (l : i ≤ length
       not-le q = omega arith
 
 -- what is left of the names after a predicate
-pub terms-done : (s : ℕ) (p : List ℕ) (does names r : ℕ) → does ≡ alone (ones s + 1) s p → holds s p ≡ false → r ≡ shared names does
-    → r ≡ cond (holds s p) names (shared names (alone (ones s + 1) s p))
-terms-done s p does names r e f d = rw (f, sym e) d
+pub terms-done : (d s : ℕ) (p : List ℕ) (does names r : ℕ) → does ≡ gather d (ones s + 1) s p → holds s p ≡ false → r ≡ shared names does
+    → r ≡ cond (holds s p) names (shared names (gather d (ones s + 1) s p))
+terms-done d s p does names r e f c = rw (f, sym e) c
 
--- the predicate at place j is a part of the array
-pub sift-part : (listed counts masks : List ℕ) (j s m at end r : ℕ) → at ≡ getD listed j 0 * 16
-    → end ≡ getD listed j 0 * 16 + getD counts (getD listed j 0) 0
-    → r ≡ cond (holds s (take (end - at) (drop at masks))) m (shared m (alone (ones s + 1) s (take (end - at) (drop at masks))))
-    → r ≡ cond (holds s (predAt listed counts masks j)) m (shared m (alone (ones s + 1) s (predAt listed counts masks j)))
-sift-part listed counts masks j s m at end r p q e =
-    e ∙ ap (λ (x : List ℕ). cond (holds s x) m (shared m (alone (ones s + 1) s x))) (pred-part listed counts masks j at end p q)
-
-pub terms-start : (limit s : ℕ) (p : List ℕ) → (s ≡ alone limit s (drop (length p) p)) × (holds s (drop (length p) p) ≡ false)
-unfolding alone holds
-terms-start limit s p = let none = drop-of-length-le p {i = length p} (le-refl (length p)) in (rw none, rw none)
+pub terms-start : (d limit s : ℕ) (p : List ℕ) → (d ≡ gather d limit s (drop (length p) p)) × (holds s (drop (length p) p) ≡ false)
+unfolding gather holds
+terms-start d limit s p = let none = drop-of-length-le p {i = length p} (le-refl (length p)) in (rw none, rw none)
 
 -- ---- the last name: m are the names that do for the predicates from k up to j
 

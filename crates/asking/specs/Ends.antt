@@ -9,7 +9,7 @@ use lib.Dec.{T}
 use lib.ListN.{length, getD, take, drop}
 use Rattle.predicates.specs.Lists.{keep, In}
 use Rattle.predicates.specs.Predicates.{holds}
-use Rattle.asking.specs.Search.{Fits, Best, rowTerms, preds, none}
+use Rattle.asking.specs.Search.{Fits, Best, rowTerms, Parted, preds, none}
 use Rattle.asking.specs.Tables.{outside}
 
 -- no end
@@ -41,6 +41,7 @@ pub record Ready (n rows : ℕ) (lefts rights counts masks order : List ℕ) : T
   pub ordered : rows ≤ length order
   pub placed : (j : ℕ) → j < rows → getD order j 0 < rows
   pub present : (k : ℕ) → k < rows → In k (take rows order)
+  pub parted : (k : ℕ) → k < rows → Parted counts masks k
 
 -- the predicates to be made true for the instant x
 unfoldable pub needs : ℕ → List ℕ → List ℕ → List ℕ → List ℕ → List ℕ → ℕ → List (List ℕ)

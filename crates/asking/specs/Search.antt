@@ -4,14 +4,14 @@
 use Prim.Native.Nat.{ℕ, _+_, _*_, _^_, _≤_, _<_}
 use mathlib.Core.Path.{_≡_}
 use mathlib.Core.Logic.{_⊎_}
-use mathlib.Core.Bool.{cond}
+use mathlib.Core.Bool.{Bool, _&&_, not, cond}
 use mathlib.Core.List.{List, [], _∷_}
-use lib.Dec.{T, leb}
+use lib.Dec.{T, eqb, leb, ltb}
 use lib.Count.{ones}
 use lib.ListN.{length, getD, take, drop}
 use Rattle.numbers.specs.Numbers.{tab}
-use Rattle.names.specs.Sets.{subset, union, shared}
-use Rattle.predicates.specs.Lists.{all}
+use Rattle.names.specs.Sets.{subset, union, shared, lowest}
+use Rattle.predicates.specs.Lists.{all, keep}
 use Rattle.predicates.specs.Predicates.{holds}
 
 -- ---- what is looked for
@@ -41,17 +41,36 @@ unfoldable pub skipped : ℕ → List (List ℕ) → List (List ℕ)
 skipped s [] = []
 skipped s (p ∷ ps) = cond (holds s p) (skipped s ps) (p ∷ ps)
 
--- s with the names that alone, beside s, make the predicate true within the limit
-unfoldable pub alone : ℕ → ℕ → List ℕ → ℕ
-alone limit s [] = s
-alone limit s (t ∷ p) = cond (leb (ones (union s t)) limit) (union (union s t) (alone limit s p)) (alone limit s p)
+-- d with the names that alone, beside s, make the predicate true within the limit
+unfoldable pub gather : ℕ → ℕ → ℕ → List ℕ → ℕ
+gather d limit s [] = d
+gather d limit s (t ∷ p) = cond (leb (ones (union s t)) limit) (union (union s t) (gather d limit s p)) (gather d limit s p)
+
+-- s with them
+abbrev pub alone : ℕ → ℕ → List ℕ → ℕ
+alone limit s p = gather s limit s p
 
 -- of the names in m those that alone do for every predicate that s leaves false
 unfoldable pub sieve : ℕ → ℕ → ℕ → List (List ℕ) → ℕ
 sieve limit s m [] = m
 sieve limit s m (p ∷ ps) = sieve limit s (cond (holds s p) m (shared m (alone limit s p))) ps
 
--- ---- predicates in a flat array: row k has its count at k and its terms from 16 * k on; `listed` has the rows in the order of the search
+-- ---- terms of one name, which most terms are
+
+unfoldable pub single : ℕ → Bool
+single t = ltb 0 t && eqb t (lowest t)
+
+-- the names that are terms of their own
+unfoldable pub singles : List ℕ → ℕ
+singles [] = 0
+singles (t ∷ p) = cond (single t) (union t (singles p)) (singles p)
+
+-- the other terms
+unfoldable pub several : List ℕ → List ℕ
+several p = keep (λ t. not (single t)) p
+
+-- ---- predicates in a flat array: row k has its count at k and its terms from 16 * k on; `listed` has the rows in the order of the search. Beside
+-- them, row k has its terms of several names again, from 768 + 16 * k on, with their count at 48 + k, and the others as one mask at 96 + k
 
 -- the predicate of row k
 abbrev pub rowTerms : List ℕ → List ℕ → ℕ → List ℕ
@@ -63,9 +82,17 @@ predAt listed counts masks j = rowTerms counts masks (getD listed j 0)
 unfoldable pub preds : ℕ → List ℕ → List ℕ → List ℕ → List (List ℕ)
 preds n listed counts masks = tab n (predAt listed counts masks)
 
+pub record Parted (counts masks : List ℕ) (k : ℕ) : Type 0 where
+  pub columns : 96 + k < length counts
+  pub narrow : getD counts (48 + k) 0 ≤ 16
+  pub room : 768 + k * 16 + getD counts (48 + k) 0 ≤ length masks
+  pub one : getD counts (96 + k) 0 ≡ singles (rowTerms counts masks k)
+  pub more : take (getD counts (48 + k) 0) (drop (768 + k * 16) masks) ≡ several (rowTerms counts masks k)
+
 -- the first n rows that are listed lie in the arrays
 pub record Rows (n : ℕ) (listed counts masks : List ℕ) : Type 0 where
   pub listed-long : n ≤ length listed
   pub counted : (j : ℕ) → j < n → getD listed j 0 < length counts
   pub narrow : (j : ℕ) → j < n → getD counts (getD listed j 0) 0 ≤ 16
   pub long : (j : ℕ) → j < n → getD listed j 0 * 16 + getD counts (getD listed j 0) 0 ≤ length masks
+  pub parted : (j : ℕ) → j < n → Parted counts masks (getD listed j 0)

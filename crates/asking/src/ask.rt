@@ -156,11 +156,10 @@ pub fn ask(s: &[u8], limit: u32) -> Answer
     let h = numbers::get32(s, 16) as usize;
     let n = numbers::get32(s, 20) as usize;
     let rows = n + h;
-    let mut counts = [0u32; 48];
-    let mut masks = [0u32; 768];
-    super::claims::get_terms(s, n, rows, &mut counts, &mut masks);
+    let mut counts = [0u32; 144];
+    let mut masks = [0u32; 1536];
     let mut order = [0u32; 48];
-    super::claims::by_terms(&counts, rows, &mut order);
+    super::claims::load(s, n, rows, &mut counts, &mut masks, &mut order);
     let free = names::others(own);
     let set = super::search::predicate_step(
         &order,

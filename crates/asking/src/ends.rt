@@ -6,7 +6,7 @@ ghost use Prim.Native.Nat.{ℕ, _+_, _*_, _≤_, _<_};
 ghost use lib.ListN.{length, getD, take};
 ghost use Rattle.numbers.specs.Numbers.{put};
 ghost use Rattle.predicates.specs.Lists.{keep};
-ghost use Rattle.asking.specs.Search.{none};
+ghost use Rattle.asking.specs.Search.{none, Parted};
 ghost use Rattle.asking.specs.Tables.{outside};
 ghost use Rattle.asking.specs.Ends.{Next, Last, IsEnd, Unbroken, FirstRun, Latest, Ready, First};
 
@@ -162,7 +162,7 @@ fn first_run(
 
 // The greatest left end of the rows from n on whose predicates the set leaves false; 0 where it makes all of them true.
 fn latest(lefts: &[u64], counts: &[u32], masks: &[u32], n: usize, rows: usize, set: u32) -> u64
-    requires { ⌜ (n ≤ rows) × (rows ≤ length (now lefts)) × (rows ≤ length (now counts)) × ((k : ℕ) → k < rows → k * 16 + getD (now counts) k 0 ≤ length (now masks)) ⌝ }
+    requires { ⌜ (n ≤ rows) × (rows ≤ length (now lefts)) × ((k : ℕ) → k < rows → Parted (now counts) (now masks) k) ⌝ }
     ensures { λ r. ⌜ Latest n rows (now (lefts .entry)) (now (counts .entry)) (now (masks .entry)) set r ⌝ }
 {
     let mut last: u64 = 0;

@@ -64,11 +64,10 @@ pub fn fewest_failures(s: &[u8]) -> Fewest
     let h = numbers::get32(s, 16) as usize;
     let n = numbers::get32(s, 20) as usize;
     let rows = n + h;
-    let mut counts = [0u32; 48];
-    let mut masks = [0u32; 768];
-    super::claims::get_terms(s, n, rows, &mut counts, &mut masks);
+    let mut counts = [0u32; 144];
+    let mut masks = [0u32; 1536];
     let mut order = [0u32; 48];
-    super::claims::by_terms(&counts, rows, &mut order);
+    super::claims::load(s, n, rows, &mut counts, &mut masks, &mut order);
     let mut lefts = [0u64; 48];
     let mut rights = [0u64; 48];
     super::claims::get_ends(s, n, rows, &mut lefts, &mut rights);

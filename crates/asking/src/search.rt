@@ -9,7 +9,7 @@ ghost use lib.Count.{ones};
 ghost use lib.ListN.{length, getD, take, drop};
 ghost use Rattle.names.specs.Sets.{subset, union, shared, less};
 ghost use Rattle.predicates.specs.Predicates.{holds as Predicates·holds};
-ghost use Rattle.asking.specs.Search.{Best, Rows, rowTerms, predAt, preds, skipped, alone};
+ghost use Rattle.asking.specs.Search.{Best, Rows, rowTerms, Parted, predAt, preds, skipped, gather, alone};
 
 // The lesser of two masks.
 pub fn lesser(a: u32, b: u32) -> u32
@@ -38,19 +38,22 @@ pub fn terms_at(listed: &[u32], counts: &[u32], masks: &[u32], j: usize) -> Part
     Part { at, end }
 }
 
-// Whether the set makes the predicate of the row true.
+// Whether the set makes the predicate of the row true: it has a name that is a term, or one of the terms of several names.
 pub fn row_holds(counts: &[u32], masks: &[u32], row: usize, set: u32) -> bool
-    requires { ⌜ (row < length (now counts)) × (row * 16 + getD (now counts) row 0 ≤ length (now masks)) ⌝ }
+    requires { ⌜ Parted (now counts) (now masks) row ⌝ }
     ensures { λ r. ⌜ r ≡ Predicates·holds set (rowTerms (now (counts .entry)) (now (masks .entry)) row) ⌝ }
 {
-    let at = row * 16;
-    let end = at + counts[row] as usize;
+    if 0 < names::shared(counts[96 + row], set) {
+        return true;
+    }
+    let at = 768 + row * 16;
+    let end = at + counts[48 + row] as usize;
     predicates::holds(&masks[at..end], set)
 }
 
 // Whether the set makes the predicate at place j true.
 fn explained(listed: &[u32], counts: &[u32], masks: &[u32], j: usize, set: u32) -> bool
-    requires { ⌜ (j < length (now listed)) × (getD (now listed) j 0 < length (now counts)) × (getD (now listed) j 0 * 16 + getD (now counts) (getD (now listed) j 0) 0 ≤ length (now masks)) ⌝ }
+    requires { ⌜ (j < length (now listed)) × Parted (now counts) (now masks) (getD (now listed) j 0) ⌝ }
     ensures { λ r. ⌜ r ≡ Predicates·holds set (predAt (now (listed .entry)) (now (counts .entry)) (now (masks .entry)) j) ⌝ }
 {
     row_holds(counts, masks, listed[j] as usize, set)
@@ -78,12 +81,12 @@ fn next_unexplained(
     n
 }
 
-// Of the names those that alone, beside the set, make the terms' sum true; all of them where the set makes it true. A term that the set does not hold
-// adds one name where its lowest is all that it adds.
-fn sift_terms(p: &[u32], set: u32, names: u32) -> u32
-    ensures { λ r. ⌜ r ≡ cond (Predicates·holds set (now (p .entry))) names (shared names (alone (ones set + 1) set (now (p .entry)))) ⌝ }
+// Of the names those that are in `base` or alone, beside the set, make the terms' sum true; all of them where the set makes it true. A term that the
+// set does not hold adds one name where its lowest is all that it adds.
+fn sift_terms(p: &[u32], set: u32, base: u32, names: u32) -> u32
+    ensures { λ r. ⌜ r ≡ cond (Predicates·holds set (now (p .entry))) names (shared names (gather base (ones set + 1) set (now (p .entry)))) ⌝ }
 {
-    let mut does = set;
+    let mut does = base;
     let mut i: usize = p.len();
     while 0 < i {
         i -= 1;
@@ -99,15 +102,19 @@ fn sift_terms(p: &[u32], set: u32, names: u32) -> u32
     names::shared(names, does)
 }
 
-// The same for the predicate at place j.
+// Of the names those that alone, beside the set, make the predicate at place j true; all of them where the set makes it true.
 fn sift(listed: &[u32], counts: &[u32], masks: &[u32], j: usize, set: u32, names: u32) -> u32
-    requires { ⌜ (j < length (now listed)) × (getD (now listed) j 0 < length (now counts)) × (getD (now listed) j 0 * 16 + getD (now counts) (getD (now listed) j 0) 0 ≤ length (now masks)) ⌝ }
+    requires { ⌜ (j < length (now listed)) × Parted (now counts) (now masks) (getD (now listed) j 0) ⌝ }
     ensures { λ r. ⌜ r ≡ cond (Predicates·holds set (predAt (now (listed .entry)) (now (counts .entry)) (now (masks .entry)) j)) names (shared names (alone (ones set + 1) set (predAt (now (listed .entry)) (now (counts .entry)) (now (masks .entry)) j))) ⌝ }
 {
-    let part = terms_at(listed, counts, masks, j);
-    let at = part.at;
-    let end = part.end;
-    sift_terms(&masks[at..end], set, names)
+    let row = listed[j] as usize;
+    let one = counts[96 + row];
+    if 0 < names::shared(one, set) {
+        return names;
+    }
+    let at = 768 + row * 16;
+    let end = at + counts[48 + row] as usize;
+    sift_terms(&masks[at..end], set, names::union(set, one), names)
 }
 
 // With one name left to add: the least set that makes the predicates from k on true, or `best`.

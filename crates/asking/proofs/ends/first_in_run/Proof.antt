@@ -26,7 +26,7 @@ abbrev μ-loop : tie.MeasureT-loop
 latest-requires : tie.Need-latest-requires Inv-loop μ-loop
 latest-requires c κs =
     let ready = c .before .before .before .before .before .before .pre .0 .0 in
-    (ready .entries-le, ready .lefts-long, ready .counted, λ k h. omega (arith, ready .narrow k h, ready .long))
+    (ready .entries-le, ready .lefts-long, ready .parted)
 
 next-end-requires : tie.Need-next-end-requires Inv-loop μ-loop
 next-end-requires c κs =
@@ -88,7 +88,7 @@ returns c =
 latest-requires-2 : tie.Need-latest-requires-2 Inv-loop μ-loop
 latest-requires-2 c κs =
     let ready = c .before .before .before .before .before .before .before .before .before .before .before .before .before .before .before .before .before .before .pre .0 .0 in
-    (ready .entries-le, ready .lefts-long, ready .counted, λ k h. omega (arith, ready .narrow k h, ready .long))
+    (ready .entries-le, ready .lefts-long, ready .parted)
 
 next-end-requires-2 : tie.Need-next-end-requires-2 Inv-loop μ-loop
 next-end-requires-2 c κs =

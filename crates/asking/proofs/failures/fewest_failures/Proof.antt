@@ -21,24 +21,45 @@ Inv-loop s own h n rows counts masks order lefts rights free listed₀ limit₀ 
 abbrev μ-loop : tie.MeasureT-loop
 μ-loop s own h n rows counts masks order lefts rights free listed₀ limit₀ listed limit = 5 - limit
 
-get-terms-requires : tie.Need-get-terms-requires Inv-loop μ-loop
-get-terms-requires c κs =
-    let at-n = c .before .before in
-    let a = at-n .before .before .before .before in
-    let fit = rows-fit _ (a .pre .1) _ _ (at-n .get323 .ensures .0) (at-n .before .get322 .ensures .0) in
-    (a .pre .0, omega arith, omega arith, omega arith, omega arith)
+get32-requires : tie.Need-get32-requires Inv-loop μ-loop
+get32-requires c κs = search needs
 
-by-terms-requires : tie.Need-by-terms-requires Inv-loop μ-loop
-by-terms-requires c κs =
-    let at-terms = c .before .before .before .before in
-    let at-n = at-terms .before .before .before in
-    let a = at-n .before .before .before .before in
-    let fit = rows-fit _ (a .pre .1) _ _ (at-n .get323 .ensures .0) (at-n .before .get322 .ensures .0) in
-    (omega (arith, at-terms .get-terms .kept .1 .1 .1 .0), omega arith, omega arith)
+get32-requires-2 : tie.Need-get32-requires-2 Inv-loop μ-loop
+get32-requires-2 c κs = search needs
+
+cast-h : tie.Need-cast-h Inv-loop μ-loop
+cast-h c = search needs
+
+get32-requires-3 : tie.Need-get32-requires-3 Inv-loop μ-loop
+get32-requires-3 c κs = search needs
+
+cast-n : tie.Need-cast-n Inv-loop μ-loop
+cast-n c = search needs
+
+add-rows : tie.Need-add-rows Inv-loop μ-loop
+add-rows c = search needs
+
+slice-aggregate-load : tie.Need-slice-aggregate-load Inv-loop μ-loop
+slice-aggregate-load c = search needs
+
+slice-aggregate-load-2 : tie.Need-slice-aggregate-load-2 Inv-loop μ-loop
+slice-aggregate-load-2 c = search needs
+
+slice-aggregate-load-3 : tie.Need-slice-aggregate-load-3 Inv-loop μ-loop
+slice-aggregate-load-3 c = search needs
+
+load-requires : tie.Need-load-requires Inv-loop μ-loop
+load-requires c κs = search needs
+
+slice-aggregate-get-ends : tie.Need-slice-aggregate-get-ends Inv-loop μ-loop
+slice-aggregate-get-ends c = search needs
+
+slice-aggregate-get-ends-2 : tie.Need-slice-aggregate-get-ends-2 Inv-loop μ-loop
+slice-aggregate-get-ends-2 c = search needs
 
 get-ends-requires : tie.Need-get-ends-requires Inv-loop μ-loop
 get-ends-requires c κs =
-    let at-n = c .before .before .before .before .before .before .before .before .before .before .before in
+    let at-n = c .before .before .before .before .before .before .before .before .before in
     let a = at-n .before .before .before .before in
     let fit = rows-fit _ (a .pre .1) _ _ (at-n .get323 .ensures .0) (at-n .before .get322 .ensures .0) in
     (a .pre .0, omega arith, omega arith, omega arith, omega arith)
@@ -46,7 +67,7 @@ get-ends-requires c κs =
 others-requires : tie.Need-others-requires Inv-loop μ-loop
 unfolding stateOf headOf
 others-requires c κs =
-    let at-own = c .before .before .before .before .before .before .before .before .before .before .before .before .before .before .before .before in
+    let at-own = c .before .before .before .before .before .before .before .before .before .before .before .before .before .before in
     let a = at-own .before .before in
     omega (arith, at-own .get32 .ensures .0, state-out _ (form-ok _ (a .pre .1)) .own-le)
 
@@ -54,17 +75,35 @@ loop-holds : tie.Need-loop-holds Inv-loop μ-loop
 unfolding stateOf headOf
 loop-holds c =
     let at-ends = c .before .before .before in
-    let at-order = at-ends .before .before .before .before in
-    let at-terms = at-order .before .before .before .before .before in
-    let at-n = at-terms .before .before .before in
-    let a = at-n .before .before .before .before in (
+    let at-load = at-ends .before .before .before .before .before .before in
+    let at-n = at-load .before .before .before .before in
+    let a = at-n .before .before .before .before in
+    let load = at-load .load .ensures in (
       refl,
       omega arith,
-      prepared-in _ (a .pre .1) _ _ (at-n .get323 .ensures .0) (at-n .before .get322 .ensures .0) _ _ _ _ _ (at-terms .get-terms .ensures .0)
-          (at-terms .get-terms .ensures .1) (at-order .by-terms .ensures) (at-ends .get-ends .ensures .0) (at-ends .get-ends .ensures .1),
+      prepared-in _ (a .pre .1) _ _ (at-n .get323 .ensures .0) (at-n .before .get322 .ensures .0) _ _ _ _ _ (load .0) (load .1)
+          (at-ends .get-ends .ensures .0) (at-ends .get-ends .ensures .1),
       c .others .ensures ∙ ap others (at-n .before .before .get32 .ensures .0),
       floor-none _,
     )
+
+slice-aggregate-least-set : tie.Need-slice-aggregate-least-set Inv-loop μ-loop
+slice-aggregate-least-set c = search needs
+
+slice-aggregate-least-set-2 : tie.Need-slice-aggregate-least-set-2 Inv-loop μ-loop
+slice-aggregate-least-set-2 c = search needs
+
+slice-aggregate-least-set-3 : tie.Need-slice-aggregate-least-set-3 Inv-loop μ-loop
+slice-aggregate-least-set-3 c = search needs
+
+slice-aggregate-least-set-4 : tie.Need-slice-aggregate-least-set-4 Inv-loop μ-loop
+slice-aggregate-least-set-4 c = search needs
+
+slice-aggregate-least-set-5 : tie.Need-slice-aggregate-least-set-5 Inv-loop μ-loop
+slice-aggregate-least-set-5 c = search needs
+
+slice-aggregate-least-set-6 : tie.Need-slice-aggregate-least-set-6 Inv-loop μ-loop
+slice-aggregate-least-set-6 c = search needs
 
 least-set-requires : tie.Need-least-set-requires Inv-loop μ-loop
 least-set-requires c κs =
@@ -76,6 +115,12 @@ returns c =
     let head = c .before .before .before .before .before .before .before .before .before .before in
     let inv = head .loop .inv in
     floor-found (inv .2) (omega arith) (rw (inv .3) at (c .before .before .least-set .ensures)) (inv .4) (c .if1 .taken)
+
+add-limit : tie.Need-add-limit Inv-loop μ-loop
+add-limit c = search needs
+
+loop-less : tie.Need-loop-less Inv-loop μ-loop
+loop-less c = search needs
 
 loop-again : tie.Need-loop-again Inv-loop μ-loop
 loop-again c =
@@ -100,32 +145,30 @@ fewest-failures-spec =
     (tie.spec
     Inv-loop
     μ-loop
-    (λ c κs. search needs)
-    (λ c κs. search needs)
-    (λ c. search needs)
-    (λ c κs. search needs)
-    (λ c. search needs)
-    (λ c. search needs)
-    (λ c. search needs)
-    (λ c. search needs)
-    get-terms-requires
-    (λ c. search needs)
-    (λ c. search needs)
-    by-terms-requires
-    (λ c. search needs)
-    (λ c. search needs)
+    get32-requires
+    get32-requires-2
+    cast-h
+    get32-requires-3
+    cast-n
+    add-rows
+    slice-aggregate-load
+    slice-aggregate-load-2
+    slice-aggregate-load-3
+    load-requires
+    slice-aggregate-get-ends
+    slice-aggregate-get-ends-2
     get-ends-requires
     others-requires
     loop-holds
-    (λ c. search needs)
-    (λ c. search needs)
-    (λ c. search needs)
-    (λ c. search needs)
-    (λ c. search needs)
-    (λ c. search needs)
+    slice-aggregate-least-set
+    slice-aggregate-least-set-2
+    slice-aggregate-least-set-3
+    slice-aggregate-least-set-4
+    slice-aggregate-least-set-5
+    slice-aggregate-least-set-6
     least-set-requires
     returns
-    (λ c. search needs)
-    (λ c. search needs)
+    add-limit
+    loop-less
     loop-again
     returns-2)

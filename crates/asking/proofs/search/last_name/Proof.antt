@@ -38,7 +38,7 @@ sift-requires c κs =
     let a = head .before .before .before .before .before in
     let rows = a .pre .0 .0 in
     let h = c .before .loop-test .taken in
-    (omega (arith, rows .listed-long), rows .counted (head .loop .j) h, rows .long (head .loop .j) h)
+    (omega (arith, rows .listed-long), rows .parted (head .loop .j) h)
 
 loop-again : tie.Need-loop-again Inv-loop μ-loop
 loop-again c =

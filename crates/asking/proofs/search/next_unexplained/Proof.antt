@@ -28,7 +28,7 @@ explained-requires c κs =
     let a = head .before .before .before .before in
     let rows = a .pre .0 in
     let h = c .loop-test .taken in
-    (omega (arith, rows .listed-long), rows .counted (head .loop .k) h, rows .long (head .loop .k) h)
+    (omega (arith, rows .listed-long), rows .parted (head .loop .k) h)
 
 returns : tie.Need-returns Inv-loop μ-loop
 returns c =

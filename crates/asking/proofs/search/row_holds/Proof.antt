@@ -1,20 +1,35 @@
--- `asking::search::row_holds` meets its contract: the predicate is a part of the array.
-use mathlib.Core.Path.{refl, ap, _∙_}
-use Rattle.predicates.specs.Predicates.{holds}
-use Rattle.asking.proofs.SearchSteps.{row-part}
+-- `asking::search::row_holds` meets its contract: the mask has a name of the set, or the terms of several names decide (`PartedLaws`).
+use mathlib.Core.Path.{refl, sym, _∙_}
 use borrow.Author.Needs.{needs}
+use Rattle.asking.proofs.PartedLaws.{row-hit, row-miss}
 use Rattle.asking.proofs.search.row_holds.Statement.{statement}
 use Rattle.asking.proofs.search.row_holds.Tie as tie
 
 returns : tie.Need-returns
 returns c =
-    let a = c .before .before .before .before .before .args in
-    c .holds .ensures ∙ ap (holds (a .set)) (row-part (a .counts .now) (a .masks .now) (a .row) _ _ refl refl)
+    let at-shared = c .before in
+    let a = at-shared .before .before .before .before in
+    sym (row-hit (a .args .counts .now) (a .args .masks .now) (a .args .row) (a .args .set) (a .pre) _ (at-shared .shared .ensures) (c .if1 .taken))
+
+returns-2 : tie.Need-returns-2
+returns-2 c =
+    let at-shared = c .before .before .before .before in
+    let a = at-shared .before .before .before .before in
+    c .holds .ensures
+    ∙ row-miss (a .args .counts .now) (a .args .masks .now) (a .args .row) (a .args .set) (a .pre) _ (at-shared .shared .ensures)
+    (c .before .before .before .if1 .left) _ refl
 
 pub row-holds-spec : {M : Type 1} → statement M
 row-holds-spec =
     tie.close
     (tie.spec
+    (λ c. search needs)
+    (λ c. search needs)
+    (λ c. search needs)
+    (λ c κs. search needs)
+    returns
+    (λ c. search needs)
+    (λ c. search needs)
     (λ c. search needs)
     (λ c. search needs)
     (λ c. search needs)
@@ -25,4 +40,4 @@ row-holds-spec =
     (λ c. search needs)
     (λ c. search needs)
     (λ c κs. search needs)
-    returns)
+    returns-2)

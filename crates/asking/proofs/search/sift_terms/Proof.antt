@@ -8,23 +8,23 @@ use borrow.Author.Needs.{needs}
 use lib.Count.{ones}
 use lib.ListN.{length, drop}
 use Rattle.predicates.specs.Predicates.{holds}
-use Rattle.asking.specs.Search.{alone}
+use Rattle.asking.specs.Search.{gather}
 use Rattle.asking.proofs.EndSteps.{at-in}
 use Rattle.asking.proofs.SearchSteps.{terms-hold, terms-false, terms-with, terms-past, terms-done, terms-start}
 use Rattle.asking.proofs.search.sift_terms.Statement.{statement}
 use Rattle.asking.proofs.search.sift_terms.Tie as tie
 
 abbrev Inv-loop : tie.InvT-loop
-Inv-loop p set names does₀ i₀ does i =
-    (i ≤ length p) × (does ≡ alone (ones set + 1) set (drop i p)) × (holds set (drop i p) ≡ false)
+Inv-loop p set base names does₀ i₀ does i =
+    (i ≤ length p) × (does ≡ gather base (ones set + 1) set (drop i p)) × (holds set (drop i p) ≡ false)
 
 abbrev μ-loop : tie.MeasureT-loop
-μ-loop p set names does₀ i₀ does i = i
+μ-loop p set base names does₀ i₀ does i = i
 
 loop-holds : tie.Need-loop-holds Inv-loop μ-loop
 loop-holds c =
     let a = c .before .args in
-    let start = terms-start (ones (a .set) + 1) (a .set) (a .p .now) in
+    let start = terms-start (a .base) (ones (a .set) + 1) (a .set) (a .p .now) in
     (search needs, start .0, start .1)
 
 returns : tie.Need-returns Inv-loop μ-loop
@@ -44,10 +44,10 @@ loop-again c =
     let head = term .before .before .before in
     let inv = head .loop .inv in (
       omega arith,
-      terms-with _ _ (head .loop .i) _ _ (term .before .before .loop-test .taken) (inv .0) (inv .1) (inv .2) (term .less .ensures)
+      terms-with _ _ _ (head .loop .i) _ _ (term .before .before .loop-test .taken) (inv .0) (inv .1) (inv .2) (term .less .ensures)
           (c .before .before .before .before .if1 .left) (c .before .before .if2 .taken ∙ c .before .before .before .lowest .ensures) _ _
           (c .before .union .ensures) (c .union2 .ensures),
-      terms-false _ _ (head .loop .i) _ _ (term .before .before .loop-test .taken) (inv .0) (inv .1) (inv .2) (term .less .ensures)
+      terms-false _ _ _ (head .loop .i) _ _ (term .before .before .loop-test .taken) (inv .0) (inv .1) (inv .2) (term .less .ensures)
           (c .before .before .before .before .if1 .left),
     )
 
@@ -57,9 +57,9 @@ loop-again-2 c =
     let head = term .before .before .before in
     let inv = head .loop .inv in (
       omega arith,
-      terms-past _ _ (head .loop .i) _ _ (term .before .before .loop-test .taken) (inv .0) (inv .1) (inv .2) (term .less .ensures)
+      terms-past _ _ _ (head .loop .i) _ _ (term .before .before .loop-test .taken) (inv .0) (inv .1) (inv .2) (term .less .ensures)
           (c .before .before .if1 .left) (λ q. c .if2 .left (q ∙ sym (c .before .lowest .ensures))),
-      terms-false _ _ (head .loop .i) _ _ (term .before .before .loop-test .taken) (inv .0) (inv .1) (inv .2) (term .less .ensures)
+      terms-false _ _ _ (head .loop .i) _ _ (term .before .before .loop-test .taken) (inv .0) (inv .1) (inv .2) (term .less .ensures)
           (c .before .before .if1 .left),
     )
 
@@ -67,7 +67,7 @@ returns-2 : tie.Need-returns-2 Inv-loop μ-loop
 returns-2 c =
     let head = c .before .before .loop in
     let done : head .i ≡ 0 = omega arith in
-    terms-done _ _ _ _ _ (rw done at (head .inv .1)) (rw done at (head .inv .2)) (c .shared .ensures)
+    terms-done _ _ _ _ _ _ (rw done at (head .inv .1)) (rw done at (head .inv .2)) (c .shared .ensures)
 
 pub sift-terms-spec : {M : Type 1} → statement M
 sift-terms-spec =
