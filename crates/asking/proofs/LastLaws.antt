@@ -8,7 +8,8 @@ use mathlib.Core.Bool.{not, cond}
 use mathlib.Core.List.{List, [], _∷_}
 use native.Mathlib.Nat.{le-trans}
 use native.Mathlib.Omega.{arith}
-use lib.Dec.{T, T-not, leb, leb→le, le→leb}
+use lib.Dec.{T, T-not, eqb, leb, leb→le, le→leb}
+use borrow.Author.Tests.{eq-eqb, ne-eqb}
 use lib.Count.{ones}
 use Rattle.names.specs.Sets.{subset, union, shared, less, lowest, digit}
 use Rattle.names.proofs.SetLaws.{digit-lt, digit-union, digit-empty, digits-ext, subset-in, subset-out, subset-refl, subset-trans, subset-antisym, union-left, union-right, union-least, ones-mono, ones-union}
@@ -59,6 +60,33 @@ one-added s t h few =
 
     same : union s c ≡ union s t
     same = subset-same (union s c) (union s t) part (omega (arith, more))
+
+-- what is free once a term was tried: v is what it adds
+module _ (s t free v : ℕ) (a : v ≡ less t s) where
+  abbrev after : ℕ
+  after = cond (eqb (ones (union s t)) (ones s + 1)) (less free t) free
+
+  pub freed-none : v ≡ 0 → free ≡ after
+  freed-none z =
+      let held = union-least s t s (subset-refl s) (adds-none s t (sym a ∙ z)) in
+      rw (ne-eqb (ones (union s t)) (ones s + 1) (λ e. omega (arith, e, ones-mono (union s t) s held))) refl
+
+  module _ (f : v ≡ 0 → ⊥) where
+    some : 0 < less t s
+    some = rw a at (above v f)
+      where
+        above : (x : ℕ) → (x ≡ 0 → ⊥) → 0 < x
+        above x k = omega arith
+
+    pub freed-one : v ≡ lowest v → (r : ℕ) → r ≡ less free t → r ≡ after
+    freed-one k r e =
+        let more = ones-more s (union s t) (union-left s t) (λ q.
+        adds-some s t (λ z. f (a ∙ z)) (subst (λ (x : ℕ). T (subset t x)) (sym q) (union-right s t))) in
+        rw (eq-eqb (ones (union s t)) (ones s + 1) (omega (arith, more, adds-one s t some (sym a ∙ k ∙ ap lowest a)))) e
+
+    pub freed-more : (v ≡ lowest v → ⊥) → free ≡ after
+    freed-more k =
+        rw (ne-eqb (ones (union s t)) (ones s + 1) (λ e. k (a ∙ one-added s t some (omega (arith, e)) ∙ ap lowest (sym a)))) refl
 
 module _ (limit s : ℕ) (last : ones s + 1 ≡ limit) where
   -- ---- the names that alone do for one predicate

@@ -169,7 +169,11 @@ pub fn worth(t: u32, set: u32, free: u32, limit: u32, best: u32) -> bool
 pub fn freed(t: u32, set: u32, free: u32) -> u32
     ensures { λ r. ⌜ r ≡ cond (eqb (ones (union set t)) (ones set + 1)) (less free t) free ⌝ }
 {
-    if names::count(names::union(set, t)) == names::count(set) + 1 {
+    let added = names::less(t, set);
+    if added == 0 {
+        return free;
+    }
+    if added == names::lowest(added) {
         return names::less(free, t);
     }
     free
@@ -241,9 +245,11 @@ pub fn term_step(
         return best;
     }
     let t = masks[at];
+    let mut left = free;
+    let mut found = best;
     if worth(t, set, free, limit, best) {
         let wider = names::union(set, t);
-        let found = predicate_step(
+        found = predicate_step(
             listed,
             counts,
             masks,
@@ -258,21 +264,7 @@ pub fn term_step(
         if found < enough {
             return found;
         }
-        let left = freed(t, set, free);
-        return term_step(
-            listed,
-            counts,
-            masks,
-            n,
-            limit,
-            enough,
-            i,
-            at + 1,
-            end,
-            set,
-            left,
-            found,
-        );
+        left = freed(t, set, free);
     }
     term_step(
         listed,
@@ -285,7 +277,7 @@ pub fn term_step(
         at + 1,
         end,
         set,
-        free,
-        best,
+        left,
+        found,
     )
 }

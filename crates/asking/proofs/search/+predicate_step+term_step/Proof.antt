@@ -3,6 +3,7 @@
 use borrow.Author.Needs.{needs}
 use Prim.Native.Nat.{ℕ, _+_, _-_, _*_, _<_}
 use mathlib.Core.Path.{sym, _∙_}
+use mathlib.Core.Logic.{⊎-elim}
 use native.Mathlib.Omega.{arith}
 use Rattle.asking.proofs.SearchSteps.{next-false, step-back, step-done, step-full, step-terms, term-none, term-skip, term-stop, term-on, worth-few}
 use borrow.Fn.Kinds.{In}
@@ -146,32 +147,26 @@ term-step-returns-2 t c =
 
 term-step-term-step-requires : (t : ℕ) → term-step-lts.Need-term-step-requires (term-step-claims t) (term-step-at t) term-step.Post
 term-step-term-step-requires t c κs =
-    let a = c .before .before .before .before .before .before .before .before .before .before .before in
-    let h = c .before .before .before .before .before .before .before .if1 .left in
-    let long = a .pre .1 .3 in
-    (omega (arith, a .pre .0), (a .pre .1 .0, a .pre .1 .1, omega (arith, a .pre .1 .2), long, a .pre .1 .4))
-
-term-step-returns-3 : (t : ℕ) → term-step-lts.Need-returns-3 (term-step-claims t) (term-step-at t) term-step.Post
-term-step-returns-3 t c =
-    let a = c .before .before .before .before .before .before .before .before .before .before .before .before in
-    let h = c .before .before .before .before .before .before .before .before .if1 .left in
-    let long = a .pre .1 .3 in
-    term-on (a .args .enough) (a .args .limit) (a .args .set) (a .args .free) (a .args .best) (a .args .masks .now) (a .args .at) (a .args .end) _ h long _ (sym (c .before .before .before .before .before .before .worth .ensures) ∙ c .before .before .before .before .before .if2 .taken) (rw (c .before .before .before .before .union .ensures) at (c .before .before .before .predicate-step .ensures)) _ _ (c .before .before .if3 .left)
-    (c .before .freed .ensures) (c .term-step .ensures)
-
-term-step-term-step-requires-2 : (t : ℕ) → term-step-lts.Need-term-step-requires-2 (term-step-claims t) (term-step-at t) term-step.Post
-term-step-term-step-requires-2 t c κs =
     let a = c .before .before .before .before .before .before .before in
     let h = c .before .before .before .if1 .left in
     let long = a .pre .1 .3 in
     (omega (arith, a .pre .0), (a .pre .1 .0, a .pre .1 .1, omega (arith, a .pre .1 .2), long, a .pre .1 .4))
 
-term-step-returns-4 : (t : ℕ) → term-step-lts.Need-returns-4 (term-step-claims t) (term-step-at t) term-step.Post
-term-step-returns-4 t c =
-    let a = c .before .before .before .before .before .before .before .before in
-    let h = c .before .before .before .before .if1 .left in
+term-step-returns-3 : (t : ℕ) → term-step-lts.Need-returns-3 (term-step-claims t) (term-step-at t) term-step.Post
+term-step-returns-3 t c =
+    let joined = c .before in
+    let a = joined .before .before .before .before .before .before .before in
+    let h = joined .before .before .before .if1 .left in
     let long = a .pre .1 .3 in
-    term-skip (a .args .enough) (a .args .limit) (a .args .set) (a .args .free) (a .args .best) (a .args .masks .now) (a .args .at) (a .args .end) _ h long _ (sym (c .before .before .worth .ensures) ∙ c .before .if2 .left) (c .term-step2 .ensures)
+    let test = sym (joined .before .worth .ensures) in
+    ⊎-elim
+    (λ w.
+    term-on (a .args .enough) (a .args .limit) (a .args .set) (a .args .free) (a .args .best) (a .args .masks .now) (a .args .at) (a .args .end) _ h long _
+    (test ∙ w .0 .taken) (rw (w .1 .ensures) at (w .2 .ensures)) _ _ (w .3 .left) (w .4 .ensures) (rw (w .5, w .6) at (c .term-step .ensures)))
+    (λ w.
+    term-skip (a .args .enough) (a .args .limit) (a .args .set) (a .args .free) (a .args .best) (a .args .masks .now) (a .args .at) (a .args .end) _ h long _
+    (test ∙ w .0 .left) (rw (w .1, w .2) at (c .term-step .ensures)))
+    (joined .if2 .came)
 
 pub +predicate-step+term-step-spec : {M : Type 1} → statement M
 +predicate-step+term-step-spec =
@@ -200,6 +195,3 @@ pub +predicate-step+term-step-spec : {M : Type 1} → statement M
     (λ c. search needs)
     (term-step-term-step-requires t)
     (term-step-returns-3 t)
-    (λ c. search needs)
-    (term-step-term-step-requires-2 t)
-    (term-step-returns-4 t)

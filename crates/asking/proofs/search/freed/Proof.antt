@@ -1,17 +1,24 @@
--- `asking::search::freed` meets its contract: one test.
-use Rattle.names.specs.Sets.{union}
-use Rattle.asking.proofs.SearchSteps.{freed-one, freed-more}
+-- `asking::search::freed` meets its contract: a term adds one name where the lowest of what it adds is all of it.
+use mathlib.Core.Path.{sym, _∙_}
 use borrow.Author.Needs.{needs}
+use Rattle.asking.proofs.LastLaws.{freed-none, freed-one, freed-more}
 use Rattle.asking.proofs.search.freed.Statement.{statement}
 use Rattle.asking.proofs.search.freed.Tie as tie
 
 returns : tie.Need-returns
-returns c = freed-one _ _ _ _ _ _ (c .before .before .before .before .union .ensures) (c .before .before .before .count .ensures .0) (c .before .before .count2 .ensures .0) (c .before .if1 .taken) _ (c .less .ensures)
+returns c = freed-none _ _ _ _ (c .before .less .ensures) (c .if1 .taken)
 
 returns-2 : tie.Need-returns-2
-returns-2 c = freed-more _ _ _ _ _ _ (c .before .before .before .union .ensures) (c .before .before .count .ensures .0) (c .before .count2 .ensures .0) (c .if1 .left)
+returns-2 c =
+    freed-one _ _ _ _ (c .before .before .before .before .less .ensures) (c .before .before .before .if1 .left)
+    (c .before .if2 .taken ∙ c .before .before .lowest .ensures) _ (c .less2 .ensures)
+
+returns-3 : tie.Need-returns-3
+returns-3 c =
+    freed-more _ _ _ _ (c .before .before .before .less .ensures) (c .before .before .if1 .left)
+    (λ q. c .if2 .left (q ∙ sym (c .before .lowest .ensures)))
 
 pub freed-spec : {M : Type 1} → statement M
 freed-spec =
     tie.close
-    (tie.spec (λ c κs. search needs) (λ c κs. search needs) (λ c κs. search needs) (λ c. search needs) (λ c κs. search needs) returns returns-2)
+    (tie.spec (λ c κs. search needs) returns (λ c κs. search needs) (λ c κs. search needs) returns-2 returns-3)
