@@ -10,56 +10,14 @@ use borrow.Author.Needs.{needs}
 use Rattle.asking.proofs.ask.ask.Statement.{statement}
 use Rattle.asking.proofs.ask.ask.Tie as tie
 
-plain-requires : tie.Need-plain-requires
-plain-requires c κs = search needs
-
 returns : tie.Need-returns
 returns c = rw (c .before .if1 .taken) (c .plain .ensures)
-
-get32-requires : tie.Need-get32-requires
-get32-requires c κs = search needs
-
-get32-requires-2 : tie.Need-get32-requires-2
-get32-requires-2 c κs = search needs
-
-cast-h : tie.Need-cast-h
-cast-h c = search needs
-
-get32-requires-3 : tie.Need-get32-requires-3
-get32-requires-3 c κs = search needs
-
-cast-n : tie.Need-cast-n
-cast-n c = search needs
-
-add-rows : tie.Need-add-rows
-add-rows c = search needs
-
-slice-aggregate-load : tie.Need-slice-aggregate-load
-slice-aggregate-load c = search needs
-
-slice-aggregate-load-2 : tie.Need-slice-aggregate-load-2
-slice-aggregate-load-2 c = search needs
-
-slice-aggregate-load-3 : tie.Need-slice-aggregate-load-3
-slice-aggregate-load-3 c = search needs
-
-load-requires : tie.Need-load-requires
-load-requires c κs = search needs
 
 others-requires : tie.Need-others-requires
 others-requires c κs =
     let at-n = c .before .before .before .before .before .before .before in
     let a = at-n .before .before .before .before .before in
     omega (arith, at-n .before .before .get32 .ensures .0, own-fits (a .args .s .now) (a .pre .1))
-
-slice-aggregate-predicate-step : tie.Need-slice-aggregate-predicate-step
-slice-aggregate-predicate-step c = search needs
-
-slice-aggregate-predicate-step-2 : tie.Need-slice-aggregate-predicate-step-2
-slice-aggregate-predicate-step-2 c = search needs
-
-slice-aggregate-predicate-step-3 : tie.Need-slice-aggregate-predicate-step-3
-slice-aggregate-predicate-step-3 c = search needs
 
 predicate-step-requires : tie.Need-predicate-step-requires
 predicate-step-requires c κs =
@@ -74,15 +32,6 @@ returns-2 c =
     let load = at-load .load .ensures in
     asked-open (a .args .s .now) (a .pre .1) _ _ _ _ _ (load .0) (load .1) (a .args .limit) _ _ (c .before .before .before .before .before .others .ensures ∙ ap others (at-n .before .before .get32 .ensures .0))
     (c .before .predicate-step .ensures) (c .if2 .taken)
-
-slice-aggregate-between : tie.Need-slice-aggregate-between
-slice-aggregate-between c = search needs
-
-slice-aggregate-between-2 : tie.Need-slice-aggregate-between-2
-slice-aggregate-between-2 c = search needs
-
-slice-aggregate-between-3 : tie.Need-slice-aggregate-between-3
-slice-aggregate-between-3 c = search needs
 
 between-requires : tie.Need-between-requires
 between-requires c κs =
@@ -103,33 +52,30 @@ between-requires c κs =
       ),
     )
 
-returns-3 : tie.Need-returns-3
-returns-3 c = search needs
-
 pub ask-spec : {M : Type 1} → statement M
 ask-spec =
     tie.close
     (tie.spec
-    plain-requires
+    (λ c κs. search needs)
     returns
-    get32-requires
-    get32-requires-2
-    cast-h
-    get32-requires-3
-    cast-n
-    add-rows
-    slice-aggregate-load
-    slice-aggregate-load-2
-    slice-aggregate-load-3
-    load-requires
+    (λ c κs. search needs)
+    (λ c κs. search needs)
+    (λ c. search needs)
+    (λ c κs. search needs)
+    (λ c. search needs)
+    (λ c. search needs)
+    (λ c. search needs)
+    (λ c. search needs)
+    (λ c. search needs)
+    (λ c κs. search needs)
     others-requires
-    slice-aggregate-predicate-step
-    slice-aggregate-predicate-step-2
-    slice-aggregate-predicate-step-3
+    (λ c. search needs)
+    (λ c. search needs)
+    (λ c. search needs)
     predicate-step-requires
     returns-2
-    slice-aggregate-between
-    slice-aggregate-between-2
-    slice-aggregate-between-3
+    (λ c. search needs)
+    (λ c. search needs)
+    (λ c. search needs)
     between-requires
-    returns-3)
+    (λ c. search needs))

@@ -21,42 +21,6 @@ Inv-loop s own h n rows counts masks order lefts rights free listed₀ limit₀ 
 abbrev μ-loop : tie.MeasureT-loop
 μ-loop s own h n rows counts masks order lefts rights free listed₀ limit₀ listed limit = 5 - limit
 
-get32-requires : tie.Need-get32-requires Inv-loop μ-loop
-get32-requires c κs = search needs
-
-get32-requires-2 : tie.Need-get32-requires-2 Inv-loop μ-loop
-get32-requires-2 c κs = search needs
-
-cast-h : tie.Need-cast-h Inv-loop μ-loop
-cast-h c = search needs
-
-get32-requires-3 : tie.Need-get32-requires-3 Inv-loop μ-loop
-get32-requires-3 c κs = search needs
-
-cast-n : tie.Need-cast-n Inv-loop μ-loop
-cast-n c = search needs
-
-add-rows : tie.Need-add-rows Inv-loop μ-loop
-add-rows c = search needs
-
-slice-aggregate-load : tie.Need-slice-aggregate-load Inv-loop μ-loop
-slice-aggregate-load c = search needs
-
-slice-aggregate-load-2 : tie.Need-slice-aggregate-load-2 Inv-loop μ-loop
-slice-aggregate-load-2 c = search needs
-
-slice-aggregate-load-3 : tie.Need-slice-aggregate-load-3 Inv-loop μ-loop
-slice-aggregate-load-3 c = search needs
-
-load-requires : tie.Need-load-requires Inv-loop μ-loop
-load-requires c κs = search needs
-
-slice-aggregate-get-ends : tie.Need-slice-aggregate-get-ends Inv-loop μ-loop
-slice-aggregate-get-ends c = search needs
-
-slice-aggregate-get-ends-2 : tie.Need-slice-aggregate-get-ends-2 Inv-loop μ-loop
-slice-aggregate-get-ends-2 c = search needs
-
 get-ends-requires : tie.Need-get-ends-requires Inv-loop μ-loop
 get-ends-requires c κs =
     let at-n = c .before .before .before .before .before .before .before .before .before in
@@ -87,24 +51,6 @@ loop-holds c =
       floor-none _,
     )
 
-slice-aggregate-least-set : tie.Need-slice-aggregate-least-set Inv-loop μ-loop
-slice-aggregate-least-set c = search needs
-
-slice-aggregate-least-set-2 : tie.Need-slice-aggregate-least-set-2 Inv-loop μ-loop
-slice-aggregate-least-set-2 c = search needs
-
-slice-aggregate-least-set-3 : tie.Need-slice-aggregate-least-set-3 Inv-loop μ-loop
-slice-aggregate-least-set-3 c = search needs
-
-slice-aggregate-least-set-4 : tie.Need-slice-aggregate-least-set-4 Inv-loop μ-loop
-slice-aggregate-least-set-4 c = search needs
-
-slice-aggregate-least-set-5 : tie.Need-slice-aggregate-least-set-5 Inv-loop μ-loop
-slice-aggregate-least-set-5 c = search needs
-
-slice-aggregate-least-set-6 : tie.Need-slice-aggregate-least-set-6 Inv-loop μ-loop
-slice-aggregate-least-set-6 c = search needs
-
 least-set-requires : tie.Need-least-set-requires Inv-loop μ-loop
 least-set-requires c κs =
     let head = c .before .before .before .before .before .before .before in
@@ -115,12 +61,6 @@ returns c =
     let head = c .before .before .before .before .before .before .before .before .before .before in
     let inv = head .loop .inv in
     floor-found (inv .2) (omega arith) (rw (inv .3) at (c .before .before .least-set .ensures)) (inv .4) (c .if1 .taken)
-
-add-limit : tie.Need-add-limit Inv-loop μ-loop
-add-limit c = search needs
-
-loop-less : tie.Need-loop-less Inv-loop μ-loop
-loop-less c = search needs
 
 loop-again : tie.Need-loop-again Inv-loop μ-loop
 loop-again c =
@@ -145,30 +85,30 @@ fewest-failures-spec =
     (tie.spec
     Inv-loop
     μ-loop
-    get32-requires
-    get32-requires-2
-    cast-h
-    get32-requires-3
-    cast-n
-    add-rows
-    slice-aggregate-load
-    slice-aggregate-load-2
-    slice-aggregate-load-3
-    load-requires
-    slice-aggregate-get-ends
-    slice-aggregate-get-ends-2
+    (λ c κs. search needs)
+    (λ c κs. search needs)
+    (λ c. search needs)
+    (λ c κs. search needs)
+    (λ c. search needs)
+    (λ c. search needs)
+    (λ c. search needs)
+    (λ c. search needs)
+    (λ c. search needs)
+    (λ c κs. search needs)
+    (λ c. search needs)
+    (λ c. search needs)
     get-ends-requires
     others-requires
     loop-holds
-    slice-aggregate-least-set
-    slice-aggregate-least-set-2
-    slice-aggregate-least-set-3
-    slice-aggregate-least-set-4
-    slice-aggregate-least-set-5
-    slice-aggregate-least-set-6
+    (λ c. search needs)
+    (λ c. search needs)
+    (λ c. search needs)
+    (λ c. search needs)
+    (λ c. search needs)
+    (λ c. search needs)
     least-set-requires
     returns
-    add-limit
-    loop-less
+    (λ c. search needs)
+    (λ c. search needs)
     loop-again
     returns-2)

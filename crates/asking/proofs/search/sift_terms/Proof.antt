@@ -35,9 +35,6 @@ returns c =
     terms-hold _ p _ _ _ _ (at-in p 0 (head .loop .i - 1) in-front)
     (c .before .less .ensures) (c .if1 .taken)
 
-lowest-requires : tie.Need-lowest-requires Inv-loop μ-loop
-lowest-requires c κs = search needs
-
 loop-again : tie.Need-loop-again Inv-loop μ-loop
 loop-again c =
     let term = c .before .before .before .before .before in
@@ -81,7 +78,7 @@ sift-terms-spec =
     (λ c. search needs)
     (λ c κs. search needs)
     returns
-    lowest-requires
+    (λ c κs. search needs)
     (λ c κs. search needs)
     (λ c κs. search needs)
     (λ c. search needs)
