@@ -72,7 +72,7 @@ loop-holds c =
       omega (arith, c .terms-at .ensures .1, rows .long 0 some),
       some,
       rows,
-      trying-begin (a .args .limit) (a .args .free) _ (a .args .masks .now) _ _ (a .args .counts .now) _ _ some (listed-needs _ _ _ _ _ _ _ _ _ (a .pre .0) (omega (arith, a .pre .1, head .ends .inv .0)) _ _ (at-list .list-outside .ensures .0 .0) (at-list .list-outside .ensures .0 .1) (at-list .list-outside .ensures .1)) (c .terms-at .ensures .0) (c .terms-at .ensures .1),
+      trying-begin _ _ _ _ _ _ _ _ _ some (listed-needs _ _ _ _ _ _ _ _ _ (a .pre .0) (omega (arith, a .pre .1, head .ends .inv .0)) _ _ (at-list .list-outside .ensures .0 .0) (at-list .list-outside .ensures .0 .1) (at-list .list-outside .ensures .1)) (c .terms-at .ensures .0) (c .terms-at .ensures .1),
       omega (arith, c .terms-at .ensures .1, rows .narrow 0 some, row, a .pre .0 .most),
     )
 
@@ -88,7 +88,7 @@ predicate-step-requires c κs =
       loop .inv .2,
       loop .inv .1,
       rw (c .union .ensures)
-          (worth-few (a .args .limit) 0 (loop .left) _ none (sym (c .before .before .before .worth .ensures) ∙ c .before .before .if3 .taken)),
+          (worth-few _ 0 (loop .left) _ none (sym (c .before .before .before .worth .ensures) ∙ c .before .before .if3 .taken)),
     )
 
 loop-again : tie.Need-loop-again Inv-loop μ-loop Inv-ends μ-ends
@@ -105,10 +105,10 @@ loop-again c =
       loop .inv .1,
       loop .inv .2,
       rw (w .6)
-          (trying-on (a .args .limit) (a .args .free) _ (a .args .masks .now) _ _ (loop .at) (loop .left) (loop .inv .3) h (loop .inv .0) _ (test ∙ w .0 .taken) (rw (w .2 .ensures) at (w .3 .ensures)) _ (w .4 .left) (w .5 .ensures)),
+          (trying-on _ _ _ _ _ _ (loop .at) (loop .left) (loop .inv .3) h (loop .inv .0) _ (test ∙ w .0 .taken) (rw (w .2 .ensures) at (w .3 .ensures)) _ (w .4 .left) (w .5 .ensures)),
       loop .inv .4,
     ))
-    (λ w. (loop .inv .0, loop .inv .1, loop .inv .2, rw (w .1) (trying-skip (a .args .limit) (a .args .free) _ (a .args .masks .now) _ _ (loop .at) (loop .left) (loop .inv .3) h (loop .inv .0) (test ∙ w .0 .left)), loop .inv .4))
+    (λ w. (loop .inv .0, loop .inv .1, loop .inv .2, rw (w .1) (trying-skip _ _ _ _ _ _ (loop .at) (loop .left) (loop .inv .3) h (loop .inv .0) (test ∙ w .0 .left)), loop .inv .4))
     (c .if3 .came)
 
 add-floor : tie.Need-add-floor Inv-loop μ-loop Inv-ends μ-ends
@@ -131,7 +131,7 @@ ends-again c =
     let head = at-list .before .before .before .before .before in
     let a = head .before .before .before .before .before .before .before in (
       ap length (at-list .list-outside .ensures .1) ∙ length-put 0 _ _ ∙ head .ends .inv .0,
-      runs-next _ _ _ _ _ _ _ (a .pre .0) _ _ (a .pre .2) _ _ (head .ends .inv .1) (at-list .before .before .before .before .next-end .ensures) (at-list .before .before .before .if1 .left) _ (at-list .before .before .run-end .ensures .0) (at-list .before .before .run-end .ensures .1) (trying-none (a .args .limit) (a .args .free) _ (a .args .masks .now) _ _ _ _ (c .before .loop .inv .3) (c .loop-test .left)),
+      runs-next _ _ _ _ _ _ _ (a .pre .0) _ _ (a .pre .2) _ _ (head .ends .inv .1) (at-list .before .before .before .before .next-end .ensures) (at-list .before .before .before .if1 .left) _ (at-list .before .before .run-end .ensures .0) (at-list .before .before .run-end .ensures .1) (trying-none _ _ _ _ _ _ _ _ (c .before .loop .inv .3) (c .loop-test .left)),
     )
 
 same-length : tie.Need-same-length Inv-loop μ-loop Inv-ends μ-ends
@@ -155,7 +155,7 @@ returns-2 c =
     let at-list = c .before .before .before in
     let head = at-list .before .before .before .before .before in
     let a = head .before .before .before .before .before .before .before in (
-      runs-found _ _ _ _ _ _ _ (a .pre .0) _ _ (a .pre .2) _ _ (head .ends .inv .1) (at-list .before .before .before .before .next-end .ensures) (at-list .before .before .before .if1 .left) _ (at-list .before .before .run-end .ensures .0) (at-list .before .before .run-end .ensures .1) 0 (none-needed (a .args .limit) (a .args .free) _ _ _ (a .args .counts .now) (a .args .masks .now) (c .if2 .taken) (listed-needs _ _ _ _ _ _ _ _ _ (a .pre .0) (omega (arith, a .pre .1, head .ends .inv .0)) _ _ (at-list .list-outside .ensures .0 .0) (at-list .list-outside .ensures .0 .1) (at-list .list-outside .ensures .1))) (omega arith),
+      runs-found _ _ _ _ _ _ _ (a .pre .0) _ _ (a .pre .2) _ _ (head .ends .inv .1) (at-list .before .before .before .before .next-end .ensures) (at-list .before .before .before .if1 .left) _ (at-list .before .before .run-end .ensures .0) (at-list .before .before .run-end .ensures .1) 0 (none-needed _ _ _ _ _ _ _ (c .if2 .taken) (listed-needs _ _ _ _ _ _ _ _ _ (a .pre .0) (omega (arith, a .pre .1, head .ends .inv .0)) _ _ (at-list .list-outside .ensures .0 .0) (at-list .list-outside .ensures .0 .1) (at-list .list-outside .ensures .1))) (omega arith),
       ap length (at-list .list-outside .ensures .1) ∙ length-put 0 _ _ ∙ head .ends .inv .0,
     )
 
@@ -174,7 +174,7 @@ returns-3 c =
     let loop = c .before .before .before .before .before .before .before .before .loop in
     let b = rw (c .before .before .union .ensures) at (c .before .predicate-step .ensures) in (
       runs-found _ _ _ _ _ _ _ (a .pre .0) _ _ (a .pre .2) _ _ (head .ends .inv .1) (at-list .before .before .before .before .next-end .ensures) (at-list .before .before .before .if1 .left) _ (at-list .before .before .run-end .ensures .0) (at-list .before .before .run-end .ensures .1) _
-          (trying-stop (a .args .limit) (a .args .free) _ (a .args .masks .now) _ _ (loop .at) (loop .left) (loop .inv .3) (c .before .before .before .before .before .before .before .loop-test .taken) (loop .inv .0) _
+          (trying-stop _ _ _ _ _ _ (loop .at) (loop .left) (loop .inv .3) (c .before .before .before .before .before .before .before .loop-test .taken) (loop .inv .0) _
           (sym (c .before .before .before .before .before .worth .ensures) ∙ c .before .before .before .before .if3 .taken) b (c .if4 .taken)) (c .if4 .taken),
       ap length (at-list .list-outside .ensures .1) ∙ length-put 0 _ _ ∙ head .ends .inv .0,
     )

@@ -80,26 +80,26 @@ predicate-step-returns : (t : ℕ) → predicate-step-lts.Need-returns (predicat
 predicate-step-returns t c =
     let at-next = c .before .before in
     let a = at-next .before .before .before .before in
-    rw (c .lesser .ensures) (step-done (a .args .n) (a .args .listed .now) (a .args .counts .now) (a .args .masks .now) (a .args .set) (a .args .i) _ (at-next .next-unexplained .ensures .2) (a .args .enough) (a .args .limit) (a .args .free) (a .args .best) (c .before .if1 .taken) (a .pre .1 .2))
+    rw (c .lesser .ensures) (step-done _ _ _ _ _ (a .args .i) _ (at-next .next-unexplained .ensures .2) _ _ _ _ (c .before .if1 .taken) (a .pre .1 .2))
 
 predicate-step-returns-2 : (t : ℕ) → predicate-step-lts.Need-returns-2 (predicate-step-claims t) (predicate-step-at t) predicate-step.Post
 predicate-step-returns-2 t c =
     let at-next = c .before .before .before in
     let a = at-next .before .before .before .before in
-    step-full (a .args .n) (a .args .listed .now) (a .args .counts .now) (a .args .masks .now) (a .args .set) (a .args .i) _ (at-next .next-unexplained .ensures .2) (a .args .enough) (a .args .limit) (a .args .free) (a .args .best) (c .before .before .if1 .left) (omega (arith, c .before .count .ensures .0, c .if2 .taken))
+    step-full _ _ _ _ _ (a .args .i) _ (at-next .next-unexplained .ensures .2) _ _ _ _ (c .before .before .if1 .left) (omega (arith, c .before .count .ensures .0, c .if2 .taken))
 
 predicate-step-last-name-requires : (t : ℕ) → predicate-step-lts.Need-last-name-requires (predicate-step-claims t) (predicate-step-at t) predicate-step.Post
 predicate-step-last-name-requires t c κs =
     let at-next = c .before .before .before .before in
     let a = at-next .before .before .before .before in
     let h = c .before .before .before .if1 .left in
-    ((a .pre .1 .0, h, omega (arith, c .before .before .count .ensures .0, c .if3 .taken)), next-false (a .args .n) (a .args .listed .now) (a .args .counts .now) (a .args .masks .now) (a .args .set) (a .args .i) _ (at-next .next-unexplained .ensures .2) h)
+    ((a .pre .1 .0, h, omega (arith, c .before .before .count .ensures .0, c .if3 .taken)), next-false _ _ _ _ _ (a .args .i) _ (at-next .next-unexplained .ensures .2) h)
 
 predicate-step-returns-3 : (t : ℕ) → predicate-step-lts.Need-returns-3 (predicate-step-claims t) (predicate-step-at t) predicate-step.Post
 predicate-step-returns-3 t c =
     let at-next = c .before .before .before .before .before in
     let a = at-next .before .before .before .before in
-    step-back (a .args .n) (a .args .listed .now) (a .args .counts .now) (a .args .masks .now) (a .args .set) (a .args .i) (at-next .next-unexplained .result) (at-next .next-unexplained .ensures .2) (a .args .enough) (a .args .limit) (a .args .free) (a .args .best) _ (c .last-name .ensures (a .args .enough))
+    step-back _ _ _ _ _ (a .args .i) (at-next .next-unexplained .result) (at-next .next-unexplained .ensures .2) _ _ _ _ _ (c .last-name .ensures _)
 
 predicate-step-terms-at-requires : (t : ℕ) → predicate-step-lts.Need-terms-at-requires (predicate-step-claims t) (predicate-step-at t) predicate-step.Post
 predicate-step-terms-at-requires t c κs =
@@ -125,17 +125,17 @@ predicate-step-returns-4 : (t : ℕ) → predicate-step-lts.Need-returns-4 (pred
 predicate-step-returns-4 t c =
     let at-next = c .before .before .before .before .before .before in
     let a = at-next .before .before .before .before in
-    step-terms (a .args .n) (a .args .listed .now) (a .args .counts .now) (a .args .masks .now) (a .args .set) (a .args .i) (at-next .next-unexplained .result) (at-next .next-unexplained .ensures .2) (a .args .enough) (a .args .limit) (a .args .free) (a .args .best) _ _ _ (c .before .before .before .before .before .if1 .left) (c .before .terms-at .ensures .0) (c .before .terms-at .ensures .1) (c .term-step .ensures)
+    step-terms _ _ _ _ _ (a .args .i) (at-next .next-unexplained .result) (at-next .next-unexplained .ensures .2) _ _ _ _ _ _ _ (c .before .before .before .before .before .if1 .left) (c .before .terms-at .ensures .0) (c .before .terms-at .ensures .1) (c .term-step .ensures)
 
 term-step-returns : (t : ℕ) → term-step-lts.Need-returns (term-step-claims t) (term-step-at t) term-step.Post
 term-step-returns t c =
     let a = c .before .before .before .before in
-    term-none (a .args .enough) (a .args .limit) (a .args .set) (a .args .free) (a .args .best) (a .args .masks .now) (a .args .at) (a .args .end) _ (c .if1 .taken)
+    term-none _ _ _ _ _ _ _ _ _ (c .if1 .taken)
 
 term-step-predicate-step-requires : (t : ℕ) → term-step-lts.Need-predicate-step-requires (term-step-claims t) (term-step-at t) term-step.Post
 term-step-predicate-step-requires t c κs =
     let a = c .before .before .before .before .before .before .before .before in
-    let few = worth-few (a .args .limit) (a .args .set) (a .args .free) _ (a .args .best) (sym (c .before .before .worth .ensures) ∙ c .before .if2 .taken) in
+    let few = worth-few _ _ _ _ _ (sym (c .before .before .worth .ensures) ∙ c .before .if2 .taken) in
     (omega (arith, a .pre .0, a .pre .1 .1, c .before .before .before .before .if1 .left), (a .pre .1 .0, omega (arith, a .pre .1 .1), rw (c .union .ensures) few))
 
 term-step-returns-2 : (t : ℕ) → term-step-lts.Need-returns-2 (term-step-claims t) (term-step-at t) term-step.Post
@@ -143,7 +143,7 @@ term-step-returns-2 t c =
     let a = c .before .before .before .before .before .before .before .before .before .before in
     let h = c .before .before .before .before .before .before .if1 .left in
     let long = a .pre .1 .3 in
-    term-stop (a .args .enough) (a .args .limit) (a .args .set) (a .args .free) (a .args .best) (a .args .masks .now) (a .args .at) (a .args .end) _ h long _ (sym (c .before .before .before .before .worth .ensures) ∙ c .before .before .before .if2 .taken) (rw (c .before .before .union .ensures) at (c .before .predicate-step .ensures)) (c .if3 .taken)
+    term-stop _ _ _ _ _ _ _ _ _ h long _ (sym (c .before .before .before .before .worth .ensures) ∙ c .before .before .before .if2 .taken) (rw (c .before .before .union .ensures) at (c .before .predicate-step .ensures)) (c .if3 .taken)
 
 term-step-term-step-requires : (t : ℕ) → term-step-lts.Need-term-step-requires (term-step-claims t) (term-step-at t) term-step.Post
 term-step-term-step-requires t c κs =
@@ -161,10 +161,10 @@ term-step-returns-3 t c =
     let test = sym (joined .before .worth .ensures) in
     ⊎-elim
     (λ w.
-    term-on (a .args .enough) (a .args .limit) (a .args .set) (a .args .free) (a .args .best) (a .args .masks .now) (a .args .at) (a .args .end) _ h long _
+    term-on _ _ _ _ _ _ _ _ _ h long _
     (test ∙ w .0 .taken) (rw (w .1 .ensures) at (w .2 .ensures)) _ _ (w .3 .left) (w .4 .ensures) (rw (w .5, w .6) at (c .term-step .ensures)))
     (λ w.
-    term-skip (a .args .enough) (a .args .limit) (a .args .set) (a .args .free) (a .args .best) (a .args .masks .now) (a .args .at) (a .args .end) _ h long _
+    term-skip _ _ _ _ _ _ _ _ _ h long _
     (test ∙ w .0 .left) (rw (w .1, w .2) at (c .term-step .ensures)))
     (joined .if2 .came)
 

@@ -30,7 +30,7 @@ returns : tie.Need-returns Inv-loop μ-loop
 returns c =
     let head = c .before .before in
     let a = head .before .before .before .before .before in
-    last-stop (a .args .n) (a .args .listed .now) (a .args .counts .now) (a .args .masks .now) (a .args .limit) (a .args .set) (a .args .free) (a .args .k) (a .args .best) (a .pre .0 .2) (a .pre .0 .1) (a .pre .1) (head .loop .j) _ (head .loop .inv .2) (c .if1 .taken)
+    last-stop _ _ _ _ _ _ _ _ _ (a .pre .0 .2) (a .pre .0 .1) (a .pre .1) (head .loop .j) _ (head .loop .inv .2) (c .if1 .taken)
 
 sift-requires : tie.Need-sift-requires Inv-loop μ-loop
 sift-requires c κs =
@@ -47,7 +47,7 @@ loop-again c =
       omega arith,
       omega arith,
       head .loop .inv .2
-          ∙ sieve-turn (a .args .n) (a .args .listed .now) (a .args .counts .now) (a .args .masks .now) (a .args .set) (head .loop .j) (a .args .limit) _ _ (c .before .before .loop-test .taken) (a .pre .0 .2)
+          ∙ sieve-turn _ _ _ _ _ (head .loop .j) _ _ _ (c .before .before .loop-test .taken) (a .pre .0 .2)
           (c .sift .ensures),
     )
 
@@ -55,21 +55,21 @@ returns-2 : tie.Need-returns-2 Inv-loop μ-loop
 returns-2 c =
     let head = c .before .before in
     let a = head .before .before .before .before .before in
-    last-stop (a .args .n) (a .args .listed .now) (a .args .counts .now) (a .args .masks .now) (a .args .limit) (a .args .set) (a .args .free) (a .args .k) (a .args .best) (a .pre .0 .2) (a .pre .0 .1) (a .pre .1) (head .loop .j) _ (head .loop .inv .2) (c .if2 .taken)
+    last-stop _ _ _ _ _ _ _ _ _ (a .pre .0 .2) (a .pre .0 .1) (a .pre .1) (head .loop .j) _ (head .loop .inv .2) (c .if2 .taken)
 
 lowest-requires : tie.Need-lowest-requires Inv-loop μ-loop
 lowest-requires c κs =
     let head = c .before .before .before in
     let a = head .before .before .before .before .before in
-    let names = head .loop .inv .2 ∙ sieve-done (a .args .n) (a .args .listed .now) (a .args .counts .now) (a .args .masks .now) (a .args .set) (head .loop .j) (a .args .limit) _ (c .before .before .loop-test .left) in
-    rw (c .less .ensures) (last-some (a .args .n) (a .args .listed .now) (a .args .counts .now) (a .args .masks .now) (a .args .limit) (a .args .set) (a .args .free) (a .args .k) (a .args .best) (a .pre .0 .2) (a .pre .0 .1) (a .pre .1) _ (union-left (a .args .set) (a .args .free)) names (c .before .if2 .left))
+    let names = head .loop .inv .2 ∙ sieve-done _ _ _ _ _ (head .loop .j) _ _ (c .before .before .loop-test .left) in
+    rw (c .less .ensures) (last-some _ _ _ _ _ _ _ _ (a .args .best) (a .pre .0 .2) (a .pre .0 .1) (a .pre .1) _ (union-left _ _) names (c .before .if2 .left))
 
 returns-3 : tie.Need-returns-3 Inv-loop μ-loop
 returns-3 c =
     let head = c .before .before .before .before .before .before in
     let a = head .before .before .before .before .before in
-    let names = head .loop .inv .2 ∙ sieve-done (a .args .n) (a .args .listed .now) (a .args .counts .now) (a .args .masks .now) (a .args .set) (head .loop .j) (a .args .limit) _ (c .before .before .before .before .before .loop-test .left) in
-    last-least (a .args .n) (a .args .listed .now) (a .args .counts .now) (a .args .masks .now) (a .args .limit) (a .args .set) (a .args .free) (a .args .k) (a .args .best) (a .pre .0 .2) (a .pre .0 .1) (a .pre .1) _ _ _ _ _ names (c .before .before .before .before .if2 .left) (c .before .before .before .less .ensures)
+    let names = head .loop .inv .2 ∙ sieve-done _ _ _ _ _ (head .loop .j) _ _ (c .before .before .before .before .before .loop-test .left) in
+    last-least _ _ _ _ _ _ _ _ _ (a .pre .0 .2) (a .pre .0 .1) (a .pre .1) _ _ _ _ _ names (c .before .before .before .before .if2 .left) (c .before .before .before .less .ensures)
     (c .before .before .lowest .ensures) (c .before .union2 .ensures) (c .lesser .ensures)
 
 pub last-name-spec : {M : Type 1} → statement M
