@@ -52,18 +52,22 @@ pub fn degree(p: &[u32]) -> u32
     least
 }
 
-// Whether t may stand before each term of p.
+// Whether t may stand before each term of p. Predicates are short: to stop at the first that fails is faster than to carry the test along.
 fn before_all(t: u32, p: &[u32]) -> bool
     ensures { λ r. ⌜ r ≡ all (λ u. Predicates·before t u) (now (p .entry)) ⌝ }
 {
-    let mut ok = true;
     let mut i: usize = 0;
     while i < p.len() {
         let u = p[i];
-        ok = ok & ((t < u) & !names::subset(t, u));
+        if u <= t {
+            return false;
+        }
+        if names::subset(t, u) {
+            return false;
+        }
         i += 1;
     }
-    ok
+    true
 }
 
 // Whether p is in normal form.

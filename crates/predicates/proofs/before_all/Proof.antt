@@ -1,34 +1,42 @@
--- `predicates::before_all` meets its contract: the test is carried along, without an early exit.
--- Invariant: the test so far and that of the terms from i on are the test of all. Measure: the terms still to try.
+-- `predicates::before_all` meets its contract: the loop stops at the first term that is not above t or contains it.
+-- Invariant: the answer for all terms is the answer from term i on. Measure: the terms still to try.
 use Prim.Native.Nat.{_-_}
-use mathlib.Core.Path.{_≡_, refl, sym, ap, _∙_}
-use mathlib.Core.Bool.{_&&_, and-true}
-use lib.ListN.{length, drop}
+use mathlib.Core.Path.{_≡_, refl, sym, _∙_}
+use borrow.Author.Tests.{lt-ltb, le-ltb}
+use lib.ListN.{length, getD, drop}
 use Rattle.predicates.specs.Lists.{all}
 use Rattle.predicates.specs.Predicates.{before}
-use Rattle.predicates.proofs.LoopLaws.{all-turn, all-done}
+use Rattle.predicates.proofs.LoopLaws.{all-here, all-next, all-done}
 use borrow.Author.Needs.{needs}
 use Rattle.predicates.proofs.before_all.Statement.{statement}
 use Rattle.predicates.proofs.before_all.Tie as tie
 
 abbrev Inv-loop : tie.InvT-loop
-Inv-loop t p ok₀ i₀ ok i = ok && all (λ u. before t u) (drop i p) ≡ all (λ u. before t u) p
+Inv-loop t p i₀ i = all (λ u. before t u) p ≡ all (λ u. before t u) (drop i p)
 
 abbrev μ-loop : tie.MeasureT-loop
-μ-loop t p ok₀ i₀ ok i = length p - i
+μ-loop t p i₀ i = length p - i
 
 loop-holds : tie.Need-loop-holds Inv-loop μ-loop
 loop-holds c = refl
 
-loop-again : tie.Need-loop-again Inv-loop μ-loop
-loop-again c =
-    let at-head = c .before .before .before .loop in
-    all-turn (λ u. before _ u) _ (at-head .i) (at-head .ok) _ _ (c .before .before .loop-test .taken) (rw (c .subset .ensures)) (at-head .inv)
-
 returns : tie.Need-returns Inv-loop μ-loop
 returns c =
-    let at-head = c .before .loop in
-    sym (and-true (at-head .ok)) ∙ ap (λ b. at-head .ok && b) (sym (all-done (λ u. before _ u) _ (at-head .i) (c .loop-test .left))) ∙ at-head .inv
+    let at-head = c .before .before .before .loop in
+    sym (at-head .inv ∙ all-here (λ u. before _ u) _ (at-head .i) (c .before .before .loop-test .taken) (rw (le-ltb _ _ (c .if1 .taken))))
+
+returns-2 : tie.Need-returns-2 Inv-loop μ-loop
+returns-2 c =
+    let at-head = c .before .before .before .before .before .loop in
+    sym (at-head .inv ∙ all-here (λ u. before _ u) _ (at-head .i) (c .before .before .before .before .loop-test .taken) (rw (lt-ltb _ _ (c .before .before .if1 .left), sym (c .before .subset .ensures) ∙ c .if2 .taken)))
+
+loop-again : tie.Need-loop-again Inv-loop μ-loop
+loop-again c =
+    let at-head = c .before .before .before .before .before .loop in
+    at-head .inv ∙ all-next (λ u. before _ u) _ (at-head .i) (c .before .before .before .before .loop-test .taken) (rw (lt-ltb _ _ (c .before .before .if1 .left), sym (c .before .subset .ensures) ∙ c .if2 .left))
+
+returns-3 : tie.Need-returns-3 Inv-loop μ-loop
+returns-3 c = sym (c .before .loop .inv ∙ all-done (λ u. before _ u) _ (c .before .loop .i) (c .loop-test .left))
 
 pub before-all-spec : {M : Type 1} → statement M
 before-all-spec =
@@ -39,8 +47,10 @@ before-all-spec =
     loop-holds
     (λ c. search needs)
     (λ c. search needs)
+    returns
     (λ c κs. search needs)
+    returns-2
     (λ c. search needs)
     (λ c. search needs)
     loop-again
-    returns)
+    returns-3)
