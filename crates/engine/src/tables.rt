@@ -5,13 +5,22 @@ ghost use mathlib.Core.Bool.{_&&_};
 ghost use Prim.Native.Nat.{_+_, _*_, _≤_, _<_};
 ghost use lib.ListN.{length, getD, set};
 ghost use lib.Seq.{sets};
-ghost use Rattle.predicates.specs.Predicates.{implies};
+ghost use Rattle.predicates.specs.Predicates.{holds, implies, joint as Predicates·joint, singles};
 ghost use Rattle.engine.specs.Tables.{Table, row, some, entriesIn, givenUp};
 ghost use Rattle.engine.specs.Receiving.{explained as Receiving·explained, learn as Receiving·learn};
 
-// Whether row i of 16 has terms and implies p.
-fn row_implies(counts: &[u32], masks: &[u32], i: usize, p: &[u32]) -> bool
+// Whether row i of 16 has terms and implies p; p's masks are given, and whether it is true whatever has failed.
+fn row_implies(
+    counts: &[u32],
+    masks: &[u32],
+    i: usize,
+    p: &[u32],
+    single: u32,
+    joint: u32,
+    always: bool,
+) -> bool
     requires { ⌜ (i < length (now counts)) × (i * 16 + getD (now counts) i 0 ≤ length (now masks)) ⌝ }
+    requires { ⌜ (single ≡ singles (now p)) × (joint ≡ Predicates·joint (now p)) × (always ≡ holds 0 (now p)) ⌝ }
     ensures { λ r. ⌜ r ≡ some (row 16 (now (counts .entry)) (now (masks .entry)) i) && implies (row 16 (now (counts .entry)) (now (masks .entry)) i) (now (p .entry)) ⌝ }
 {
     let count = counts[i] as usize;
@@ -20,17 +29,20 @@ fn row_implies(counts: &[u32], masks: &[u32], i: usize, p: &[u32]) -> bool
     }
     let from = i * 16;
     let to = from + count;
-    predicates::implies(&masks[from..to], p)
+    predicates::masks::implies(&masks[from..to], p, single, joint, always)
 }
 
-// Whether an entry of the table implies p.
+// Whether an entry of the table implies p. All of them are held against p, so its masks are made once.
 pub fn explained(counts: &[u32], masks: &[u32], n: usize, p: &[u32]) -> bool
     requires { ⌜ Table 16 n (now counts) (now masks) ⌝ }
     ensures { λ r. ⌜ r ≡ Receiving·explained (entriesIn n (now (counts .entry)) (now (masks .entry))) (now (p .entry)) ⌝ }
 {
+    let single = predicates::masks::singles(p);
+    let joint = predicates::masks::joint(p);
+    let always = predicates::holds(p, 0);
     let mut i: usize = 0;
     while i < n {
-        if row_implies(counts, masks, i, p) {
+        if row_implies(counts, masks, i, p, single, joint, always) {
             return true;
         }
         i += 1;

@@ -2,17 +2,18 @@
 -- has no more names is that other (`subset-same`); most of the rest follows from it. No contract cites this file. Assumes nothing.
 use mathlib.Core.Path.{_≡_, sym, ap, subst, _∙_}
 use mathlib.Core.Logic.{_⊎_, inl, inr}
-use mathlib.Core.Bool.{not}
+use mathlib.Core.Bool.{Bool, not}
 use Prim.Native.Nat.{ℕ, zero, suc, _+_, _-_, _*_, _/_, _%_, _^_, _≤_, _<_, min}
 use native.Mathlib.Nat.{mod-eq-of-lt}
 use native.Mathlib.Omega.{arith}
 use native.Mathlib.Decide.{ℕ-discrete, decLe}
-use lib.Dec.{T, T-not, not-T}
+use lib.Dec.{T, T-not, not-T, eqb, eqb→eq, leb, leb→le, le→leb}
+use borrow.Author.Tests.{eq-eqb}
 use lib.Arith.{bin-ind}
 use lib.Bits.{bitAnd, and-step, and-comm, and-self, and-le-l, and-mask, or-add-and}
 use lib.Count.{ones, ones-step}
 use Rattle.names.specs.Sets.{subset, union, has, shared, less, others, lowest, digit}
-use Rattle.names.proofs.SetLaws.{digit-lt, digit-single-same, digit-single-other, digit-zero, digit-suc, digit-and, digit-union, digit-empty, subset-and, and-subset, subset-out, subset-in, digits-ext, subset-trans, subset-empty, subset-le, union-left, union-right, union-least, ones-empty, ones-none, ones-mono, halves, has-in, has-out}
+use Rattle.names.proofs.SetLaws.{test-ext, digit-lt, digit-single-same, digit-single-other, digit-zero, digit-suc, digit-and, digit-union, digit-empty, subset-and, and-subset, subset-out, subset-in, digits-ext, subset-trans, subset-empty, subset-le, union-left, union-right, union-least, ones-empty, ones-none, ones-mono, halves, has-in, has-out}
 
 -- ---- what both hold
 
@@ -172,6 +173,21 @@ lowest-one =
     go s ih k (no f) =
         let same : lowest s / 2 ≡ 0 = omega (arith, lowest-odd s (omega arith)) in
         omega (arith, ones-step (lowest s), ap ones same, ones-empty, lowest-odd s (omega arith))
+
+-- ---- at most one name
+
+-- a set of one name is its least name
+pub lowest-only : (s : ℕ) → 0 < s → eqb (bitAnd s (s - 1)) 0 ≡ leb (ones s) 1
+unfolding lowest
+lowest-only s k =
+    let one = lowest-one s k in
+    let below = and-le-l s (s - 1) in
+    test-ext (eqb (bitAnd s (s - 1)) 0) (leb (ones s) 1)
+    (λ h. let e = eqb→eq (bitAnd s (s - 1)) 0 h in
+    let same : lowest s ≡ s = omega (arith, e) in le→leb (ones s) 1 (omega (arith, ap ones same, one)))
+    (λ h. let few = leb→le (ones s) 1 h in
+    let same : lowest s ≡ s = subset-same (lowest s) s (lowest-in s) (omega (arith, one, few)) in
+    subst (λ (b : Bool). T b) (sym (eq-eqb (bitAnd s (s - 1)) 0 (omega (arith, same, below)))) tt)
 
 -- ---- all names but one
 

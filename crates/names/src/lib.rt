@@ -3,6 +3,7 @@
 ghost use mathlib.Core.Path.{_≡_};
 ghost use Prim.Native.Nat.{_<_, _≤_, _^_};
 ghost use lib.Count.{ones};
+ghost use lib.Dec.{leb};
 ghost use Rattle.names.specs.Sets.{subset as Sets·subset, union as Sets·union, shared as Sets·shared, less as Sets·less, others as Sets·others, lowest as Sets·lowest, has as Sets·has};
 
 // Whether each name of t is in s.
@@ -46,6 +47,16 @@ pub fn count(s: u32) -> u32
     ensures { λ r. ⌜ (r ≡ ones s) × (r ≤ 32) ⌝ }
 {
     u32::count_ones(s)
+}
+
+// Whether s holds at most one name: taking its least name away leaves nothing. Counting takes longer.
+pub fn at_most_one(s: u32) -> bool
+    ensures { λ r. ⌜ r ≡ leb (ones s) 1 ⌝ }
+{
+    if s == 0 {
+        return true;
+    }
+    s & (s - 1) == 0
 }
 
 // The set of the name n alone.

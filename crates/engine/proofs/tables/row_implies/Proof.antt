@@ -12,7 +12,7 @@ returns c =
 returns-2 : tie.Need-returns-2
 returns-2 c =
     let a = c .before .before .before .before .before .before .before in
-    rw (row-some 16 (a .args .i) (a .args .counts .now) (a .args .masks .now) (c .before .before .if1 .left) (a .pre .1)) (rw (row-part 16 (a .args .i) (a .args .counts .now) (a .args .masks .now)) at (c .implies .ensures))
+    rw (row-some 16 (a .args .i) (a .args .counts .now) (a .args .masks .now) (c .before .before .if1 .left) (a .pre .0 .1)) (rw (row-part 16 (a .args .i) (a .args .counts .now) (a .args .masks .now)) at (c .implies .ensures))
 
 pub row-implies-spec : {M : Type 1} → statement M
 row-implies-spec =
