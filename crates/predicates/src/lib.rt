@@ -6,7 +6,8 @@ pub mod sums;
 
 ghost use mathlib.Core.Path.{_≡_};
 ghost use Prim.Native.Nat.{_≤_};
-ghost use Rattle.predicates.specs.Lists.{all};
+ghost use Rattle.names.specs.Sets.{subset};
+ghost use Rattle.predicates.specs.Lists.{any, all};
 ghost use Rattle.predicates.specs.Predicates.{before as Predicates·before, degree as Predicates·degree, holds as Predicates·holds, implies as Predicates·implies, isNormal};
 
 // Whether the set s makes p true.
@@ -51,6 +52,20 @@ pub fn degree(p: &[u32]) -> u32
         i += 1;
     }
     least
+}
+
+// Whether a term of p contains t.
+pub fn contained(t: u32, p: &[u32]) -> bool
+    ensures { λ r. ⌜ r ≡ any (λ u. subset t u) (now (p .entry)) ⌝ }
+{
+    let mut i: usize = 0;
+    while i < p.len() {
+        if names::subset(t, p[i]) {
+            return true;
+        }
+        i += 1;
+    }
+    false
 }
 
 // Whether t may stand before each term of p. Predicates are short: to stop at the first that fails is faster than to carry the test along.

@@ -98,16 +98,17 @@ module _ (own width at n : ℕ) (s : List ℕ) (e : n ≡ num at 4 s) where
   row-many h k = rw (← e, le-leb 1 n h, lt-leb n width k)
 
   -- the row was read into a longer array
-  pub row-tests : (row rest : List ℕ) (a b c : Bool) → 1 ≤ n → n ≤ width → row ≡ masksAt width at s ++ rest → a ≡ isNormal (take n row)
-      → b ≡ all (termFits own) (take n row) → c ≡ all (λ t. eqb t 0) (take (width - n) (drop n row)) → a && (b && c) ≡ rowFits own width at s
+  pub row-tests : (row rest : List ℕ) (a c : Bool) → 1 ≤ n → n ≤ width → row ≡ masksAt width at s ++ rest
+      → a ≡ isNormal (take n row) && all (termFits own) (take n row) → c ≡ all (λ t. eqb t 0) (take (width - n) (drop n row))
+      → a && c ≡ rowFits own width at s
   unfolding rowFits rowAt
-  row-tests row rest a b c h k m p q r =
+  row-tests row rest a c h k m p r =
       let masks = masksAt width at s in
       let long : length masks ≡ width = length-masksAt width at s in
       let front : take n row ≡ take n masks = rw m (take-append-le n masks rest (omega arith)) in
       let behind : take (width - n) (drop n row) ≡ drop n masks =
       rw (m, drop-append-le n masks rest (omega arith)) (take-at (drop n masks) rest (width - n) (omega (arith, length-drop n masks))) in
-      rw (p, q, r, front, behind, ← e, le-leb 1 n h, le-leb n width k)
+      rw (p, r, front, behind, ← e, le-leb 1 n h, le-leb n width k) (and-assoc (isNormal (take n masks)) (all (termFits own) (take n masks)) (all (λ t. eqb t 0) (drop n masks)))
 
 -- ---- the head
 

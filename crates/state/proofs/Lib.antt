@@ -2,6 +2,7 @@
 pub mod LayoutLaws
 pub mod FormLaws
 pub mod StateLaws
+pub mod TermLaws
 pub mod FormLoops
 pub mod RowLoops
 pub mod PutLaws

@@ -1,10 +1,12 @@
 // In form (document 01, "State bytes"), tested on the bytes: each call makes this test before it reads anything else.
 ghost use mathlib.Core.Path.{_≡_};
-ghost use mathlib.Core.Bool.{_&&_};
-ghost use Prim.Native.Nat.{_+_, _*_, _≤_, _<_};
+ghost use mathlib.Core.Bool.{_&&_, not};
+ghost use Prim.Native.Nat.{_+_, _*_, _^_, _≤_, _<_};
 ghost use lib.ListN.{length};
-ghost use lib.Dec.{eqb};
+ghost use lib.Dec.{eqb, ltb};
+ghost use Rattle.names.specs.Sets.{has};
 ghost use Rattle.predicates.specs.Lists.{all, allBelow};
+ghost use Rattle.predicates.specs.Predicates.{isNormal};
 ghost use Rattle.state.specs.Layout.{datumPlace, entryPlace};
 ghost use Rattle.state.specs.Form.{termFits, isZero, rowFits, datumFits, entryFits, headFits, inForm};
 
@@ -35,19 +37,38 @@ fn all_zero(p: &[u32]) -> bool
     v == 0
 }
 
-// Whether each term has a name, none above 28 and not the own one.
+// Whether t names none above 28 and not the own one.
+fn names_fit(t: u32, own: u32) -> bool
+    requires { ⌜ own < 32 ⌝ }
+    ensures { λ r. ⌜ r ≡ (ltb t (2 ^ 29) && not (has own t)) ⌝ }
+{
+    (t < 536_870_912) & !names::has(own, t)
+}
+
+// Whether p is in normal form and each of its terms has a name, none above 28 and not the own one. Masks that rise from 0 have a name, and of those
+// that rise only an earlier one can lie in a later one.
 fn terms_fit(p: &[u32], own: u32) -> bool
     requires { ⌜ own < 32 ⌝ }
-    ensures { λ r. ⌜ r ≡ all (termFits own) (now (p .entry)) ⌝ }
+    ensures { λ r. ⌜ r ≡ (isNormal (now (p .entry)) && all (termFits own) (now (p .entry))) ⌝ }
 {
-    let mut ok = true;
+    let mut last: u32 = 0;
     let mut i: usize = 0;
     while i < p.len() {
+        let next = i + 1;
         let t = p[i];
-        ok = ok & ((0 < t) & ((t < 536_870_912) & !names::has(own, t)));
-        i += 1;
+        if t <= last {
+            return false;
+        }
+        if !names_fit(t, own) {
+            return false;
+        }
+        if predicates::contained(t, &p[next..]) {
+            return false;
+        }
+        last = t;
+        i = next;
     }
-    ok
+    true
 }
 
 // Whether the row at `at` fits: its count, the terms in use, and zeros behind them.
@@ -65,7 +86,7 @@ fn row_fits(s: &[u8], at: usize, width: usize, own: u32) -> bool
     }
     let mut row = [0u32; 16];
     numbers::get_words(s, at + 4, &mut row, width);
-    predicates::is_normal(&row[..n]) & (terms_fit(&row[..n], own) & all_zero(&row[n..width]))
+    terms_fit(&row[..n], own) & all_zero(&row[n..width])
 }
 
 // Whether the datum in place i fits.

@@ -8,9 +8,6 @@ use borrow.Author.Needs.{needs}
 use Rattle.state.proofs.form.row_fits.Statement.{statement}
 use Rattle.state.proofs.form.row_fits.Tie as tie
 
-slice-aggregate-is-normal : tie.Need-slice-aggregate-is-normal
-slice-aggregate-is-normal c = sym (length-take-le _ _ (search needs))
-
 slice-aggregate-terms-fit : tie.Need-slice-aggregate-terms-fit
 slice-aggregate-terms-fit c = sym (length-take-le _ _ (search needs))
 
@@ -23,10 +20,10 @@ returns-2 c = sym (row-many _ _ _ _ _ (c .before .before .get32 .ensures .0) (c 
 returns-3 : tie.Need-returns-3
 unfolding masksAt
 returns-3 c =
-    let normal = c .before .before .before .before .before in
-    let words = normal .before .before .before in
+    let terms = c .before .before .before in
+    let words = terms .before .before .before in
     let if2 = words .before .before in
-    row-tests _ _ _ _ _ (if2 .before .before .get32 .ensures .0) _ _ _ _ _ (if2 .before .if1 .left) (if2 .if2 .left) (words .get-words .ensures) (normal .is-normal .ensures) (c .before .before .before .terms-fit .ensures) (c .all-zero .ensures)
+    row-tests _ _ _ _ _ (if2 .before .before .get32 .ensures .0) _ _ _ _ (if2 .before .if1 .left) (if2 .if2 .left) (words .get-words .ensures) (terms .terms-fit .ensures) (c .all-zero .ensures)
 
 pub row-fits-spec : {M : Type 1} → statement M
 row-fits-spec =
@@ -38,9 +35,6 @@ row-fits-spec =
     returns-2
     (λ c. search needs)
     (λ c. search needs)
-    (λ c κs. search needs)
-    (λ c. search needs)
-    slice-aggregate-is-normal
     (λ c κs. search needs)
     (λ c. search needs)
     slice-aggregate-terms-fit
