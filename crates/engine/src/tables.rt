@@ -32,11 +32,14 @@ fn row_implies(
     predicates::masks::implies(&masks[from..to], p, single, joint, always)
 }
 
-// Whether an entry of the table implies p. All of them are held against p, so its masks are made once.
+// Whether an entry of the table implies p. All of them are held against p, so its masks are made once, and for a table of no rows not at all.
 pub fn explained(counts: &[u32], masks: &[u32], n: usize, p: &[u32]) -> bool
     requires { ⌜ Table 16 n (now counts) (now masks) ⌝ }
     ensures { λ r. ⌜ r ≡ Receiving·explained (entriesIn n (now (counts .entry)) (now (masks .entry))) (now (p .entry)) ⌝ }
 {
+    if n == 0 {
+        return false;
+    }
     let single = predicates::masks::singles(p);
     let joint = predicates::masks::joint(p);
     let always = predicates::holds(p, 0);

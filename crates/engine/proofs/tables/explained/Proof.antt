@@ -17,6 +17,13 @@ Inv-loop counts masks n p single joint always i₀ i = (i ≤ n) × (anyBelow i 
 abbrev μ-loop : tie.MeasureT-loop
 μ-loop counts masks n p single joint always i₀ i = n - i
 
+-- there are no rows
+returns : tie.Need-returns Inv-loop μ-loop
+unfolding anyBelow
+returns c =
+    let a = c .before .before .before .before .args in
+    sym (explained-rows (a .n) (a .counts .now) (a .masks .now) (a .p .now) ∙ rw (c .if1 .taken))
+
 loop-holds : tie.Need-loop-holds Inv-loop μ-loop
 unfolding anyBelow
 loop-holds c = (search needs, refl)
@@ -24,27 +31,27 @@ loop-holds c = (search needs, refl)
 row-implies-requires : tie.Need-row-implies-requires Inv-loop μ-loop
 row-implies-requires c κs =
     let masks = c .before .before in
-    let a = masks .before .before .before .before .before .before in
+    let a = masks .before .before .before .before .before .before .before in
     let i = c .before .loop .i in (
       (omega (arith, a .pre .counted), table-room 16 _ _ _ (a .pre) i (c .loop-test .taken)),
       (masks .before .before .singles .ensures, masks .before .joint .ensures, masks .holds .ensures),
     )
 
-returns : tie.Need-returns Inv-loop μ-loop
-returns c =
-    let a = c .before .before .before .before .before .before .before .before .before .before .args in
+returns-2 : tie.Need-returns-2 Inv-loop μ-loop
+returns-2 c =
+    let a = c .before .before .before .before .before .before .before .before .before .before .before .args in
     let at-head = c .before .before .before .loop in
     sym (explained-rows (a .n) (a .counts .now) (a .masks .now) (a .p .now)
-    ∙ any-below-here (a .n) (at-head .i) _ (c .before .before .loop-test .taken) (sym (c .before .row-implies .ensures) ∙ c .if1 .taken))
+    ∙ any-below-here (a .n) (at-head .i) _ (c .before .before .loop-test .taken) (sym (c .before .row-implies .ensures) ∙ c .if2 .taken))
 
 loop-again : tie.Need-loop-again Inv-loop μ-loop
 loop-again c =
     let at-head = c .before .before .before .loop in
-    (search needs, any-below-next (at-head .i) _ (at-head .inv .1) (sym (c .before .row-implies .ensures) ∙ c .if1 .left))
+    (search needs, any-below-next (at-head .i) _ (at-head .inv .1) (sym (c .before .row-implies .ensures) ∙ c .if2 .left))
 
-returns-2 : tie.Need-returns-2 Inv-loop μ-loop
-returns-2 c =
-    let a = c .before .before .before .before .before .before .before .before .args in
+returns-3 : tie.Need-returns-3 Inv-loop μ-loop
+returns-3 c =
+    let a = c .before .before .before .before .before .before .before .before .before .args in
     let done : c .before .loop .i ≡ a .n = omega arith in
     sym (explained-rows (a .n) (a .counts .now) (a .masks .now) (a .p .now) ∙ rw done at (c .before .loop .inv .1))
 
@@ -54,13 +61,14 @@ explained-spec =
     (tie.spec
     Inv-loop
     μ-loop
+    returns
     (λ c κs. search needs)
     (λ c κs. search needs)
     (λ c κs. search needs)
     loop-holds
     row-implies-requires
-    returns
+    returns-2
     (λ c. search needs)
     (λ c. search needs)
     loop-again
-    returns-2)
+    returns-3)
