@@ -4,15 +4,15 @@
 use Prim.Native.Nat.{ℕ, _+_, _*_, _^_, _≤_, _<_}
 use mathlib.Core.Path.{_≡_}
 use mathlib.Core.Logic.{_⊎_}
-use mathlib.Core.Bool.{Bool, _&&_, not, cond}
+use mathlib.Core.Bool.{Bool, not, cond}
 use mathlib.Core.List.{List, [], _∷_}
-use lib.Dec.{T, eqb, leb, ltb}
+use lib.Dec.{T, eqb, leb}
 use lib.Count.{ones}
 use lib.ListN.{length, getD, take, drop}
 use Rattle.numbers.specs.Numbers.{tab}
-use Rattle.names.specs.Sets.{subset, union, shared, lowest}
+use Rattle.names.specs.Sets.{subset, union, shared}
 use Rattle.predicates.specs.Lists.{all, keep}
-use Rattle.predicates.specs.Predicates.{holds}
+use Rattle.predicates.specs.Predicates.{holds, singles}
 
 -- ---- what is looked for
 
@@ -55,15 +55,11 @@ unfoldable pub sieve : ℕ → ℕ → ℕ → List (List ℕ) → ℕ
 sieve limit s m [] = m
 sieve limit s m (p ∷ ps) = sieve limit s (cond (holds s p) m (shared m (alone limit s p))) ps
 
--- ---- terms of one name, which most terms are
+-- ---- terms of one name, which most terms are: `singles` has them as one mask
 
-unfoldable pub single : ℕ → Bool
-single t = ltb 0 t && eqb t (lowest t)
-
--- the names that are terms of their own
-unfoldable pub singles : List ℕ → ℕ
-singles [] = 0
-singles (t ∷ p) = cond (single t) (union t (singles p)) (singles p)
+-- the term is one name
+abbrev pub single : ℕ → Bool
+single t = eqb (ones t) 1
 
 -- the other terms
 unfoldable pub several : List ℕ → List ℕ

@@ -43,7 +43,7 @@ pub fn row_holds(counts: &[u32], masks: &[u32], row: usize, set: u32) -> bool
     requires { ⌜ Parted (now counts) (now masks) row ⌝ }
     ensures { λ r. ⌜ r ≡ Predicates·holds set (rowTerms (now (counts .entry)) (now (masks .entry)) row) ⌝ }
 {
-    if 0 < names::shared(counts[96 + row], set) {
+    if 0 < names::shared(set, counts[96 + row]) {
         return true;
     }
     let at = 768 + row * 16;
@@ -109,7 +109,7 @@ fn sift(listed: &[u32], counts: &[u32], masks: &[u32], j: usize, set: u32, names
 {
     let row = listed[j] as usize;
     let one = counts[96 + row];
-    if 0 < names::shared(one, set) {
+    if 0 < names::shared(set, one) {
         return names;
     }
     let at = 768 + row * 16;
