@@ -6,7 +6,7 @@ use mathlib.Core.List.{List, [], _∷_}
 use Prim.Native.Nat.{ℕ, _+_, _≤_, _<_}
 use native.Mathlib.Omega.{arith}
 use native.Mathlib.Decide.{ℕ-discrete, decLe}
-use borrow.Author.Tests.{eq-eqb, le-leb, lt-leb}
+use borrow.Author.Tests.{eq-eqb, lt-leb}
 use lib.Bits.{and-zero-r, or-zero-r}
 use lib.Count.{ones}
 use lib.Dec.{T, T-not, eqb, eqb→eq, leb, leb→le, le→leb}

@@ -1,5 +1,4 @@
 -- `names::at_most_one` meets its contract: no name, or the least name alone (`lowest-only`).
-use mathlib.Core.Path.{sym}
 use native.Mathlib.Omega.{arith}
 use Rattle.names.proofs.SetLaws.{ones-empty}
 use Rattle.names.proofs.PartLaws.{lowest-only}
