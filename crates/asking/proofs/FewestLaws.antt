@@ -2,7 +2,7 @@
 -- before each of them. And what a search by rising counts has to find, set by set. Assumes nothing.
 use mathlib.Core.Path.{_≡_, refl, sym, ap₂, subst}
 use mathlib.Core.Logic.{_⊎_, inl, inr, ⊎-elim}
-use mathlib.Core.Bool.{_&&_, not, cond}
+use mathlib.Core.Bool.{Bool, true, _&&_, not, cond}
 use mathlib.Core.List.{List, [], _∷_}
 use Prim.Native.Nat.{ℕ, _≤_, _<_}
 use native.Mathlib.Nat.{le-refl}
@@ -11,6 +11,7 @@ use native.Mathlib.Omega.{arith}
 use lib.Dec.{T, T-not, not-T, leb, leb→le, nleb→lt, ltb, ltb→lt, nltb→le, eqb, eqb→eq, eqb-refl}
 use lib.Count.{ones}
 use lib.IntN.{ℤ, pos}
+use Rattle.names.proofs.SetLaws.{ones-empty, ones-none}
 use Rattle.predicates.specs.Lists.{all, keep, In}
 use Rattle.predicates.specs.Predicates.{holds}
 use Rattle.predicates.proofs.ListLaws.{both, both-l, both-r, or-cases, neither, cond-ind, keep-in, keep-out}
@@ -19,11 +20,11 @@ use Rattle.asking.specs.declared.Answer.{Answer}
 use Rattle.asking.specs.declared.Answer.the-variants.{Contradicted, Open, Between}
 use Rattle.asking.specs.declared.Fewest.{Fewest}
 use Rattle.asking.specs.declared.Fewest.the-variants.{Over, Few}
-use Rattle.asking.specs.Instants.{Fine, Allowed, Gives}
-use Rattle.asking.specs.Asking.{leaves, sets}
+use Rattle.asking.specs.Instants.{Fine, Allowed, Counts, Gives}
+use Rattle.asking.specs.Asking.{leaves, sets, answer}
 use Rattle.asking.specs.Claims.{neededAt, everything}
 use Rattle.asking.specs.Fewest.{some, works, before, best, choose, fewest, Works, Before, FewestOf}
-use Rattle.asking.proofs.AnswerLaws.{leaves-given, allowed-in, allowed-out}
+use Rattle.asking.proofs.AnswerLaws.{leaves-given, allowed-in, allowed-out, answer-given}
 use Rattle.asking.proofs.ClaimLaws.{everything-out, needed-out}
 use Rattle.asking.proofs.EndLaws.{fine-ends}
 
@@ -154,3 +155,18 @@ module _ (st : State) where
 
   pub fewest-over : ((s : ℕ) → Works st s → ⊥) → Over ≡ fewest st
   fewest-over f = fewest-only (Works st) Over (fewest st) f (fewest-is st)
+
+  -- an instant counts for no failed name
+  pub fewest-none : some (answer 0 st) ≡ true → Few 0 0 ≡ fewest st
+  fewest-none e =
+      let w = counted (answer 0 st) (answer-given 0 st) e in
+      let c = w .1 in
+      let none : c .0 ≡ 0 = ones-none (c .0) (omega (arith, c .1 .few)) in
+      let a : Allowed 4 (st .head .own) (c .0) = record { names = c .1 .names; few = omega (arith, c .1 .few); others = c .1 .others } in
+      let works : Works st (c .0) = (a, (w .0, c .2)) in
+      fewest-found 0 0 (subst (λ (x : ℕ). Works st x) none works) (omega (arith, ones-empty)) (λ s v. omega arith) (λ s v h. omega arith)
+    where
+      counted : (a : Answer) → Gives (Counts 0 st) a → some a ≡ true → (x : ℤ) × Counts 0 st x
+      counted Contradicted g q = absurd (subst (λ (b : Bool). T b) (sym q) tt)
+      counted Open g q = (pos 0, g (pos 0))
+      counted (Between l r) g q = (pos l, g .0)

@@ -9,6 +9,7 @@ ghost use Rattle.numbers.specs.Numbers.{num, tab};
 ghost use Rattle.state.specs.Layout.{heldCount, storeOf, stateOf};
 ghost use Rattle.state.specs.Form.{inForm};
 ghost use Rattle.asking.specs.Asking.{highest, lowest, answer};
+ghost use Rattle.asking.specs.Fewest.{some};
 ghost use Rattle.asking.specs.Claims.{everything, Explained};
 ghost use Rattle.asking.specs.Tables.{Loaded};
 ghost use Rattle.asking.specs.Ends.{Complete};
@@ -74,6 +75,18 @@ fn plain(s: &[u8]) -> Answer
         return Answer::Contradicted;
     }
     Answer::Between(ends.left, ends.right)
+}
+
+// Whether an instant counts where no name has failed.
+pub fn agree(s: &[u8]) -> bool
+    requires { ⌜ (3032 ≤ length (now s)) × T (inForm (now s)) ⌝ }
+    ensures { λ r. ⌜ r ≡ some (answer 0 (stateOf (now (s .entry)))) ⌝ }
+{
+    match plain(s) {
+        Answer::Contradicted => false,
+        Answer::Open => true,
+        Answer::Between(_, _) => true,
+    }
 }
 
 // The ends as seen from 2^58 - 1, so that the right ends are left ones and their falling is a rising.

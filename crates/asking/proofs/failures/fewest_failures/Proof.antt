@@ -1,13 +1,14 @@
 -- `asking::failures::fewest_failures` meets its contract: the first limit within which a set explains the state is the number of its names.
 -- Invariant: the arrays have the state's claims, and every set that works has at least `limit` names. Measure: the limits still to try.
 use Prim.Native.Nat.{_-_, _≤_}
-use mathlib.Core.Path.{_≡_, refl, ap, _∙_}
+use mathlib.Core.Path.{_≡_, refl, sym, ap, _∙_}
 use native.Mathlib.Omega.{arith}
 use lib.ListN.{length}
 use Rattle.names.specs.Sets.{others}
 use Rattle.state.specs.Layout.{headOf, stateOf}
 use Rattle.state.proofs.StateLaws.{form-ok, state-out}
 use Rattle.asking.proofs.ReadyLaws.{Prepared, rows-fit, prepared-in}
+use Rattle.asking.proofs.FewestLaws.{fewest-none}
 use Rattle.asking.proofs.FailureSteps.{Floor, floor-none, floor-found, floor-next, floor-over}
 use borrow.Author.Needs.{needs}
 use Rattle.asking.proofs.failures.fewest_failures.Statement.{statement}
@@ -21,10 +22,13 @@ Inv-loop s own h n rows counts masks order lefts rights free listed₀ limit₀ 
 abbrev μ-loop : tie.MeasureT-loop
 μ-loop s own h n rows counts masks order lefts rights free listed₀ limit₀ listed limit = 5 - limit
 
+returns : tie.Need-returns Inv-loop μ-loop
+returns c = fewest-none _ (sym (c .before .agree .ensures) ∙ c .if1 .taken)
+
 get-ends-requires : tie.Need-get-ends-requires Inv-loop μ-loop
 get-ends-requires c κs =
     let at-n = c .before .before .before .before .before .before .before .before .before in
-    let a = at-n .before .before .before .before in
+    let a = at-n .before .before .before .before .before .before in
     let fit = rows-fit _ (a .pre .1) _ _ (at-n .get323 .ensures .0) (at-n .before .get322 .ensures .0) in
     (a .pre .0, omega arith, omega arith, omega arith, omega arith)
 
@@ -32,7 +36,7 @@ others-requires : tie.Need-others-requires Inv-loop μ-loop
 unfolding stateOf headOf
 others-requires c κs =
     let at-own = c .before .before .before .before .before .before .before .before .before .before .before .before .before .before in
-    let a = at-own .before .before in
+    let a = at-own .before .before .before .before in
     omega (arith, at-own .get32 .ensures .0, state-out _ (form-ok _ (a .pre .1)) .own-le)
 
 loop-holds : tie.Need-loop-holds Inv-loop μ-loop
@@ -41,7 +45,7 @@ loop-holds c =
     let at-ends = c .before .before .before in
     let at-load = at-ends .before .before .before .before .before .before in
     let at-n = at-load .before .before .before .before in
-    let a = at-n .before .before .before .before in
+    let a = at-n .before .before .before .before .before .before in
     let load = at-load .load .ensures in (
       refl,
       omega arith,
@@ -56,11 +60,11 @@ least-set-requires c κs =
     let head = c .before .before .before .before .before .before .before in
     let ready = head .loop .inv .2 .ready in (ready, omega (arith, ready .most, head .loop .inv .0))
 
-returns : tie.Need-returns Inv-loop μ-loop
-returns c =
+returns-2 : tie.Need-returns-2 Inv-loop μ-loop
+returns-2 c =
     let head = c .before .before .before .before .before .before .before .before .before .before in
     let inv = head .loop .inv in
-    floor-found (inv .2) (omega arith) (rw (inv .3) at (c .before .before .least-set .ensures)) (inv .4) (c .if1 .taken)
+    floor-found (inv .2) (omega arith) (rw (inv .3) at (c .before .before .least-set .ensures)) (inv .4) (c .if2 .taken)
 
 loop-again : tie.Need-loop-again Inv-loop μ-loop
 loop-again c =
@@ -70,11 +74,11 @@ loop-again c =
       omega arith,
       inv .2,
       inv .3,
-      floor-next (inv .2) (omega arith) (rw (inv .3) at (c .before .before .least-set .ensures)) (inv .4) (c .if1 .left),
+      floor-next (inv .2) (omega arith) (rw (inv .3) at (c .before .before .least-set .ensures)) (inv .4) (c .if2 .left),
     )
 
-returns-2 : tie.Need-returns-2 Inv-loop μ-loop
-returns-2 c =
+returns-3 : tie.Need-returns-3 Inv-loop μ-loop
+returns-3 c =
     let loop = c .before .loop in
     let done : loop .limit ≡ 5 = omega (arith, loop .inv .1, c .loop-test .left) in
     floor-over _ (rw done at (loop .inv .4))
@@ -85,6 +89,8 @@ fewest-failures-spec =
     (tie.spec
     Inv-loop
     μ-loop
+    (λ c κs. search needs)
+    returns
     (λ c κs. search needs)
     (λ c κs. search needs)
     (λ c. search needs)
@@ -107,8 +113,8 @@ fewest-failures-spec =
     (λ c. search needs)
     (λ c. search needs)
     least-set-requires
-    returns
+    returns-2
     (λ c. search needs)
     (λ c. search needs)
     loop-again
-    returns-2)
+    returns-3)
