@@ -29,7 +29,7 @@ use Rattle.asking.specs.Search.{Fits, Rows, rowTerms, predAt, preds}
 use Rattle.asking.specs.Tables.{entryClaim, claimsOf, claimAt, Loaded, Bounded, outside}
 use Rattle.asking.specs.Ends.{needs, Complete}
 use Rattle.asking.proofs.ClaimLaws.{claims-in, claims-out}
-use Rattle.asking.proofs.EndSteps.{in-take, at-in, getD-map}
+use Rattle.asking.proofs.EndSteps.{in-take, take-in, at-in, getD-map}
 
 -- ---- sets
 
@@ -173,7 +173,7 @@ module _ (k : Store) (n rows : ℕ) (counts masks order : List ℕ) (loaded : Lo
     unfolding preds predAt
     order-everything h =
         each-everything k rows rows-count u (λ i l.
-        let w = in-take rows order i (complete .present i l) in
+        let w = complete .present i l in
         let at : getD (tab rows (λ j. terms (getD order j 0))) (w .0) [] ≡ terms i =
         getD-tab rows (w .0) (λ j. terms (getD order j 0)) [] (w .1) ∙ ap terms (sym (w .2)) in
         rw (sym (loaded .terms-are i l))
@@ -195,7 +195,7 @@ module _ (k : Store) (n rows : ℕ) (counts masks order : List ℕ) (loaded : Lo
           rw (sym (loaded .terms-are i l))
           (all-out (holds u) (map terms (keep (outside lefts rights x) (take rows order))) h (terms i)
           (map-in terms (keep (outside lefts rights x) (take rows order)) i
-          (keep-in (outside lefts rights x) (take rows order) i (complete .present i l) (rw (same i l) o)))))
+          (keep-in (outside lefts rights x) (take rows order) i (take-in rows order (complete .ordered) (complete .present i l)) (rw (same i l) o)))))
 
       pub needed-needs : T (all (holds u) (neededAt y k)) → T (all (holds u) (needs rows lefts rights counts masks order x))
       unfolding needs

@@ -14,15 +14,14 @@ use lib.ListN.{length, getD, take, drop, set, length-append, length-set, length-
 use lib.Seq.{take-suc}
 use lib.Count.{ones}
 use Rattle.names.specs.Sets.{subset, union, less}
-use Rattle.names.proofs.SetLaws.{subset-le, ones-empty}
-use Rattle.names.proofs.PartLaws.{union-add}
+use Rattle.names.proofs.SetLaws.{ones-empty}
 use Rattle.numbers.specs.Numbers.{put, tab}
 use Rattle.numbers.proofs.NumberLaws.{put-then, put-front, tab-ext}
 use Rattle.predicates.specs.Lists.{keep, In}
 use Rattle.predicates.specs.Predicates.{holds}
 use Rattle.predicates.proofs.ListLaws.{both, both-l, both-r, true-T, split, keep-out}
 use Rattle.engine.proofs.TableLaws.{keep-append}
-use Rattle.asking.specs.Search.{Fits, Best, Rows, rowTerms, predAt, preds, none}
+use Rattle.asking.specs.Search.{Best, Rows, rowTerms, predAt, preds, none}
 use Rattle.asking.specs.Tables.{outside}
 use Rattle.asking.specs.Ends.{noEnd, Next, Last, Latest, Ready, needs, Trying}
 use Rattle.asking.proofs.SearchLaws.{best-done}
@@ -200,6 +199,12 @@ in-take zero l x m = absurd m
 in-take (suc n) [] x m = absurd m
 in-take (suc n) (y ∷ l) x (inl e) = (0, omega arith, e)
 in-take (suc n) (y ∷ l) x (inr m) = let r = in-take n l x m in (suc (r .0), omega (arith, r .1), r .2)
+
+pub take-in : (n : ℕ) (l : List ℕ) → n ≤ length l → {x : ℕ} → (j : ℕ) × (j < n) × (x ≡ getD l j 0) → In x (take n l)
+take-in zero l h w = absurd (omega (arith, w .1))
+take-in (suc n) [] h w = absurd (omega arith)
+take-in (suc n) (y ∷ l) h (zero, _, e) = inl e
+take-in (suc n) (y ∷ l) h (suc j, b, e) = inr (take-in n l (omega arith) (j, omega arith, e))
 
 pub at-in : {A : Type 0} (l : List A) (d : A) (j : ℕ) → j < length l → In (getD l j d) l
 at-in [] d j h = absurd (omega arith)

@@ -11,6 +11,7 @@ pub mod LastLaws
 pub mod PartedLaws
 pub mod SearchSteps
 pub mod TableLaws
+pub mod OrderLaws
 pub mod EndSteps
 pub mod RunLaws
 pub mod ArrayLaws

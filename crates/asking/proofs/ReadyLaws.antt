@@ -1,63 +1,27 @@
 -- The arrays that a state in form is read into are ready for the search: all rows are in its order, and no left end is the number of no end.
 -- The idea: every row has 1 to 16 terms, so it is listed; places that the list does not reach hold 0, which is a row wherever there is one.
 -- No contract cites this file. Assumes nothing.
-use Prim.Native.Nat.{ℕ, zero, suc, _+_, _*_, _-_, _≤_, _<_}
+use Prim.Native.Nat.{ℕ, _+_, _-_, _≤_, _<_}
 use mathlib.Core.Path.{_≡_, refl, ap, _∙_}
-use mathlib.Core.Logic.{inl, inr}
-use mathlib.Core.List.{List, [], _∷_, _++_}
+use mathlib.Core.List.{List, [], _++_}
 use native.Mathlib.Decide.{decLt}
 use native.Mathlib.Omega.{arith}
 use lib.Dec.{T}
-use lib.ListN.{length, getD, take, drop, length-replicate, getD-replicate, List·getD-append}
-use Rattle.numbers.specs.Numbers.{num, put, tab}
-use Rattle.numbers.proofs.NumberLaws.{length-put, put-front, getD-put-after}
-use Rattle.predicates.specs.Lists.{In}
+use lib.ListN.{length, getD, drop, length-replicate}
+use Rattle.numbers.specs.Numbers.{tab}
 use Rattle.predicates.proofs.ListLaws.{all-out}
 use Rattle.state.specs.Model.{Store, State}
-use Rattle.state.specs.Layout.{heldCount, entryCount, zeros, joined, masksAt, storeOf, stateOf}
+use Rattle.state.specs.Layout.{heldCount, entryCount, zeros, storeOf, stateOf}
 use Rattle.state.specs.Form.{inForm, stateOk, datumOk}
 use Rattle.state.proofs.StateLaws.{state-out, held-count-le, entry-count-le, form-ok}
 use Rattle.engine.proofs.ReceiveLaws.{ok-datum-out}
-use Rattle.asking.specs.Tables.{entryClaim, claimAt, Loaded, Bounded, claimPlace, claimLeft, claimRight, ranked}
+use Rattle.asking.specs.Tables.{entryClaim, claimAt, Loaded, Bounded, claimLeft, claimRight}
 use Rattle.asking.specs.Ends.{noEnd, Ready, Complete}
-use Rattle.asking.proofs.TableLaws.{length-ranked, ranked-in, ranked-out, loaded-in, bounded-in}
+use Rattle.asking.proofs.TableLaws.{bounded-in}
 use Rattle.asking.proofs.EndSteps.{at-in}
 use Rattle.asking.proofs.ArrayLaws.{claim-entry, claim-datum}
 
--- ---- the order
-
-take-in : (n : ℕ) (l m : List ℕ) (x : ℕ) → length l ≤ n → In x l → In x (take n (l ++ m))
-take-in n [] m x h i = absurd i
-take-in zero (y ∷ l) m x h i = absurd (omega arith)
-take-in (suc n) (y ∷ l) m x h (inl e) = inl e
-take-in (suc n) (y ∷ l) m x h (inr i) = inr (take-in n l m x (omega arith) i)
-
 module _ {k : Store} {n rows : ℕ} {counts masks : List ℕ} (loaded : Loaded k n rows counts masks) (most : rows ≤ 48) where
-  abbrev listed : List ℕ
-  listed = ranked 16 counts rows
-
-  pub complete-in : (order : List ℕ) → order ≡ put 0 (ranked 16 counts rows) (zeros 48) → Complete rows order
-  complete-in order e =
-      record {
-        ordered = omega (arith, ap length e, length-put 0 listed (zeros 48), length-replicate {A = ℕ} 48 0);
-        placed = λ j h. go j h (decLt j (length listed));
-        present = λ i h. rw front (take-in rows listed _ i short (ranked-in 16 counts rows i h (loaded .few i h .0) (loaded .few i h .1)));
-      }
-    where
-      short : length listed ≤ rows
-      short = length-ranked 16 counts rows
-
-      front : order ≡ listed ++ drop (length listed) (zeros 48)
-      front = e ∙ put-front (length listed) listed (zeros 48) refl (omega (arith, short, length-replicate {A = ℕ} 48 0))
-
-      go : (j : ℕ) → j < rows → Dec (j < length listed) → getD order j 0 < rows
-      go j h (yes l) =
-          let at : getD order j 0 ≡ getD listed j 0 = ap (λ (o : List ℕ). getD o j 0) front ∙ List·getD-append listed _ 0 j l in
-          rw at (ranked-out 16 counts rows _ (at-in listed 0 j l))
-      go j h (no l) =
-          let at : getD order j 0 ≡ getD (zeros 48) j 0 = ap (λ (o : List ℕ). getD o j 0) e ∙ getD-put-after 0 j listed (zeros 48) (omega arith) in
-          omega (arith, getD-replicate {A = ℕ} 48 j 0 0 (omega arith))
-
   pub ready-in : (lefts rights order : List ℕ) → Bounded k rows lefts rights → Complete rows order → ((i : ℕ) → i < rows → getD lefts i 0 < noEnd)
       → Ready n rows lefts rights counts masks order
   ready-in lefts rights order bounded complete below =

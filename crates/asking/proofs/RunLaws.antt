@@ -4,7 +4,7 @@
 use Prim.Native.Nat.{ℕ, _+_, _-_, _≤_, _<_}
 use mathlib.Core.Path.{_≡_, sym, ap, subst, _∙_}
 use mathlib.Core.Logic.{_⊎_, inl, inr, ⊎-elim}
-use mathlib.Core.Bool.{Bool, true, _||_, not}
+use mathlib.Core.Bool.{true, not}
 use mathlib.Core.List.{List, []}
 use native.Mathlib.Decide.{decLt, decLe}
 use native.Mathlib.Omega.{arith}
@@ -18,11 +18,11 @@ use Rattle.names.proofs.SetLaws.{subset-le}
 use Rattle.names.proofs.PartLaws.{union-add}
 use Rattle.predicates.specs.Lists.{all, keep, In}
 use Rattle.predicates.specs.Predicates.{holds}
-use Rattle.predicates.proofs.ListLaws.{true-T, split, or-l, or-r, or-cases, all-in, all-out, keep-in, keep-out, map-in, map-out}
+use Rattle.predicates.proofs.ListLaws.{true-T, or-l, or-r, or-cases, all-in, all-out, keep-in, keep-out, map-in, map-out}
 use Rattle.asking.specs.Search.{Fits, Best, rowTerms, predAt, preds, none}
 use Rattle.asking.specs.Tables.{outside}
 use Rattle.asking.specs.Ends.{noEnd, Next, Last, IsEnd, Unbroken, Latest, Ready, needs, First, FirstRun, Unexplained}
-use Rattle.asking.proofs.EndSteps.{in-take, at-in, outside-test}
+use Rattle.asking.proofs.EndSteps.{in-take, at-in, outside-test, take-in}
 
 -- ---- rows that lack an instant
 
@@ -214,7 +214,7 @@ module _ (n rows : ℕ) (lefts rights counts masks order : List ℕ) (ready : Re
     unfolding needs
     needed-true x u k f h o =
         all-out (holds u) (needs rows lefts rights counts masks order x) (f .holding) (rowTerms counts masks k)
-        (map-in (rowTerms counts masks) (keep (outside lefts rights x) (take rows order)) k (keep-in (outside lefts rights x) (take rows order) k (ready .present k h) o))
+        (map-in (rowTerms counts masks) (keep (outside lefts rights x) (take rows order)) k (keep-in (outside lefts rights x) (take rows order) k (take-in rows order (ready .ordered) (ready .present k h)) o))
 
     module _ (x u l e : ℕ) (f : Explains x u) (end : IsEnd n rows lefts x) (latest : Latest n rows lefts counts masks u l)
         (next : Next lefts n rows l e) where

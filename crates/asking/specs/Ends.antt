@@ -7,7 +7,7 @@ use mathlib.Core.Bool.{not}
 use mathlib.Core.List.{List, _∷_, map}
 use lib.Dec.{T}
 use lib.ListN.{length, getD, take, drop}
-use Rattle.predicates.specs.Lists.{keep, In}
+use Rattle.predicates.specs.Lists.{keep}
 use Rattle.predicates.specs.Predicates.{holds}
 use Rattle.asking.specs.Search.{Fits, Best, rowTerms, Parted, preds, none}
 use Rattle.asking.specs.Tables.{outside}
@@ -40,7 +40,7 @@ pub record Ready (n rows : ℕ) (lefts rights counts masks order : List ℕ) : T
   pub long : rows * 16 ≤ length masks
   pub ordered : rows ≤ length order
   pub placed : (j : ℕ) → j < rows → getD order j 0 < rows
-  pub present : (k : ℕ) → k < rows → In k (take rows order)
+  pub present : (k : ℕ) → k < rows → (j : ℕ) × (j < rows) × (k ≡ getD order j 0)
   pub parted : (k : ℕ) → k < rows → Parted counts masks k
 
 -- the predicates to be made true for the instant x
@@ -89,7 +89,7 @@ Trying limit free whole masks ps end at left =
 pub record Complete (rows : ℕ) (order : List ℕ) : Type 0 where
   pub ordered : rows ≤ length order
   pub placed : (j : ℕ) → j < rows → getD order j 0 < rows
-  pub present : (i : ℕ) → i < rows → In i (take rows order)
+  pub present : (k : ℕ) → k < rows → (j : ℕ) × (j < rows) × (k ≡ getD order j 0)
 
 -- r is the least of the sets within the limit that make all predicates true, or those that a left end from row n on needs; or no set
 pub record Least (n rows : ℕ) (lefts rights counts masks order : List ℕ) (limit free r : ℕ) : Type 0 where

@@ -1,9 +1,8 @@
 -- `asking::ends::first_in_run` meets its contract: each set that is found leads to an earlier end, until the one before it in the run has no set.
 -- Invariant: the set explains the end, which is an end of the run or an earlier one. Measure: the end.
-use Prim.Native.Nat.{ℕ, _≤_}
+use Prim.Native.Nat.{_≤_}
 use mathlib.Core.Path.{_≡_, refl, _∙_}
 use mathlib.Core.Logic.{⊎-elim}
-use native.Mathlib.Nat.{le-refl}
 use native.Mathlib.Omega.{arith}
 use lib.ListN.{length}
 use Rattle.names.proofs.SetLaws.{ones-empty}

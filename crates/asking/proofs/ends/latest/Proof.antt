@@ -1,7 +1,7 @@
 -- `asking::ends::latest` meets its contract: the latest so far is kept.
 -- Invariant: it is the latest of rows n to i. Measure: the rows still to look at.
 use Prim.Native.Nat.{_-_, _≤_, _<_}
-use mathlib.Core.Path.{_≡_, sym, ap, _∙_}
+use mathlib.Core.Path.{_≡_}
 use mathlib.Core.Bool.{Bool, false, not}
 use mathlib.Core.Logic.{inl, inr, ⊎-elim}
 use native.Mathlib.Nat.{le-refl}

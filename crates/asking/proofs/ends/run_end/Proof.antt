@@ -1,5 +1,4 @@
 -- `asking::ends::run_end` meets its contract: no right end from x on is before the least of them, and so before a left end that is not beyond it.
-use native.Mathlib.Omega.{arith}
 use Rattle.asking.proofs.RunLaws.{run-in, run-at}
 use borrow.Author.Needs.{needs}
 use Rattle.asking.proofs.ends.run_end.Statement.{statement}

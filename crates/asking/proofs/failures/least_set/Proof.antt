@@ -1,7 +1,7 @@
 -- `asking::failures::least_set` meets its contract: a search for the last end of each run over the rows that lack it; over all rows where there is no
 -- end. Invariant: the best so far is the least of the sets that a left end below the floor needs; the array of the listed rows keeps its length.
 -- Measure: the instants from the floor on.
-use Prim.Native.Nat.{_-_, _≤_}
+use Prim.Native.Nat.{_-_}
 use mathlib.Core.Path.{_≡_, refl, _∙_}
 use native.Mathlib.Omega.{arith}
 use lib.ListN.{length}
