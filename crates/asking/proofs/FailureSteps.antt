@@ -3,6 +3,7 @@
 -- counts; so a limit without one shows that a set that works has more names. No contract cites this file. Assumes nothing.
 use Prim.Native.Nat.{ℕ, _+_, _-_, _≤_, _<_}
 use mathlib.Core.Path.{_≡_, refl, sym, ap, subst, _∙_}
+use mathlib.Core.Bool.{false}
 use mathlib.Core.Logic.{_⊎_, inl, inr, ⊎-elim}
 use mathlib.Core.List.{List, []}
 use native.Mathlib.Nat.{le-trans}
@@ -17,12 +18,13 @@ use Rattle.asking.specs.Instants.{Allowed}
 use Rattle.asking.specs.Search.{Fits, Best, Rows, preds, none}
 use Rattle.asking.specs.Tables.{entryClaim, claimAt, Loaded, Bounded}
 use Rattle.asking.specs.Ends.{noEnd, Next, IsEnd, Unbroken, Ready, Complete, Least, needs}
-use Rattle.asking.specs.Fewest.{fewest, Works}
+use Rattle.asking.specs.Asking.{answer}
+use Rattle.asking.specs.Fewest.{some, fewest, Works}
 use Rattle.asking.proofs.EndSteps.{at-in}
 use Rattle.asking.proofs.RunLaws.{end-below, run-needs, all-explains}
 use Rattle.asking.proofs.ArrayLaws.{fits-allowed, allowed-fits, in-at, claim-datum, order-everything, everything-order, needs-needed, needed-needs, left-outside}
 use Rattle.asking.proofs.ReadyLaws.{Prepared}
-use Rattle.asking.proofs.FewestLaws.{Seen, works-ends, ends-works, fewest-found, fewest-over}
+use Rattle.asking.proofs.FewestLaws.{Seen, works-ends, ends-works, fewest-found, fewest-over, works-failed}
 
 -- r is the least of the sets W, or no set
 pub record LeastOf (W : ℕ → Type 0) (r : ℕ) : Type 0 where
@@ -177,8 +179,8 @@ module _ (k : Store) (n rows : ℕ) (counts masks order lefts rights : List ℕ)
 pub record Floor (st : State) (limit : ℕ) : Type 0 where
   pub under : (s : ℕ) → Works st s → limit ≤ ones s
 
-pub floor-none : (st : State) → Floor st 0
-floor-none st = record { under = λ s w. omega arith }
+pub floor-one : (st : State) → some (answer 0 st) ≡ false → Floor st 1
+floor-one st e = record { under = λ s w. omega (arith, works-failed st e s w) }
 
 pub floor-over : (st : State) → Floor st 5 → Over ≡ fewest st
 floor-over st f = fewest-over st (λ s w. omega (arith, f .under s w, w .0 .few))

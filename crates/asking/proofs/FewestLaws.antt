@@ -2,7 +2,7 @@
 -- before each of them. And what a search by rising counts has to find, set by set. Assumes nothing.
 use mathlib.Core.Path.{_≡_, refl, sym, ap₂, subst}
 use mathlib.Core.Logic.{_⊎_, inl, inr, ⊎-elim}
-use mathlib.Core.Bool.{Bool, true, _&&_, not, cond}
+use mathlib.Core.Bool.{Bool, true, false, _&&_, not, cond}
 use mathlib.Core.List.{List, [], _∷_}
 use Prim.Native.Nat.{ℕ, _≤_, _<_}
 use native.Mathlib.Nat.{le-refl}
@@ -170,3 +170,18 @@ module _ (st : State) where
       counted Contradicted g q = absurd (subst (λ (b : Bool). T b) (sym q) tt)
       counted Open g q = (pos 0, g (pos 0))
       counted (Between l r) g q = (pos l, g .0)
+
+  -- an instant counts for none but failed names
+  pub works-failed : some (answer 0 st) ≡ false → (s : ℕ) → Works st s → 0 < ones s
+  works-failed e s w = go (decLt 0 (ones s))
+    where
+      uncounted : (a : Answer) → Gives (Counts 0 st) a → some a ≡ false → (x : ℤ) → Counts 0 st x → ⊥
+      uncounted Contradicted g q = g
+      uncounted Open g q = absurd (subst (λ (b : Bool). T b) q tt)
+      uncounted (Between l r) g q = absurd (subst (λ (b : Bool). T b) q tt)
+
+      go : Dec (0 < ones s) → 0 < ones s
+      go (yes h) = h
+      go (no h) =
+          let a : Allowed 0 (st .head .own) s = record { names = w .0 .names; few = omega arith; others = w .0 .others } in
+          absurd (uncounted (answer 0 st) (answer-given 0 st) e (w .1 .0) (s, a, w .1 .1))

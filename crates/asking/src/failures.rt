@@ -76,7 +76,7 @@ pub fn fewest_failures(s: &[u8]) -> Fewest
     super::claims::get_ends(s, n, rows, &mut lefts, &mut rights);
     let free = names::others(own);
     let mut listed = [0u32; 48];
-    let mut limit: u32 = 0;
+    let mut limit: u32 = 1;
     while limit < 5 {
         let set = least_set(
             &lefts,

@@ -9,7 +9,7 @@ use Rattle.state.specs.Layout.{headOf, stateOf}
 use Rattle.state.proofs.StateLaws.{form-ok, state-out}
 use Rattle.asking.proofs.ReadyLaws.{Prepared, rows-fit, prepared-in}
 use Rattle.asking.proofs.FewestLaws.{fewest-none}
-use Rattle.asking.proofs.FailureSteps.{Floor, floor-none, floor-found, floor-next, floor-over}
+use Rattle.asking.proofs.FailureSteps.{Floor, floor-one, floor-found, floor-next, floor-over}
 use borrow.Author.Needs.{needs}
 use Rattle.asking.proofs.failures.fewest_failures.Statement.{statement}
 use Rattle.asking.proofs.failures.fewest_failures.Tie as tie
@@ -52,7 +52,7 @@ loop-holds c =
       prepared-in _ (a .pre .1) _ _ (at-n .get323 .ensures .0) (at-n .before .get322 .ensures .0) _ _ _ _ _ (load .0) (load .1)
           (at-ends .get-ends .ensures .0) (at-ends .get-ends .ensures .1),
       c .others .ensures ∙ ap others (at-n .before .before .get32 .ensures .0),
-      floor-none _,
+      floor-one _ (sym (at-n .before .before .before .before .agree .ensures) ∙ at-n .before .before .before .if1 .left),
     )
 
 least-set-requires : tie.Need-least-set-requires Inv-loop μ-loop
