@@ -21,7 +21,7 @@ use Rattle.asking.specs.Ends.{noEnd, Next, IsEnd, Unbroken, Ready, Compl
 use Rattle.asking.specs.Asking.{answer}
 use Rattle.asking.specs.Fewest.{some, fewest, Works}
 use Rattle.asking.proofs.EndSteps.{at-in}
-use Rattle.asking.proofs.RunLaws.{end-below, run-needs, all-explains}
+use Rattle.asking.proofs.RunLaws.{under-floor, run-is-end, runs-room, run-needs, all-explains}
 use Rattle.asking.proofs.ArrayLaws.{fits-allowed, allowed-fits, in-at, claim-datum, order-everything, everything-order, needs-needed, needed-needs, left-outside}
 use Rattle.asking.proofs.ReadyLaws.{Prepared}
 use Rattle.asking.proofs.FewestLaws.{Seen, works-ends, ends-works, fewest-found, fewest-over, works-failed}
@@ -47,27 +47,13 @@ module _ (n rows : ℕ) (lefts rights counts masks order : List ℕ) (limit free
 
   module _ (ready : Ready n rows lefts rights counts masks order) (floor from best : ℕ) (w : LeastOf (Passed floor) best)
       (next : Next lefts n rows floor from) where
-    -- an end below the next one is below the floor
-    under : (k : ℕ) → n ≤ k → k < rows → getD lefts k 0 < from → getD lefts k 0 < floor
-    under k a b c = go (decLt (getD lefts k 0) floor)
-      where
-        go : Dec (getD lefts k 0 < floor) → getD lefts k 0 < floor
-        go (yes l) = l
-        go (no l) = absurd (omega (arith, next .least k a b (omega arith)))
-
     module _ (some : from ≡ noEnd → ⊥) (x : ℕ) (run : Unbroken n rows rights from x) (at : (x ≡ from) ⊎ IsEnd n rows lefts x) (r : ℕ)
         (b : Best 0 limit 0 free (needs rows lefts rights counts masks order x) best r) where
       end : IsEnd n rows lefts x
-      end =
-          ⊎-elim
-          (λ e. subst (λ (y : ℕ). IsEnd n rows lefts y) (sym e) (⊎-elim (λ q. absurd (some q)) (λ v. (v .0, v .1, v .2, v .3)) (next .one)))
-          (λ v. v) at
+      end = run-is-end n rows lefts rights counts masks order ready floor from next some x run at
 
-      pub least-room : (x < noEnd) × (floor ≤ x)
-      least-room = (
-        end-below n rows lefts rights counts masks order ready x end,
-        ⊎-elim (λ q. absurd (some q)) (λ v. omega (arith, v .4, run .rising)) (next .one),
-      )
+      room : (x < noEnd) × (floor ≤ x)
+      room = runs-room n rows lefts rights counts masks order ready floor from next some x run at
 
       pub least-next : LeastOf (Passed (x + 1)) r
       least-next =
@@ -81,10 +67,10 @@ module _ (n rows : ℕ) (lefts rights counts masks order : List ℕ) (limit free
           }
         where
           wider : (u : ℕ) → Passed floor u → Passed (x + 1) u
-          wider u p = (p .0, p .1, p .2, omega (arith, p .3, least-room .1), p .4)
+          wider u p = (p .0, p .1, p .2, omega (arith, p .3, room .1), p .4)
 
           go : (u : ℕ) (p : Passed (x + 1) u) → Dec (getD lefts (p .0) 0 < from) → r ≤ u
-          go u p (yes l) = le-trans (b .low) (w .least u (p .0, p .1, p .2, under (p .0) (p .1) (p .2) l, p .4))
+          go u p (yes l) = le-trans (b .low) (w .least u (p .0, p .1, p .2, under-floor n rows lefts rights counts masks order ready floor from next (p .0) (p .1) (p .2) l, p .4))
           go u p (no l) =
               ⊎-elim (λ h. h) (λ h. absurd (omega arith))
               (b .least u (run-needs n rows lefts rights counts masks order ready limit free from x run (getD lefts (p .0) 0) u (omega arith) (omega (arith, p .3)) (p .4)))
@@ -106,7 +92,7 @@ module _ (n rows : ℕ) (lefts rights counts masks order : List ℕ) (limit free
             go f l = omega arith
 
         each : (k : ℕ) → n ≤ k → k < rows → (u : ℕ) → Explains (getD lefts k 0) u → best ≤ u
-        each k a l u f = w .least u (k, a, l, under k a l (omega (arith, ready .below k l)), f)
+        each k a l u f = w .least u (k, a, l, under-floor n rows lefts rights counts masks order ready floor from next k a l (omega (arith, ready .below k l)), f)
 
   -- there is no end at all
   pub least-alone : n ≡ rows → (r : ℕ) → Best 0 limit 0 free (preds rows order counts masks) none r

@@ -71,6 +71,27 @@ module _ (n rows : ℕ) (lefts rights counts masks order : List ℕ) (ready : Re
   pub end-below : (x : ℕ) → IsEnd n rows lefts x → x < noEnd
   end-below x e = omega (arith, e .3, ready .below (e .0) (e .2))
 
+  -- ---- the next run: from the next end on, to x
+
+  module _ (floor from : ℕ) (next : Next lefts n rows floor from) where
+    -- an end below the next one is below the floor
+    pub under-floor : (k : ℕ) → n ≤ k → k < rows → getD lefts k 0 < from → getD lefts k 0 < floor
+    under-floor k a b c = go (decLt (getD lefts k 0) floor)
+      where
+        go : Dec (getD lefts k 0 < floor) → getD lefts k 0 < floor
+        go (yes l) = l
+        go (no l) = absurd (omega (arith, next .least k a b (omega arith)))
+
+    module _ (some : from ≡ noEnd → ⊥) (x : ℕ) (run : Unbroken n rows rights from x) (at : (x ≡ from) ⊎ IsEnd n rows lefts x) where
+      from-end : IsEnd n rows lefts from
+      from-end = ⊎-elim (λ e. absurd (some e)) (λ w. (w .0, w .1, w .2, w .3)) (next .one)
+
+      pub run-is-end : IsEnd n rows lefts x
+      run-is-end = ⊎-elim (λ e. subst (λ (y : ℕ). IsEnd n rows lefts y) (sym e) from-end) (λ w. w) at
+
+      pub runs-room : (x < noEnd) × (floor ≤ x)
+      runs-room = (end-below x run-is-end, ⊎-elim (λ e. absurd (some e)) (λ w. omega (arith, w .4, run .rising)) (next .one))
+
   module _ (limit free : ℕ) where
     abbrev pub Explains : ℕ → ℕ → Type 0
     Explains x u = Fits limit 0 free (needs rows lefts rights counts masks order x) u
@@ -157,13 +178,8 @@ module _ (n rows : ℕ) (lefts rights counts masks order : List ℕ) (ready : Re
       -- ---- one run after the other
 
       module _ (floor from : ℕ) (before : Unexplained n rows lefts rights counts masks order limit free floor) (next : Next lefts n rows floor from) where
-        -- an end below the next one is below the floor
-        pub passed : Unexplained n rows lefts rights counts masks order limit free from
-        passed k a b c = before k a b (go (decLt (getD lefts k 0) floor))
-          where
-            go : Dec (getD lefts k 0 < floor) → getD lefts k 0 < floor
-            go (yes l) = l
-            go (no l) = absurd (omega (arith, next .least k a b (omega arith)))
+        passed : Unexplained n rows lefts rights counts masks order limit free from
+        passed k a b c = before k a b (under-floor floor from next k a b c)
 
         pub runs-none : from ≡ noEnd → FirstRun n rows lefts rights counts masks order limit free 0 0 none
         runs-none e =
@@ -176,19 +192,13 @@ module _ (n rows : ℕ) (lefts rights counts masks order : List ℕ) (ready : Re
             }
 
         module _ (some : from ≡ noEnd → ⊥) (x : ℕ) (run : Unbroken n rows rights from x) (at : (x ≡ from) ⊎ IsEnd n rows lefts x) where
-          pub from-end : IsEnd n rows lefts from
-          from-end = ⊎-elim (λ e. absurd (some e)) (λ w. (w .0, w .1, w .2, w .3)) (next .one)
-
-          pub run-is-end : IsEnd n rows lefts x
-          run-is-end = ⊎-elim (λ e. subst (λ (y : ℕ). IsEnd n rows lefts y) (sym e) from-end) (λ w. w) at
-
           pub runs-found : (r : ℕ) → Best none limit 0 free (needs rows lefts rights counts masks order x) none r → r < none
               → FirstRun n rows lefts rights counts masks order limit free from x r
           runs-found r b l =
               record {
                 run = λ _. run;
-                begins = λ _. from-end;
-                explained = λ _. (run-is-end, ⊎-elim (λ e. absurd (omega arith)) (λ f. f) (b .from));
+                begins = λ _. from-end floor from next some x run at;
+                explained = λ _. (run-is-end floor from next some x run at, ⊎-elim (λ e. absurd (omega arith)) (λ f. f) (b .from));
                 before = λ _. passed;
                 never = λ h. absurd (omega arith);
               }
@@ -196,12 +206,6 @@ module _ (n rows : ℕ) (lefts rights counts masks order : List ℕ) (ready : Re
           pub runs-next : Best none limit 0 free (needs rows lefts rights counts masks order x) none none
               → Unexplained n rows lefts rights counts masks order limit free (x + 1)
           runs-next b = run-fails from x run passed (no-set x none b (omega arith))
-
-          pub runs-room : x < noEnd
-          runs-room = end-below x run-is-end
-
-          pub runs-far : floor ≤ x
-          runs-far = ⊎-elim (λ e. absurd (some e)) (λ w. omega (arith, w .4, run .rising)) (next .one)
 
     pub no-first : (from end set : ℕ) → FirstRun n rows lefts rights counts masks order limit free from end set → none ≤ set
         → First n rows lefts rights counts masks order limit free 0 none

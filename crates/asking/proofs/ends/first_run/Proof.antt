@@ -11,7 +11,7 @@ use Rattle.asking.specs.Search.{none, Rows, preds}
 use Rattle.asking.specs.Ends.{noEnd, needs as Ends·needs, Unexplained, Trying}
 use Rattle.asking.proofs.SearchSteps.{worth-few}
 use Rattle.asking.proofs.EndSteps.{listed-row, listed-rows, listed-needs, trying-begin, trying-none, trying-skip, trying-stop, trying-on, none-needed}
-use Rattle.asking.proofs.RunLaws.{runs-none, runs-found, runs-next, runs-room, runs-far}
+use Rattle.asking.proofs.RunLaws.{runs-none, runs-found, runs-next, runs-room}
 use borrow.Author.Needs.{needs}
 use Rattle.asking.proofs.ends.first_run.Statement.{statement}
 use Rattle.asking.proofs.ends.first_run.Tie as tie
@@ -116,14 +116,14 @@ add-floor c =
     let at-list = c .before .before .before .before .before .before .before in
     let head = at-list .before .before .before .before .before in
     let a = head .before .before .before .before .before .before .before in
-    record { fits = omega (arith, runs-room _ _ _ _ _ _ _ (a .pre .0) _ _ (a .pre .2) _ _ (head .ends .inv .1) (at-list .before .before .before .before .next-end .ensures) (at-list .before .before .before .if1 .left) _ (at-list .before .before .run-end .ensures .0) (at-list .before .before .run-end .ensures .1)) }
+    record { fits = omega (arith, runs-room _ _ _ _ _ _ _ (a .pre .0) _ _ (at-list .before .before .before .before .next-end .ensures) (at-list .before .before .before .if1 .left) _ (at-list .before .before .run-end .ensures .0) (at-list .before .before .run-end .ensures .1) .0) }
 
 ends-less : tie.Need-ends-less Inv-loop μ-loop Inv-ends μ-ends
 ends-less c =
     let at-list = c .before .before .before .before .before .before .before in
     let head = at-list .before .before .before .before .before in
     let a = head .before .before .before .before .before .before .before in
-    omega (arith, runs-room _ _ _ _ _ _ _ (a .pre .0) _ _ (a .pre .2) _ _ (head .ends .inv .1) (at-list .before .before .before .before .next-end .ensures) (at-list .before .before .before .if1 .left) _ (at-list .before .before .run-end .ensures .0) (at-list .before .before .run-end .ensures .1), runs-far _ _ _ _ _ _ _ (a .pre .0) _ _ (a .pre .2) _ _ (head .ends .inv .1) (at-list .before .before .before .before .next-end .ensures) (at-list .before .before .before .if1 .left) _ (at-list .before .before .run-end .ensures .0) (at-list .before .before .run-end .ensures .1))
+    omega (arith, runs-room _ _ _ _ _ _ _ (a .pre .0) _ _ (at-list .before .before .before .before .next-end .ensures) (at-list .before .before .before .if1 .left) _ (at-list .before .before .run-end .ensures .0) (at-list .before .before .run-end .ensures .1))
 
 ends-again : tie.Need-ends-again Inv-loop μ-loop Inv-ends μ-ends
 ends-again c =

@@ -8,7 +8,8 @@ use lib.ListN.{length}
 use Rattle.names.proofs.SetLaws.{ones-empty}
 use Rattle.asking.specs.Ends.{noEnd}
 use Rattle.asking.proofs.EndSteps.{listed-rows, listed-needs}
-use Rattle.asking.proofs.FailureSteps.{LeastOf, Passed, least-begin, least-room, least-next, least-in, least-alone, ready-rows}
+use Rattle.asking.proofs.RunLaws.{runs-room}
+use Rattle.asking.proofs.FailureSteps.{LeastOf, Passed, least-begin, least-next, least-in, least-alone, ready-rows}
 use borrow.Author.Needs.{needs}
 use Rattle.asking.proofs.failures.least_set.Statement.{statement}
 use Rattle.asking.proofs.failures.least_set.Tie as tie
@@ -70,28 +71,17 @@ add-floor c =
     let at-list = c .before .before .before .before in
     let head = at-list .before .before .before .before .before in
     let a = head .before .before .before .before .before .before .before .before in
-    let out = at-list .list-outside .ensures in
-    let same = listed-needs _ _ _ _ _ _ _ _ _ (a .pre .0) (omega (arith, a .pre .1, head .loop .inv .0)) _ _ (out .0 .0) (out .0 .1) (out .1) in
     let run = at-list .before .before .run-end .ensures in
     let next = at-list .before .before .before .before .next-end .ensures in
-    let room = least-room _ _ _ _ _ _ _ _ _ (a .pre .0) _ _ _ (head .loop .inv .1) next (at-list .before .before .before .if2 .left) _ (run .0) (run .1) _
-    (rw same at (c .predicate-step2 .ensures)) in
-    record { fits = omega (arith, room .0) }
+    record { fits = omega (arith, runs-room _ _ _ _ _ _ _ (a .pre .0) _ _ next (at-list .before .before .before .if2 .left) _ (run .0) (run .1) .0) }
 
 loop-less : tie.Need-loop-less Inv-loop μ-loop
 loop-less c =
     let at-list = c .before .before .before .before in
-    let head = at-list .before .before .before .before .before in
-    let a = head .before .before .before .before .before .before .before .before in
-    let out = at-list .list-outside .ensures in
-    let same = listed-needs _ _ _ _ _ _ _ _ _ (a .pre .0) (omega (arith, a .pre .1, head .loop .inv .0)) _ _ (out .0 .0) (out .0 .1) (out .1) in
+    let a = at-list .before .before .before .before .before .before .before .before .before .before .before .before .before in
     let run = at-list .before .before .run-end .ensures in
     let next = at-list .before .before .before .before .next-end .ensures in
-    omega (
-      arith,
-      least-room _ _ _ _ _ _ _ _ _ (a .pre .0) _ _ _ (head .loop .inv .1) next (at-list .before .before .before .if2 .left) _ (run .0) (run .1) _
-          (rw same at (c .predicate-step2 .ensures)),
-    )
+    omega (arith, runs-room _ _ _ _ _ _ _ (a .pre .0) _ _ next (at-list .before .before .before .if2 .left) _ (run .0) (run .1))
 
 loop-again : tie.Need-loop-again Inv-loop μ-loop
 loop-again c =
