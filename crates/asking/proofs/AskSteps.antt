@@ -13,7 +13,7 @@ use lib.Dec.{T}
 use lib.ListN.{length, getD, drop, drop-of-length-le}
 use lib.Seq.{drop-cons}
 use Rattle.numbers.specs.Numbers.{num, tab}
-use Rattle.numbers.proofs.NumberLaws.{length-tab, getD-tab}
+use Rattle.numbers.proofs.NumberLaws.{above-zero, length-tab, getD-tab}
 use Rattle.names.specs.Sets.{others}
 use Rattle.names.proofs.SetLaws.{subset-refl}
 use Rattle.names.proofs.PartLaws.{others-lt}
@@ -199,10 +199,7 @@ module _ (s : List ℕ) (t : T (inForm s)) where
       ends : answer 0 st ≡ interval l r
       unfolding stateOf
       ends =
-          rw (c, d) (plain-interval st (form-bare st (form-ok s t)) (rw length-entries (omega arith)) (rw length-held (positive some)) (form-right st (form-ok s t)))
-        where
-          positive : (h ≡ 0 → ⊥) → 0 < heldCount s
-          positive f = omega arith
+          rw (c, d) (plain-interval st (form-bare st (form-ok s t)) (rw length-entries (omega arith)) (rw length-held (rw b at (above-zero some))) (form-right st (form-ok s t)))
 
       pub plain-apart : r < l → Contradicted ≡ answer 0 st
       plain-apart k = sym (ends ∙ rw (lt-leb l r k))

@@ -61,7 +61,7 @@ module _ (s : ℕ) (k : Store) where
       (r .0, inall-in s (k .held) (pos x) (λ d m. go (r .1) d m (split (inside x d))))
     where
       go : ((d : Datum) → In d (keep (λ e. not (inside x e)) (k .held)) → T (holds s (d .terms))) → (d : Datum) → In d (k .held)
-          → T (inside x d) ⊎ T (not (inside x d)) → Allows s d (pos x)
+          → T (inside x d) ⊎ T (not (inside x d)) → Allows s (pos x) d
       go f d m (inl i) = λ _. inside-out x d i
       go f d m (inr o) = not-active s d (f d (keep-in (λ (e : Datum). not (inside x e)) (k .held) d m o)) (pos x)
 

@@ -62,19 +62,19 @@ module _ (s : ℕ) where
   abbrev pub Active : Datum → Type 0
   Active d = T (not (holds s (d .terms)))
 
-  -- "true time is in the interval, or the predicate is true"
-  abbrev pub Allows : Datum → ℤ → Type 0
-  Allows d x = Active d → Within (d .left) (d .right) x
+  -- "true time is in the interval, or the predicate is true": the claim of a datum about the instant x
+  abbrev pub Allows : ℤ → Datum → Type 0
+  Allows x d = Active d → Within (d .left) (d .right) x
 
-  pub not-active : (d : Datum) → T (holds s (d .terms)) → (x : ℤ) → Allows d x
+  pub not-active : (d : Datum) → T (holds s (d .terms)) → (x : ℤ) → Allows x d
   not-active d h x a = absurd (T-not (holds s (d .terms)) a h)
 
-  pub inall-out : (ds : List Datum) (x : ℤ) → InAll s ds x → (d : Datum) → In d ds → Allows d x
+  pub inall-out : (ds : List Datum) (x : ℤ) → InAll s ds x → (d : Datum) → In d ds → Allows x d
   inall-out [] x h d m = absurd m
-  inall-out (e ∷ ds) x h d (inl p) = subst (λ (c : Datum). Allows c x) (sym p) (h .0)
+  inall-out (e ∷ ds) x h d (inl p) = subst (λ (c : Datum). Allows x c) (sym p) (h .0)
   inall-out (e ∷ ds) x h d (inr m) = inall-out ds x (h .1) d m
 
-  pub inall-in : (ds : List Datum) (x : ℤ) → ((d : Datum) → In d ds → Allows d x) → InAll s ds x
+  pub inall-in : (ds : List Datum) (x : ℤ) → ((d : Datum) → In d ds → Allows x d) → InAll s ds x
   inall-in [] x f = tt
   inall-in (e ∷ ds) x f = (f e (inl refl), inall-in ds x (λ d m. f d (inr m)))
 

@@ -11,55 +11,16 @@ use native.Mathlib.Omega.{arith}
 use lib.Dec.{T, T-not, eqb, leb, leb→le, le→leb}
 use borrow.Author.Tests.{eq-eqb, ne-eqb}
 use lib.Count.{ones}
-use Rattle.names.specs.Sets.{subset, union, shared, less, lowest, digit}
-use Rattle.names.proofs.SetLaws.{digit-lt, digit-union, digit-empty, digits-ext, subset-in, subset-out, subset-refl, subset-trans, subset-antisym, union-left, union-right, union-least, ones-mono, ones-union}
-use Rattle.names.proofs.PartLaws.{digit-less, shared-left, shared-right, shared-greatest, less-subset, less-mono, less-add, less-apart, union-add, subset-same, ones-more, single-part, lowest-least, lowest-in, lowest-one}
+use Rattle.names.specs.Sets.{subset, union, shared, less, lowest}
+use Rattle.names.proofs.SetLaws.{subset-refl, subset-trans, subset-antisym, union-left, union-right, union-least, ones-mono, ones-union}
+use Rattle.numbers.proofs.NumberLaws.{above-zero}
+use Rattle.names.proofs.PartLaws.{adds-none, adds-some, adds-one, one-added, shared-left, shared-right, shared-greatest, less-subset, less-mono, less-add, less-apart, union-add, subset-same, ones-more, single-part, lowest-least, lowest-in, lowest-one}
 use Rattle.predicates.specs.Lists.{all, In}
 use Rattle.predicates.specs.Predicates.{holds}
 use Rattle.predicates.proofs.ListLaws.{both, both-l, both-r, cond-ind}
 use Rattle.predicates.proofs.PredicateLaws.{holds-in, holds-out, holds-mono}
 use Rattle.asking.specs.Search.{Fits, Best, gather, alone, sieve}
 use Rattle.asking.proofs.SearchLaws.{best-none, best-of}
-
--- ---- what a term adds to a set
-
--- nothing exactly where the set holds it
-pub adds-none : (s t : ℕ) → less t s ≡ 0 → T (subset t s)
-adds-none s t e = subset-in t s (λ n. omega (arith, digit-less t s n, digit-empty n, ap (λ (x : ℕ). digit x n) e))
-
-pub adds-some : (s t : ℕ) → (less t s ≡ 0 → ⊥) → T (subset t s) → ⊥
-adds-some s t f h = f (digits-ext (less t s) 0 (λ n. omega (arith, digit-less t s n, digit-empty n, subset-out t s h n)))
-
-added : (s t : ℕ) → union s (less t s) ≡ union s t
-added s t =
-    digits-ext (union s (less t s)) (union s t) (λ n.
-    omega (arith, digit-union s (less t s) n, digit-union s t n, digit-less t s n, digit-lt s n, digit-lt t n))
-
--- one name exactly where the lowest of what it adds is all of it
-pub adds-one : (s t : ℕ) → 0 < less t s → less t s ≡ lowest (less t s) → ones (union s t) ≤ ones s + 1
-adds-one s t h e = omega (arith, ones-union s (less t s), ap ones (added s t), ap ones e, lowest-one (less t s) h)
-
-pub one-added : (s t : ℕ) → 0 < less t s → ones (union s t) ≤ ones s + 1 → less t s ≡ lowest (less t s)
-one-added s t h few =
-    subset-antisym (less t s) c (subset-in (less t s) c (λ n.
-    omega (arith, digit-less t s n, digit-union s c n, digit-union s t n, ap (λ (x : ℕ). digit x n) same, digit-lt s n, digit-lt t n, digit-lt c n)))
-    (lowest-in (less t s))
-  where
-    c : ℕ
-    c = lowest (less t s)
-
-    part : T (subset (union s c) (union s t))
-    part =
-        union-least s c (union s t) (union-left s t)
-        (subset-trans c t (union s t) (subset-trans c (less t s) t (lowest-in (less t s)) (less-subset t s)) (union-right s t))
-
-    more : ones s < ones (union s c)
-    more =
-        ones-more s (union s c) (union-left s c) (λ q.
-        less-apart t s c (lowest-in (less t s)) (subst (λ (x : ℕ). T (subset c x)) (sym q) (union-right s c)) (lowest-one (less t s) h))
-
-    same : union s c ≡ union s t
-    same = subset-same (union s c) (union s t) part (omega (arith, more))
 
 -- what is free once a term was tried: v is what it adds
 module _ (s t free v : ℕ) (a : v ≡ less t s) where
@@ -73,10 +34,7 @@ module _ (s t free v : ℕ) (a : v ≡ less t s) where
 
   module _ (f : v ≡ 0 → ⊥) where
     some : 0 < less t s
-    some = rw a at (above v f)
-      where
-        above : (x : ℕ) → (x ≡ 0 → ⊥) → 0 < x
-        above x k = omega arith
+    some = rw a at (above-zero f)
 
     pub freed-one : v ≡ lowest v → (r : ℕ) → r ≡ less free t → r ≡ after
     freed-one k r e =

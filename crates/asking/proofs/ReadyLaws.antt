@@ -81,16 +81,16 @@ module _ (s : List ℕ) (t : T (inForm s)) (n h : ℕ) (a : n ≡ entryCount s) 
   abbrev rows : ℕ
   rows = n + h
 
-  pub rows-fit : (n ≤ 32) × (h ≤ 16)
-  rows-fit = (omega (arith, entry-count-le s t), omega (arith, held-count-le s t))
+  pub counts-fit : (n ≤ 32) × (h ≤ 16)
+  counts-fit = (omega (arith, entry-count-le s t), omega (arith, held-count-le s t))
 
   pub prepared-in : (counts masks order lefts rights : List ℕ) → Loaded (storeOf s) n rows counts masks → Complete rows order
       → lefts ≡ tab rows (λ i. claimLeft s n i) ++ drop rows (zeros 48) → rights ≡ tab rows (λ i. claimRight s n i) ++ drop rows (zeros 48)
       → Prepared (stateOf s) n rows counts masks order lefts rights
   unfolding stateOf
   prepared-in counts masks order lefts rights loaded complete l r =
-      let room : rows ≤ length (zeros 48) = omega (arith, rows-fit, length-replicate {A = ℕ} 48 0) in
+      let room : rows ≤ length (zeros 48) = omega (arith, counts-fit, length-replicate {A = ℕ} 48 0) in
       let bounded : Bounded (storeOf s) rows lefts rights = bounded-in s t n h rows a b refl _ _ lefts rights room room l r in
-      let most : rows ≤ 48 = omega (arith, rows-fit) in
+      let most : rows ≤ 48 = omega (arith, counts-fit) in
       let below : (i : ℕ) → i < rows → getD lefts i 0 < noEnd = λ i k. omega (arith, ends-below (stateOf s) (form-ok s t) loaded bounded i k .0) in
       record { loaded = loaded; bounded = bounded; complete = complete; ready = ready-in loaded most lefts rights order bounded complete below }

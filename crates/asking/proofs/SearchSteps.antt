@@ -13,17 +13,17 @@ use lib.Count.{ones}
 use lib.ListN.{length, getD, take, drop, drop-of-length-le}
 use lib.Seq.{drop-cons}
 use Rattle.numbers.specs.Numbers.{tab}
-use Rattle.numbers.proofs.NumberLaws.{length-tab, getD-tab}
+use Rattle.numbers.proofs.NumberLaws.{above-zero, length-tab, getD-tab}
 use Rattle.names.specs.Sets.{subset, union, shared, less, lowest}
 use Rattle.names.proofs.SetLaws.{subset-le, subset-trans, union-least, ones-mono}
-use Rattle.names.proofs.PartLaws.{less-add}
+use Rattle.names.proofs.PartLaws.{less-add, adds-none, adds-some, adds-one, one-added}
 use Rattle.predicates.specs.Predicates.{holds}
 use Rattle.predicates.proofs.ListLaws.{both, both-l, both-r, true-T, T-true, T-false, split, cond-ind}
 use Rattle.predicates.specs.Lists.{In}
 use Rattle.predicates.proofs.PredicateLaws.{holds-in}
 use Rattle.predicates.proofs.LoopLaws.{drop-next}
 use Rattle.asking.specs.Search.{Fits, Best, skipped, gather, alone, sieve, rowTerms, predAt, preds}
-use Rattle.asking.proofs.LastLaws.{adds-none, adds-some, adds-one, one-added, sieve-stop, sieve-above, last-none, last-found}
+use Rattle.asking.proofs.LastLaws.{sieve-stop, sieve-above, last-none, last-found}
 use Rattle.asking.proofs.SearchLaws.{best-skipped, best-done, best-full, terms-none, terms-skip, terms-stop, terms-on, terms-bar}
 
 -- ---- the predicates from place i on
@@ -227,10 +227,7 @@ module _ (d s : ℕ) (p : List ℕ) (i does v : ℕ) (h : 0 < i) (l : i ≤ leng
   last = let back : i - 1 + 1 ≡ i = omega arith in rw back at (drop-next p (i - 1) (omega arith))
 
   some : 0 < less (getD p (i - 1) 0) s
-  some = rw a at (above v g)
-    where
-      above : (x : ℕ) → (x ≡ 0 → ⊥) → 0 < x
-      above x k = omega arith
+  some = rw a at (above-zero g)
 
   pub terms-false : holds s (drop (i - 1) p) ≡ false
   unfolding holds
@@ -297,7 +294,4 @@ module _ (n : ℕ) (listed counts masks : List ℕ) (limit s free k best : ℕ) 
       go (less m s) (less-add s m (subst (λ (x : ℕ). T (subset s x)) e (sieve-above limit s few (union s free) (rest n listed counts masks k) i)))
     where
       go : (d : ℕ) → s + d ≡ m → 0 < d
-      go d q = lt-of (λ z. f (omega arith))
-        where
-          lt-of : (d ≡ 0 → ⊥) → 0 < d
-          lt-of g = omega arith
+      go d q = above-zero (λ z. f (omega arith))

@@ -20,7 +20,8 @@ use Rattle.engine.specs.Calls.{Call, age, receive, made}
 use Rattle.engine.proofs.CallLaws.{slow-fast, Heard, grown-ends}
 use Rattle.asking.specs.Instants.{Within, InAll, Fine}
 use Rattle.monitor.specs.Book.{Line, advanced, heard, linesOf, sees, Walk, Ends}
-use Rattle.monitor.proofs.ReceiptMeaning.{Allows, Some, not-active, receipt-fine, receipt-some}
+use Rattle.asking.proofs.InstantLaws.{Allows, not-active}
+use Rattle.monitor.proofs.ReceiptMeaning.{Some, receipt-fine, receipt-some}
 use Rattle.monitor.proofs.AgeingMeaning.{age-in, age-out}
 
 -- ---- paths over more lines

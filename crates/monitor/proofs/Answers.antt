@@ -33,7 +33,8 @@ use Rattle.asking.specs.Fewest.{Works, FewestOf, fewestNumbers}
 use Rattle.asking.proofs.AnswerLaws.{gives-one}
 use Rattle.monitor.specs.Ask.{wide}
 use Rattle.monitor.specs.Runs.{answerIn, fewestIn, AtLeast, AtMost, Least, Greatest, Tells}
-use Rattle.monitor.proofs.ReceiptMeaning.{Active, inall-each, active-cases}
+use Rattle.asking.proofs.InstantLaws.{Active}
+use Rattle.monitor.proofs.ReceiptMeaning.{inall-each, active-cases}
 
 -- ---- numbers of 8 bytes
 

@@ -21,7 +21,7 @@ use Rattle.state.specs.Model.{Datum, Store}
 use Rattle.engine.specs.Receiving.{disjoint, explained, learn, learnt, unexplained, same, meet, met, without, betters, stored, heldAfter, settled, received}
 use Rattle.engine.proofs.ReceiveLaws.{overlap, same-out, learnt-ind, learn-keeps, learnt-has}
 use Rattle.asking.specs.Instants.{Within, InAll, Fine}
-use Rattle.asking.proofs.InstantLaws.{within-wider, within-meet, meet-within, inall-in, inall-out}
+use Rattle.asking.proofs.InstantLaws.{within-wider, within-meet, meet-within, Active, Allows, not-active, inall-in, inall-out}
 
 -- ---- intervals
 
@@ -33,14 +33,6 @@ disjoint-no d n h (pos k) v w =
     (or-cases (ltb (d .right) (n .left)) (ltb (n .right) (d .left)) h)
 
 module _ (s : ℕ) where
-  -- s leaves the datum's predicate false
-  abbrev pub Active : Datum → Type 0
-  Active d = T (not (holds s (d .terms)))
-
-  -- the claim of a datum about the instant x
-  abbrev pub Allows : ℤ → Datum → Type 0
-  Allows x d = Active d → Within (d .left) (d .right) x
-
   -- the claim of an entry
   abbrev True : List ℕ → Type 0
   True e = T (holds s e)
@@ -49,20 +41,17 @@ module _ (s : ℕ) where
   abbrev pub Some : Store → Type 0
   Some k = T (all (holds s) (k .entries)) → (m : ℕ) × InAll s (k .held) (pos m)
 
-  pub inall-each : (x : ℤ) (ds : List Datum) → InAll s ds x ↔ Each (Allows x) ds
+  pub inall-each : (x : ℤ) (ds : List Datum) → InAll s ds x ↔ Each (Allows s x) ds
   inall-each x ds = (inall-out s ds x, inall-in s ds x)
 
   -- some datum is active, or all instants are allowed
-  pub active-cases : (ds : List Datum) → ((d : Datum) × In d ds × Active d) ⊎ ((x : ℤ) → InAll s ds x)
+  pub active-cases : (ds : List Datum) → ((d : Datum) × In d ds × Active s d) ⊎ ((x : ℤ) → InAll s ds x)
   active-cases ds =
       let f : Datum → Bool = λ d. not (holds s (d .terms)) in
       ⊎-map (any-out f ds) (λ t x. inall-each x ds .1 (λ d m a. absurd (T-not (any f ds) t (any-in f ds d m a)))) (split (any f ds))
 
   entries-each : (es : List (List ℕ)) → T (all (holds s) es) ↔ Each True es
   entries-each es = (all-out (holds s) es, all-in (holds s) es)
-
-  pub not-active : (d : Datum) → T (holds s (d .terms)) → (x : ℤ) → Allows x d
-  not-active d h x a = absurd (T-not (holds s (d .terms)) a h)
 
   -- ---- step 1
 
@@ -99,14 +88,14 @@ module _ (s : ℕ) where
   sum-out p q h = rw (holds-normal s (p ++ q), holds-sum s p q) at h
 
   -- two data that allow one instant teach nothing that s leaves false
-  taught-in : (n d : Datum) (x : ℤ) → Allows x d → Allows x n → Taught n d
+  taught-in : (n d : Datum) (x : ℤ) → Allows s x d → Allows s x n → Taught n d
   taught-in n d x f g c =
       sum-in (d .terms) (n .terms) (⊎-elim (λ t. or-l (holds s (d .terms)) (holds s (n .terms)) t)
       (λ a. ⊎-elim (λ t. or-r (holds s (d .terms)) (holds s (n .terms)) t) (λ b. absurd (disjoint-no d n c x (f a) (g b)))
       (split (holds s (n .terms)))) (split (holds s (d .terms))))
 
   -- two active data that teach nothing that s leaves false overlap
-  taught-overlap : (n d : Datum) → Taught n d → Active d → Active n → (n .left ≤ d .right) × (d .left ≤ n .right)
+  taught-overlap : (n d : Datum) → Taught n d → Active s d → Active s n → (n .left ≤ d .right) × (d .left ≤ n .right)
   taught-overlap n d f a b =
       overlap d n (not-T (disjoint d n) (λ c.
       ⊎-elim (T-not (holds s (d .terms)) a) (T-not (holds s (n .terms)) b)
@@ -119,22 +108,22 @@ module _ (s : ℕ) where
     unfolding unexplained
     unexplained-all es h ds =
         Iff·trans (inall-each x (unexplained es ds))
-        (Iff·trans (each-dropped (Allows x) (λ d. explained es (d .terms)) ds (λ d t. not-active d (explained-true es h (d .terms) t) x))
+        (Iff·trans (each-dropped (Allows s x) (λ d. explained es (d .terms)) ds (λ d t. not-active s d (explained-true es h (d .terms) t) x))
         (Iff·symm (inall-each x ds)))
 
-    meet-allows : (d n : Datum) → d .terms ≡ n .terms → Allows x (meet d n) ↔ (Allows x d × Allows x n)
+    meet-allows : (d n : Datum) → d .terms ≡ n .terms → Allows s x (meet d n) ↔ (Allows s x d × Allows s x n)
     unfolding meet
     meet-allows d n e =
         let both = meet-within (d .left) (d .right) (n .left) (n .right) x in
         (λ f. (λ a. both (f (rw e at a)) .0, λ a. both (f a) .1), λ f a. within-meet (d .left) (d .right) (n .left) (n .right) x (f .0 (rw e a)) (f .1 a))
 
-    met-all : (n : Datum) (ds : List Datum) → (Allows x (met n ds) × InAll s (without (n .terms) ds) x) ↔ (Allows x n × InAll s ds x)
+    met-all : (n : Datum) (ds : List Datum) → (Allows s x (met n ds) × InAll s (without (n .terms) ds) x) ↔ (Allows s x n × InAll s ds x)
     unfolding met without
     met-all n [] = (λ h. h, λ h. h)
     met-all n (d ∷ ds) = go (same (d .terms) (n .terms)) (same-out (d .terms) (n .terms)) (met-all n ds)
       where
-        go : (b : Bool) → (T b → d .terms ≡ n .terms) → (Allows x (met n ds) × InAll s (without (n .terms) ds) x) ↔ (Allows x n × InAll s ds x)
-            → (Allows x (cond b (meet d n) (met n ds)) × InAll s (cond b ds (d ∷ without (n .terms) ds)) x) ↔ (Allows x n × InAll s (d ∷ ds) x)
+        go : (b : Bool) → (T b → d .terms ≡ n .terms) → (Allows s x (met n ds) × InAll s (without (n .terms) ds) x) ↔ (Allows s x n × InAll s ds x)
+            → (Allows s x (cond b (meet d n) (met n ds)) × InAll s (cond b ds (d ∷ without (n .terms) ds)) x) ↔ (Allows s x n × InAll s (d ∷ ds) x)
         go true e rest =
             let m = meet-allows d n (e tt) in
             (λ h. let k = m .0 (h .0) in (k .1, (k .0, h .1)), λ h. (m .1 (h .1 .0, h .0), h .1 .1))
@@ -143,7 +132,7 @@ module _ (s : ℕ) where
           λ h. let k = rest .1 (h .0, h .1 .1) in (k .0, (h .1 .0, k .1)),
         )
 
-    betters-allows : (d n : Datum) → T (betters d n) → Allows x d → Allows x n
+    betters-allows : (d n : Datum) → T (betters d n) → Allows s x d → Allows s x n
     unfolding betters
     betters-allows d n b f a =
         let i : T (implies (d .terms) (n .terms)) = search both-l in
@@ -152,25 +141,25 @@ module _ (s : ℕ) where
         within-wider (d .left) (d .right) (n .left) (n .right) x l r
         (f (not-T (holds s (d .terms)) (λ k. T-not (holds s (n .terms)) a (implies-out (d .terms) (n .terms) i s k))))
 
-    stored-all : (n : Datum) (ds : List Datum) → InAll s (stored n ds) x ↔ (Allows x n × InAll s ds x)
+    stored-all : (n : Datum) (ds : List Datum) → InAll s (stored n ds) x ↔ (Allows s x n × InAll s ds x)
     unfolding stored
     stored-all n ds =
         Iff·trans (inall-each x (stored n ds))
-        (Iff·trans (each-added (Allows x) betters betters-allows n ds) (Iff·and Iff·rfl (Iff·symm (inall-each x ds))))
+        (Iff·trans (each-added (Allows s x) betters betters-allows n ds) (Iff·and Iff·rfl (Iff·symm (inall-each x ds))))
 
-    held-all : (n : Datum) (ds : List Datum) (es : List (List ℕ)) → Each True es → InAll s (heldAfter n ds es) x ↔ (Allows x n × InAll s ds x)
+    held-all : (n : Datum) (ds : List Datum) (es : List (List ℕ)) → Each True es → InAll s (heldAfter n ds es) x ↔ (Allows s x n × InAll s ds x)
     unfolding heldAfter
     held-all n ds es h =
         let us = unexplained es ds in
         let u = unexplained-all es h ds in
-        cond-ind (λ cs. InAll s cs x ↔ (Allows x n × InAll s ds x)) (explained es (n .terms)) us (stored (met n us) (without (n .terms) us))
-        (λ t. (λ k. (not-active n (explained-true es h (n .terms) t) x, u .0 k), λ k. u .1 (k .1)))
+        cond-ind (λ cs. InAll s cs x ↔ (Allows s x n × InAll s ds x)) (explained es (n .terms)) us (stored (met n us) (without (n .terms) us))
+        (λ t. (λ k. (not-active s n (explained-true es h (n .terms) t) x, u .0 k), λ k. u .1 (k .1)))
         (λ _. Iff·trans (stored-all (met n us) (without (n .terms) us)) (Iff·trans (met-all n us) (Iff·and Iff·rfl u)))
 
   -- ---- the receipt
 
   module _ (n : Datum) (k : Store) where
-    settled-fine : (x : ℤ) → Fine s (settled n k) x ↔ (Allows x n × Fine s k x)
+    settled-fine : (x : ℤ) → Fine s (settled n k) x ↔ (Allows s x n × Fine s k x)
     unfolding settled
     settled-fine x =
         let ds = k .held in
@@ -202,11 +191,11 @@ module _ (s : ℕ) where
         old : (m : ℕ) × InAll s ds (pos m)
         old = some (entries-each (k .entries) .1 (taught .0))
 
-        left : (m : ℕ) → Allows (pos m) n → InAll s ds (pos m) → (i : ℕ) × InAll s (heldAfter n ds fs) (pos i)
+        left : (m : ℕ) → Allows s (pos m) n → InAll s ds (pos m) → (i : ℕ) × InAll s (heldAfter n ds fs) (pos i)
         left m f g = (m, held-all (pos m) n ds fs (entries-each fs .0 h) .1 (f, g))
 
         go : T (holds s (n .terms)) ⊎ T (not (holds s (n .terms))) → (i : ℕ) × InAll s (heldAfter n ds fs) (pos i)
-        go (inl t) = left (old .0) (not-active n t (pos (old .0))) (old .1)
+        go (inl t) = left (old .0) (not-active s n t (pos (old .0))) (old .1)
         go (inr b) =
             let m : ℕ = max (n .left) (min (old .0) (n .right)) in
             left m (λ _. omega arith) (inall-each (pos m) ds .1 (λ d i a.
@@ -215,11 +204,11 @@ module _ (s : ℕ) where
             omega (arith, w .0, w .1, o .0, o .1)))
 
     -- the same instants, with the claim of n; a new datum that is true claims nothing
-    pub receipt-fine : (x : ℤ) → Fine s (received n k) x ↔ (Allows x n × Fine s k x)
+    pub receipt-fine : (x : ℤ) → Fine s (received n k) x ↔ (Allows s x n × Fine s k x)
     unfolding received
     receipt-fine x =
-        cond-ind (λ j. Fine s j x ↔ (Allows x n × Fine s k x)) (isTrue (n .terms)) k (settled n k)
-        (λ t. (λ h. (not-active n (true-holds s (n .terms) t) x, h), λ h. h .1)) (λ _. settled-fine x)
+        cond-ind (λ j. Fine s j x ↔ (Allows s x n × Fine s k x)) (isTrue (n .terms)) k (settled n k)
+        (λ t. (λ h. (not-active s n (true-holds s (n .terms) t) x, h), λ h. h .1)) (λ _. settled-fine x)
 
     pub receipt-some : n .left ≤ n .right → Some k → Some (received n k)
     unfolding received

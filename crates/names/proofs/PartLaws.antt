@@ -13,7 +13,7 @@ use lib.Arith.{bin-ind}
 use lib.Bits.{bitAnd, and-step, and-comm, and-self, and-le-l, and-mask, or-add-and}
 use lib.Count.{ones, ones-step}
 use Rattle.names.specs.Sets.{subset, union, has, shared, less, others, lowest, digit}
-use Rattle.names.proofs.SetLaws.{test-ext, digit-lt, digit-single-same, digit-single-other, digit-zero, digit-suc, digit-and, digit-union, digit-empty, subset-and, and-subset, subset-out, subset-in, digits-ext, subset-trans, subset-empty, subset-le, union-left, union-right, union-least, ones-empty, ones-none, ones-mono, halves, has-in, has-out}
+use Rattle.names.proofs.SetLaws.{test-ext, digit-lt, digit-single-same, digit-single-other, digit-zero, digit-suc, digit-and, digit-union, digit-empty, subset-and, and-subset, subset-out, subset-in, digits-ext, subset-trans, subset-antisym, subset-empty, subset-le, union-left, union-right, union-least, ones-empty, ones-none, ones-mono, ones-union, halves, has-in, has-out}
 
 -- ---- what both hold
 
@@ -188,6 +188,46 @@ lowest-only s k =
     (λ h. let few = leb→le (ones s) 1 h in
     let same : lowest s ≡ s = subset-same (lowest s) s (lowest-in s) (omega (arith, one, few)) in
     subst (λ (b : Bool). T b) (sym (eq-eqb (bitAnd s (s - 1)) 0 (omega (arith, same, below)))) tt)
+
+-- ---- what a set t adds to another
+
+-- nothing exactly where the set holds it
+pub adds-none : (s t : ℕ) → less t s ≡ 0 → T (subset t s)
+adds-none s t e = subset-in t s (λ n. omega (arith, digit-less t s n, digit-empty n, ap (λ (x : ℕ). digit x n) e))
+
+pub adds-some : (s t : ℕ) → (less t s ≡ 0 → ⊥) → T (subset t s) → ⊥
+adds-some s t f h = f (digits-ext (less t s) 0 (λ n. omega (arith, digit-less t s n, digit-empty n, subset-out t s h n)))
+
+added : (s t : ℕ) → union s (less t s) ≡ union s t
+added s t =
+    digits-ext (union s (less t s)) (union s t) (λ n.
+    omega (arith, digit-union s (less t s) n, digit-union s t n, digit-less t s n, digit-lt s n, digit-lt t n))
+
+-- one name exactly where the lowest of what it adds is all of it
+pub adds-one : (s t : ℕ) → 0 < less t s → less t s ≡ lowest (less t s) → ones (union s t) ≤ ones s + 1
+adds-one s t h e = omega (arith, ones-union s (less t s), ap ones (added s t), ap ones e, lowest-one (less t s) h)
+
+pub one-added : (s t : ℕ) → 0 < less t s → ones (union s t) ≤ ones s + 1 → less t s ≡ lowest (less t s)
+one-added s t h few =
+    subset-antisym (less t s) c (subset-in (less t s) c (λ n.
+    omega (arith, digit-less t s n, digit-union s c n, digit-union s t n, ap (λ (x : ℕ). digit x n) same, digit-lt s n, digit-lt t n, digit-lt c n)))
+    (lowest-in (less t s))
+  where
+    c : ℕ
+    c = lowest (less t s)
+
+    part : T (subset (union s c) (union s t))
+    part =
+        union-least s c (union s t) (union-left s t)
+        (subset-trans c t (union s t) (subset-trans c (less t s) t (lowest-in (less t s)) (less-subset t s)) (union-right s t))
+
+    more : ones s < ones (union s c)
+    more =
+        ones-more s (union s c) (union-left s c) (λ q.
+        less-apart t s c (lowest-in (less t s)) (subst (λ (x : ℕ). T (subset c x)) (sym q) (union-right s c)) (lowest-one (less t s) h))
+
+    same : union s c ≡ union s t
+    same = subset-same (union s c) (union s t) part (omega (arith, more))
 
 -- ---- all names but one
 

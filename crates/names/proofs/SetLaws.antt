@@ -119,6 +119,17 @@ union-right s t = subset-in t (union s t) (λ n. omega (arith, digit-union s t n
 pub union-least : (s t u : ℕ) → T (subset s u) → T (subset t u) → T (subset (union s t) u)
 union-least s t u h k = subset-in (union s t) u (λ n. omega (arith, digit-union s t n, subset-out s u h n, subset-out t u k n))
 
+pub union-comm : (s t : ℕ) → union s t ≡ union t s
+union-comm s t = digits-ext (union s t) (union t s) (λ n. omega (arith, digit-union s t n, digit-union t s n))
+
+pub union-assoc : (s t u : ℕ) → union (union s t) u ≡ union s (union t u)
+union-assoc s t u =
+    digits-ext (union (union s t) u) (union s (union t u)) (λ n.
+    omega (arith, digit-union (union s t) u n, digit-union s t n, digit-union s (union t u) n, digit-union t u n))
+
+pub union-left-comm : (s t u : ℕ) → union s (union t u) ≡ union t (union s u)
+union-left-comm s t u = sym (union-assoc s t u) ∙ ap (λ (x : ℕ). union x u) (union-comm s t) ∙ union-assoc t s u
+
 -- ---- counts
 
 pub ones-empty : ones 0 ≡ 0

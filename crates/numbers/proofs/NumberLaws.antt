@@ -14,6 +14,11 @@ use lib.ListN.{length, getD, take, drop, set, length-append, List·getD-append}
 use lib.Seq.{sets-eq, take-at, take-all, take-add, take-suc, drop-cons, length-take-le, length-sets, getD-at, getD-take, getD-set-other, set-getD, ext-getD}
 use Rattle.numbers.specs.Numbers.{num, bytes, put, tab, Bytes, Words, wordsOf, bytesOf}
 
+-- ---- counting
+
+pub above-zero : {n : ℕ} → (n ≡ 0 → ⊥) → 0 < n
+above-zero h = omega arith
+
 -- ---- num: a number in bytes
 
 -- a number in n bytes is below 256 ^ n

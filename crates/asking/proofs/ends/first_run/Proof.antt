@@ -1,12 +1,12 @@
 -- `asking::ends::first_run` meets its contract: the runs are tried from the least end on, and the terms of the first predicate one after the other.
 -- Invariants: no end below the floor is explained; what comes of the terms still to try comes of all that the end needs. Measures: the
 -- instants from the floor on; the terms still to try.
-use Prim.Native.Nat.{ℕ, _-_, _≤_, _<_}
+use Prim.Native.Nat.{_-_, _≤_, _<_}
 use mathlib.Core.Path.{_≡_, refl, sym, ap, _∙_}
 use mathlib.Core.Logic.{⊎-elim}
 use native.Mathlib.Omega.{arith}
 use lib.ListN.{length, drop}
-use Rattle.numbers.proofs.NumberLaws.{length-put}
+use Rattle.numbers.proofs.NumberLaws.{above-zero, length-put}
 use Rattle.asking.specs.Search.{none, Rows, preds}
 use Rattle.asking.specs.Ends.{noEnd, needs as Ends·needs, Unexplained, Trying}
 use Rattle.asking.proofs.SearchSteps.{worth-few}
@@ -15,9 +15,6 @@ use Rattle.asking.proofs.RunLaws.{runs-none, runs-found, runs-next, run
 use borrow.Author.Needs.{needs}
 use Rattle.asking.proofs.ends.first_run.Statement.{statement}
 use Rattle.asking.proofs.ends.first_run.Tie as tie
-
-positive : {m : ℕ} → (m ≡ 0 → ⊥) → 0 < m
-positive h = omega arith
 
 abbrev Inv-loop : tie.InvT-loop
 Inv-loop lefts rights counts masks order listed n rows limit free floor from x m at₀ end left₀ at left =
@@ -58,7 +55,7 @@ terms-at-requires c κs =
     let head = at-list .before .before .before .before .before in
     let a = head .before .before .before .before .before .before .before in
     let rows = listed-rows _ _ _ _ _ _ _ _ _ (a .pre .0) (omega (arith, a .pre .1, head .ends .inv .0)) _ _ (at-list .list-outside .ensures .0 .0) (at-list .list-outside .ensures .0 .1) (at-list .list-outside .ensures .1) in
-    let some : 0 < at-list .list-outside .result = positive (c .before .if2 .left) in
+    let some : 0 < at-list .list-outside .result = above-zero (c .before .if2 .left) in
     (omega (arith, rows .listed-long), rows .counted 0 some, rows .long 0 some)
 
 loop-holds : tie.Need-loop-holds Inv-loop μ-loop Inv-ends μ-ends
@@ -67,8 +64,8 @@ loop-holds c =
     let head = at-list .before .before .before .before .before in
     let a = head .before .before .before .before .before .before .before in
     let rows = listed-rows _ _ _ _ _ _ _ _ _ (a .pre .0) (omega (arith, a .pre .1, head .ends .inv .0)) _ _ (at-list .list-outside .ensures .0 .0) (at-list .list-outside .ensures .0 .1) (at-list .list-outside .ensures .1) in
-    let row = listed-row _ _ _ _ _ _ _ _ _ (a .pre .0) (omega (arith, a .pre .1, head .ends .inv .0)) _ _ (at-list .list-outside .ensures .0 .0) (at-list .list-outside .ensures .0 .1) (at-list .list-outside .ensures .1) 0 (positive (c .before .before .if2 .left)) in
-    let some : 0 < at-list .list-outside .result = positive (c .before .before .if2 .left) in (
+    let row = listed-row _ _ _ _ _ _ _ _ _ (a .pre .0) (omega (arith, a .pre .1, head .ends .inv .0)) _ _ (at-list .list-outside .ensures .0 .0) (at-list .list-outside .ensures .0 .1) (at-list .list-outside .ensures .1) 0 (above-zero (c .before .before .if2 .left)) in
+    let some : 0 < at-list .list-outside .result = above-zero (c .before .before .if2 .left) in (
       omega (arith, c .terms-at .ensures .1, rows .long 0 some),
       some,
       rows,

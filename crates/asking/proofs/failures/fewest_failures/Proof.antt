@@ -7,7 +7,7 @@ use lib.ListN.{length}
 use Rattle.names.specs.Sets.{others}
 use Rattle.state.specs.Layout.{headOf, stateOf}
 use Rattle.state.proofs.StateLaws.{form-ok, state-out}
-use Rattle.asking.proofs.ReadyLaws.{Prepared, rows-fit, prepared-in}
+use Rattle.asking.proofs.ReadyLaws.{Prepared, counts-fit, prepared-in}
 use Rattle.asking.proofs.FewestLaws.{fewest-none}
 use Rattle.asking.proofs.FailureSteps.{Floor, floor-one, floor-found, floor-next, floor-over}
 use borrow.Author.Needs.{needs}
@@ -29,7 +29,7 @@ get-ends-requires : tie.Need-get-ends-requires Inv-loop μ-loop
 get-ends-requires c κs =
     let at-n = c .before .before .before .before .before .before .before .before .before in
     let a = at-n .before .before .before .before .before .before in
-    let fit = rows-fit _ (a .pre .1) _ _ (at-n .get323 .ensures .0) (at-n .before .get322 .ensures .0) in
+    let fit = counts-fit _ (a .pre .1) _ _ (at-n .get323 .ensures .0) (at-n .before .get322 .ensures .0) in
     (a .pre .0, omega arith, omega arith, omega arith, omega arith)
 
 others-requires : tie.Need-others-requires Inv-loop μ-loop
