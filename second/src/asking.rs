@@ -54,10 +54,13 @@ impl Node {
         self.unexplained & needed
     }
 
-    /// The data that s leaves unexplained, where all entries are explained.
-    fn active(&self, claims: &Claims) -> u64 {
+    /// The first instant that all data contain which s leaves unexplained, where all entries are
+    /// explained; none where two of them are apart.
+    fn first_instant(&self, claims: &Claims) -> Option<u64> {
         let several = places(self.unexplained).filter(|&i| claims.holds(i, self.s));
-        several.fold(self.unexplained, |active, i| active & !(1 << i))
+        let active = several.fold(self.unexplained, |active, i| active & !(1 << i));
+        let left = claims.greatest_left(active);
+        (active & claims.without(left) == 0).then_some(left)
     }
 }
 
@@ -180,12 +183,10 @@ impl Aim for First {
     }
 
     fn reached(&mut self, claims: &Claims, node: &Node) -> Next {
-        let active = node.active(claims);
-        let left = claims.greatest_left(active);
-        if active & claims.without(left) != 0 {
+        let Some(left) = node.first_instant(claims) else {
             self.apart = true;
             return Next::Stop;
-        }
+        };
         self.needed = claims.entries | claims.from_left(left);
         self.instant = Some(left);
         Next::Again
@@ -209,9 +210,7 @@ impl Aim for Least {
     }
 
     fn reached(&mut self, claims: &Claims, node: &Node) -> Next {
-        let active = node.active(claims);
-        let left = claims.greatest_left(active);
-        if active & claims.without(left) != 0 {
+        if node.first_instant(claims).is_none() {
             self.apart = true;
             return Next::Stop;
         }

@@ -1,5 +1,5 @@
 -- The arrays that a state in form is read into are ready for the search: all rows are in its order, and no left end is the number of no end.
--- The idea: every row has 1 to 16 terms, so it is listed; places that the list does not reach hold 0, which is a row wherever there is one.
+-- The idea: what is read is in form, so there are at most 48 rows, and every end is below 2^58.
 -- No contract cites this file. Assumes nothing.
 use Prim.Native.Nat.{ℕ, _+_, _-_, _≤_, _<_}
 use mathlib.Core.Path.{_≡_, refl, ap, _∙_}
