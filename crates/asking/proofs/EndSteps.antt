@@ -216,40 +216,54 @@ getD-map f [] a b j h = absurd (omega arith)
 getD-map f (x ∷ l) a b zero h = refl
 getD-map f (x ∷ l) a b (suc j) h = getD-map f l a b j (omega arith)
 
+-- what passes a test
 module _ (n rows : ℕ) (lefts rights counts masks order l₀ l : List ℕ) (ready : Ready n rows lefts rights counts masks order) (long : rows ≤ length l₀)
-    (x m : ℕ) (count : m ≡ length (keep (outside lefts rights x) (take rows order))) (few : m ≤ rows)
-    (e : l ≡ put 0 (keep (outside lefts rights x) (take rows order)) l₀) where
+    (f : ℕ → Bool) (m : ℕ) (count : m ≡ length (keep f (take rows order))) (few : m ≤ rows) (e : l ≡ put 0 (keep f (take rows order)) l₀) where
   abbrev kept : List ℕ
-  kept = keep (outside lefts rights x) (take rows order)
+  kept = keep f (take rows order)
 
   front : l ≡ kept ++ drop m l₀
   front = e ∙ put-front m kept l₀ (sym count) (le-trans few long)
 
-  listed-at : (j : ℕ) → j < m → getD l j 0 ≡ getD kept j 0
-  listed-at j h = ap (λ (z : List ℕ). getD z j 0) front ∙ List·getD-append kept (drop m l₀) 0 j (omega (arith, count))
+  kept-at : (j : ℕ) → j < m → getD l j 0 ≡ getD kept j 0
+  kept-at j h = ap (λ (z : List ℕ). getD z j 0) front ∙ List·getD-append kept (drop m l₀) 0 j (omega (arith, count))
 
   -- each is a row
-  pub listed-row : (j : ℕ) → j < m → getD l j 0 < rows
-  listed-row j h =
-      let there = keep-out (outside lefts rights x) (take rows order) (getD kept j 0) (at-in kept 0 j (omega (arith, count))) in
+  kept-row : (j : ℕ) → j < m → getD l j 0 < rows
+  kept-row j h =
+      let there = keep-out f (take rows order) (getD kept j 0) (at-in kept 0 j (omega (arith, count))) in
       let w = in-take rows order (getD kept j 0) (there .0) in
-      omega (arith, listed-at j h, w .2, ready .placed (w .0) (w .1))
+      omega (arith, kept-at j h, w .2, ready .placed (w .0) (w .1))
 
-  pub listed-rows : Rows m l counts masks
-  listed-rows =
+  pub kept-rows : Rows m l counts masks
+  kept-rows =
       record {
         listed-long = omega (arith, ap length front, length-append kept (drop m l₀), count);
-        counted = λ j h. omega (arith, listed-row j h, ready .counted);
-        narrow = λ j h. ready .narrow (getD l j 0) (listed-row j h);
-        long = λ j h. omega (arith, listed-row j h, ready .narrow (getD l j 0) (listed-row j h), ready .long);
-        parted = λ j h. ready .parted (getD l j 0) (listed-row j h);
+        counted = λ j h. omega (arith, kept-row j h, ready .counted);
+        narrow = λ j h. ready .narrow (getD l j 0) (kept-row j h);
+        long = λ j h. omega (arith, kept-row j h, ready .narrow (getD l j 0) (kept-row j h), ready .long);
+        parted = λ j h. ready .parted (getD l j 0) (kept-row j h);
       }
 
-  pub listed-needs : preds m l counts masks ≡ needs rows lefts rights counts masks order x
-  unfolding preds predAt needs
-  listed-needs =
+  pub kept-preds : preds m l counts masks ≡ map (rowTerms counts masks) (keep f (take rows order))
+  unfolding preds predAt
+  kept-preds =
       tab-ext [] m (λ j. rowTerms counts masks (getD l j 0)) (map (rowTerms counts masks) kept) (length-map kept (rowTerms counts masks) ∙ sym count)
-      (λ j h. ap (rowTerms counts masks) (listed-at j h) ∙ sym (getD-map (rowTerms counts masks) kept 0 [] j (omega (arith, count))))
+      (λ j h. ap (rowTerms counts masks) (kept-at j h) ∙ sym (getD-map (rowTerms counts masks) kept 0 [] j (omega (arith, count))))
+
+-- what lacks an instant
+module _ (n rows : ℕ) (lefts rights counts masks order l₀ l : List ℕ) (ready : Ready n rows lefts rights counts masks order) (long : rows ≤ length l₀)
+    (x m : ℕ) (count : m ≡ length (keep (outside lefts rights x) (take rows order))) (few : m ≤ rows)
+    (e : l ≡ put 0 (keep (outside lefts rights x) (take rows order)) l₀) where
+  pub listed-row : (j : ℕ) → j < m → getD l j 0 < rows
+  listed-row = kept-row n rows lefts rights counts masks order l₀ l ready long (outside lefts rights x) m count few e
+
+  pub listed-rows : Rows m l counts masks
+  listed-rows = kept-rows n rows lefts rights counts masks order l₀ l ready long (outside lefts rights x) m count few e
+
+  pub listed-needs : preds m l counts masks ≡ needs rows lefts rights counts masks order x
+  unfolding needs
+  listed-needs = kept-preds n rows lefts rights counts masks order l₀ l ready long (outside lefts rights x) m count few e
 
 -- ---- the terms of the first predicate, one after the other
 

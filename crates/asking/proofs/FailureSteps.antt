@@ -5,23 +5,29 @@ use Prim.Native.Nat.{ℕ, _+_, _-_, _≤_, _<_}
 use mathlib.Core.Path.{_≡_, refl, sym, ap, subst, _∙_}
 use mathlib.Core.Bool.{false}
 use mathlib.Core.Logic.{_⊎_, inl, inr, ⊎-elim}
-use mathlib.Core.List.{List, []}
+use mathlib.Core.List.{List, [], map}
 use native.Mathlib.Nat.{le-trans}
 use native.Mathlib.Decide.{decLt}
 use native.Mathlib.Omega.{arith}
+use lib.Dec.{T, ltb, ltb→lt}
 use lib.Count.{ones}
-use lib.ListN.{length, getD}
+use lib.ListN.{length, getD, take}
+use Rattle.numbers.specs.Numbers.{tab}
+use Rattle.numbers.proofs.NumberLaws.{length-tab, getD-tab}
 use Rattle.names.specs.Sets.{others}
+use Rattle.predicates.specs.Lists.{keep, In}
+use Rattle.predicates.specs.Predicates.{holds}
+use Rattle.predicates.proofs.ListLaws.{all-in, all-out, keep-in, keep-out, map-in, map-out}
 use Rattle.state.specs.Model.{Datum, Store, State}
 use Rattle.asking.specs.declared.Fewest.the-variants.{Over, Few}
 use Rattle.asking.specs.Instants.{Allowed}
-use Rattle.asking.specs.Search.{Fits, Best, Rows, preds, none}
-use Rattle.asking.specs.Tables.{entryClaim, claimAt, Loaded, Bounded}
+use Rattle.asking.specs.Search.{Fits, Best, Rows, rowTerms, predAt, preds, none}
+use Rattle.asking.specs.Tables.{entryClaim, claimAt, Loaded, Bounded, outside}
 use Rattle.asking.specs.Ends.{noEnd, Next, IsEnd, Unbroken, Ready, Complete, Least, needs}
 use Rattle.asking.specs.Asking.{answer}
 use Rattle.asking.specs.Fewest.{some, fewest, Works}
-use Rattle.asking.proofs.EndSteps.{at-in}
-use Rattle.asking.proofs.RunLaws.{under-floor, run-is-end, runs-room, run-needs, all-explains}
+use Rattle.asking.proofs.EndSteps.{in-take, take-in, at-in}
+use Rattle.asking.proofs.RunLaws.{out-empty, under-floor, run-is-end, runs-room, run-needs, all-explains}
 use Rattle.asking.proofs.ArrayLaws.{fits-allowed, allowed-fits, in-at, claim-datum, order-everything, everything-order, needs-needed, needed-needs, left-outside}
 use Rattle.asking.proofs.ReadyLaws.{Prepared}
 use Rattle.asking.proofs.FewestLaws.{Seen, works-ends, ends-works, fewest-found, fewest-over, works-failed}
@@ -104,6 +110,44 @@ module _ (n rows : ℕ) (lefts rights counts masks order : List ℕ) (limit free
         all = λ u f. ⊎-elim (λ l. l) (λ l. absurd (omega arith)) (b .least u f);
         each = λ k a l. absurd (omega arith);
       }
+
+  -- no set makes the entries true, which every end needs
+  module _ (ready : Ready n rows lefts rights counts masks order) (r : ℕ)
+      (b : Best none limit 0 free (map (rowTerms counts masks) (keep (λ k. ltb k n) (take rows order))) none r) (h : none ≤ r) where
+    entries-first : (ps : List (List ℕ)) → ((k : ℕ) → k < rows → k < n → In (rowTerms counts masks k) ps) → (u : ℕ) → Fits limit 0 free ps u → none ≤ u
+    entries-first ps there u f =
+        ⊎-elim (λ l. le-trans h l) (λ l. absurd (omega arith))
+        (b .least u (record {
+          above = f .above;
+          within = f .within;
+          few = f .few;
+          holding = all-in (holds u) (map (rowTerms counts masks) (keep (λ k. ltb k n) (take rows order))) (λ p m.
+              go p (map-out (rowTerms counts masks) (keep (λ k. ltb k n) (take rows order)) p m));
+        }))
+      where
+        go : (p : List ℕ) → (k : ℕ) × In k (keep (λ i. ltb i n) (take rows order)) × (p ≡ rowTerms counts masks k) → T (holds u p)
+        go p w =
+            let v = keep-out (λ (i : ℕ). ltb i n) (take rows order) (w .0) (w .1) in
+            let j = in-take rows order (w .0) (v .0) in
+            let row : w .0 < rows = omega (arith, j .2, ready .placed (j .0) (j .1)) in
+            rw (w .2) (all-out (holds u) ps (f .holding) _ (there (w .0) row (ltb→lt (w .0) n (v .1))))
+
+    pub least-unknown : Least n rows lefts rights counts masks order limit free none
+    unfolding needs preds predAt
+    least-unknown =
+        record {
+          from = inl refl;
+          low = omega arith;
+          all = entries-first (preds rows order counts masks) (λ k l e.
+              let j = ready .present k l in
+              let terms : ℕ → List ℕ = λ i. rowTerms counts masks (getD order i 0) in
+              let at : getD (tab rows terms) (j .0) [] ≡ rowTerms counts masks k = getD-tab rows (j .0) terms [] (j .1) ∙ ap (rowTerms counts masks) (sym (j .2)) in
+              rw at at (at-in (tab rows terms) [] (j .0) (rw length-tab (j .1))));
+          each = λ i a c. entries-first (needs rows lefts rights counts masks order (getD lefts i 0)) (λ k l e.
+              map-in (rowTerms counts masks) (keep (outside lefts rights (getD lefts i 0)) (take rows order)) k
+              (keep-in (outside lefts rights (getD lefts i 0)) (take rows order) k (take-in rows order (ready .ordered) (ready .present k l))
+              (out-empty n rows lefts rights counts masks order ready (getD lefts i 0) k e)));
+        }
 
   -- u makes all predicates true, or those that a left end needs
   abbrev Tried : ℕ → Type 0

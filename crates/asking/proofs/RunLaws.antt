@@ -61,7 +61,7 @@ run-at n rows lefts x roof r last = ⊎-elim (λ e. inl e) (λ w. inr (w .0, w .
 
 module _ (n rows : ℕ) (lefts rights counts masks order : List ℕ) (ready : Ready n rows lefts rights counts masks order) where
   -- an empty interval lacks every instant
-  out-empty : (x k : ℕ) → k < n → T (outside lefts rights x k)
+  pub out-empty : (x k : ℕ) → k < n → T (outside lefts rights x k)
   out-empty x k h = go (decLt x (getD lefts k 0))
     where
       go : Dec (x < getD lefts k 0) → T (outside lefts rights x k)

@@ -3,6 +3,7 @@
 ghost use mathlib.Core.Path.{_≡_};
 ghost use mathlib.Core.Logic.{_⊎_};
 ghost use Prim.Native.Nat.{ℕ, _+_, _≤_, _<_};
+ghost use lib.Dec.{ltb};
 ghost use lib.ListN.{length, getD, take};
 ghost use Rattle.numbers.specs.Numbers.{put};
 ghost use Rattle.predicates.specs.Lists.{keep};
@@ -84,6 +85,25 @@ pub fn list_outside(
     while i < rows {
         let row = order[i] as usize;
         if (x < lefts[row]) | (rights[row] < x) {
+            listed[m] = order[i];
+            m += 1;
+        }
+        i += 1;
+    }
+    m
+}
+
+// Lists, in the order of the search, the first n rows: the entries. Answers how many.
+pub fn list_entries(order: &[u32], rows: usize, n: usize, listed: &mut [u32]) -> usize
+    requires { ⌜ (rows ≤ 48) × (rows ≤ length (now order)) × (rows ≤ length (now listed)) × ((j : ℕ) → j < rows → getD (now order) j 0 < rows) ⌝ }
+    ensures { λ r. ⌜ (r ≡ length (keep (λ k. ltb k n) (take rows (now (order .entry))))) × (r ≤ rows) ⌝ }
+    ensures { λ _. ⌜ now (listed .exit) ≡ put 0 (keep (λ k. ltb k n) (take rows (now (order .entry)))) (now (listed .entry)) ⌝ }
+{
+    let mut m: usize = 0;
+    let mut i: usize = 0;
+    while i < rows {
+        let row = order[i] as usize;
+        if row < n {
             listed[m] = order[i];
             m += 1;
         }

@@ -55,6 +55,52 @@ fn least_set(
     }
 }
 
+// The same set. Every end needs the entries, so where no set within the limit explains these, no end is tried.
+fn least_within(
+    lefts: &[u64],
+    rights: &[u64],
+    counts: &[u32],
+    masks: &[u32],
+    order: &[u32],
+    listed: &mut [u32],
+    n: usize,
+    rows: usize,
+    limit: u32,
+    free: u32,
+) -> u32
+    requires { ⌜ Ready n rows (now lefts) (now rights) (now counts) (now masks) (now order) × (rows ≤ length (now listed)) ⌝ }
+    ensures { λ r. ⌜ Least n rows (now (lefts .entry)) (now (rights .entry)) (now (counts .entry)) (now (masks .entry)) (now (order .entry)) limit free r ⌝ }
+{
+    let known = super::ends::list_entries(order, rows, n, listed);
+    let some = super::search::predicate_step(
+        listed,
+        counts,
+        masks,
+        known,
+        limit,
+        536870912,
+        0,
+        0,
+        free,
+        536870912,
+    );
+    if 536870912 <= some {
+        return 536870912;
+    }
+    least_set(
+        lefts,
+        rights,
+        counts,
+        masks,
+        order,
+        listed,
+        n,
+        rows,
+        limit,
+        free,
+    )
+}
+
 // The fewest failures that explain a state in form.
 pub fn fewest_failures(s: &[u8]) -> Fewest
     requires { ⌜ (3032 ≤ length (now s)) × T (inForm (now s)) ⌝ }
@@ -78,7 +124,7 @@ pub fn fewest_failures(s: &[u8]) -> Fewest
     let mut listed = [0u32; 48];
     let mut limit: u32 = 1;
     while limit < 5 {
-        let set = least_set(
+        let set = least_within(
             &lefts,
             &rights,
             &counts,

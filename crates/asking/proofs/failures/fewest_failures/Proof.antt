@@ -55,8 +55,8 @@ loop-holds c =
       floor-one _ (sym (at-n .before .before .before .before .agree .ensures) ∙ at-n .before .before .before .if1 .left),
     )
 
-least-set-requires : tie.Need-least-set-requires Inv-loop μ-loop
-least-set-requires c κs =
+least-within-requires : tie.Need-least-within-requires Inv-loop μ-loop
+least-within-requires c κs =
     let head = c .before .before .before .before .before .before .before in
     let ready = head .loop .inv .2 .ready in (ready, omega (arith, ready .most, head .loop .inv .0))
 
@@ -64,17 +64,17 @@ returns-2 : tie.Need-returns-2 Inv-loop μ-loop
 returns-2 c =
     let head = c .before .before .before .before .before .before .before .before .before .before in
     let inv = head .loop .inv in
-    floor-found (inv .2) (omega arith) (rw (inv .3) at (c .before .before .least-set .ensures)) (inv .4) (c .if2 .taken)
+    floor-found (inv .2) (omega arith) (rw (inv .3) at (c .before .before .least-within .ensures)) (inv .4) (c .if2 .taken)
 
 loop-again : tie.Need-loop-again Inv-loop μ-loop
 loop-again c =
     let head = c .before .before .before .before .before .before .before .before .before .before in
     let inv = head .loop .inv in (
-      c .before .before .least-set .kept .1 .1 .1 .1 .1 .0 ∙ inv .0,
+      c .before .before .least-within .kept .1 .1 .1 .1 .1 .0 ∙ inv .0,
       omega arith,
       inv .2,
       inv .3,
-      floor-next (inv .2) (omega arith) (rw (inv .3) at (c .before .before .least-set .ensures)) (inv .4) (c .if2 .left),
+      floor-next (inv .2) (omega arith) (rw (inv .3) at (c .before .before .least-within .ensures)) (inv .4) (c .if2 .left),
     )
 
 returns-3 : tie.Need-returns-3 Inv-loop μ-loop
@@ -112,7 +112,7 @@ fewest-failures-spec =
     (λ c. search needs)
     (λ c. search needs)
     (λ c. search needs)
-    least-set-requires
+    least-within-requires
     returns-2
     (λ c. search needs)
     (λ c. search needs)
