@@ -70,12 +70,14 @@ pub fn settle(
 ) -> Outcome
     requires { ⌜ Columns h (now lefts) (now rights) (now held) (now terms) ⌝ }
     requires { ⌜ Table 16 (n + h) (now counts) (now masks) ⌝ }
-    requires { ⌜ (0 < length (now p)) × (length (now p) ≤ 8) ⌝ }
+    requires { ⌜ (0 < length (now p)) × (length (now p) ≤ 8) × (n + h ≤ 48) ⌝ }
     requires { ⌜ tab h (datumIn (now lefts) (now rights) (now held) (now terms)) ≡ dataIn h (now lefts) (now rights) (now held) (now terms) ⌝ }
     ensures { λ r. ⌜ (r .known ≤ n + h) × Table 16 (r .known) (now (counts .exit)) (now (masks .exit)) × Table 8 h (now (held .exit)) (now (terms .entry)) ⌝ }
     ensures { λ r. ⌜ entriesIn (r .known) (now (counts .exit)) (now (masks .exit)) ≡ learnt (datum left right (now (p .entry))) (dataIn h (now (lefts .entry)) (now (rights .entry)) (now (held .entry)) (now (terms .entry))) (entriesIn n (now (counts .entry)) (now (masks .entry))) ⌝ }
     ensures { λ r. ⌜ dataIn h (now (lefts .entry)) (now (rights .entry)) (now (held .exit)) (now (terms .entry)) ++ newly (r .placed .stored) (datum (r .placed .left) (r .placed .right) (now (p .entry))) ≡ heldAfter (datum left right (now (p .entry))) (dataIn h (now (lefts .entry)) (now (rights .entry)) (now (held .entry)) (now (terms .entry))) (entriesIn (r .known) (now (counts .exit)) (now (masks .exit))) ⌝ }
 {
+    let mut marks = [0u32; 48];
+    super::tables::mark_rows(counts, masks, n, &mut marks);
     let known = super::steps::learn_all(
         lefts,
         rights,
@@ -87,10 +89,11 @@ pub fn settle(
         p,
         counts,
         masks,
+        &mut marks,
         n,
     );
-    super::steps::drop_explained(held, terms, h, counts, masks, known);
-    if super::tables::explained(counts, masks, known, p) {
+    super::steps::drop_explained(held, terms, h, counts, masks, &marks, known);
+    if super::tables::explained(counts, masks, &marks, known, p) {
         let none = Placed {
             stored: false,
             left,

@@ -9,7 +9,7 @@ ghost use lib.ListN.{length, getD};
 ghost use Rattle.numbers.specs.Numbers.{tab};
 ghost use Rattle.predicates.specs.Lists.{any};
 ghost use Rattle.predicates.specs.Predicates.{normal};
-ghost use Rattle.engine.specs.Tables.{Table, Columns, First, liveBelow, row, some, entriesIn, datum, datumIn, dataIn, givenUp};
+ghost use Rattle.engine.specs.Tables.{Table, Columns, Marked, First, liveBelow, row, some, entriesIn, datum, datumIn, dataIn, givenUp};
 ghost use Rattle.engine.specs.Receiving.{disjoint as Receiving·disjoint, explained, learn, learnt, same as Receiving·same, met, without, betters as Receiving·betters};
 
 // Two ends of an interval.
@@ -35,11 +35,12 @@ fn learn_from(
     p: &[u32],
     counts: &mut [u32],
     masks: &mut [u32],
+    marks: &mut [u32],
     n: usize,
 ) -> usize
     requires { ⌜ Table 16 (n + 1) (now counts) (now masks) ⌝ }
-    requires { ⌜ (length (now q) ≤ 8) × (0 < length (now p)) × (length (now p) ≤ 8) ⌝ }
-    ensures { λ r. ⌜ (n ≤ r) × (r ≤ n + 1) × Table 16 r (now (counts .exit)) (now (masks .exit)) ⌝ }
+    requires { ⌜ (length (now q) ≤ 8) × (0 < length (now p)) × (length (now p) ≤ 8) × (n < length (now marks)) × Marked n (now counts) (now masks) (now marks) ⌝ }
+    ensures { λ r. ⌜ (n ≤ r) × (r ≤ n + 1) × Table 16 r (now (counts .exit)) (now (masks .exit)) × Marked r (now (counts .exit)) (now (masks .exit)) (now (marks .exit)) ⌝ }
     ensures { λ r. ⌜ entriesIn r (now (counts .exit)) (now (masks .exit)) ≡ cond (Receiving·disjoint (datum a b (now (q .entry))) (datum left right (now (p .entry)))) (learn (normal (now (q .entry) ++ now (p .entry))) (entriesIn n (now (counts .entry)) (now (masks .entry)))) (entriesIn n (now (counts .entry)) (now (masks .entry))) ⌝ }
 {
     if !disjoint(a, b, left, right) {
@@ -47,7 +48,7 @@ fn learn_from(
     }
     let mut terms = [0u32; 16];
     let m = predicates::sums::sum(&mut terms, q, p);
-    super::tables::learn(counts, masks, n, &terms[..m])
+    super::tables::learn(counts, masks, marks, n, &terms[..m])
 }
 
 // Step 1: what the new datum and the held data teach, oldest first. Answers how many rows of entries there are now.
@@ -62,12 +63,13 @@ pub fn learn_all(
     p: &[u32],
     counts: &mut [u32],
     masks: &mut [u32],
+    marks: &mut [u32],
     n: usize,
 ) -> usize
     requires { ⌜ Columns h (now lefts) (now rights) (now held) (now terms) ⌝ }
     requires { ⌜ Table 16 (n + h) (now counts) (now masks) ⌝ }
-    requires { ⌜ (0 < length (now p)) × (length (now p) ≤ 8) ⌝ }
-    ensures { λ r. ⌜ (r ≤ n + h) × Table 16 r (now (counts .exit)) (now (masks .exit)) ⌝ }
+    requires { ⌜ (0 < length (now p)) × (length (now p) ≤ 8) × (n + h ≤ length (now marks)) × Marked n (now counts) (now masks) (now marks) ⌝ }
+    ensures { λ r. ⌜ (r ≤ n + h) × Table 16 r (now (counts .exit)) (now (masks .exit)) × Marked r (now (counts .exit)) (now (masks .exit)) (now (marks .exit)) ⌝ }
     ensures { λ r. ⌜ entriesIn r (now (counts .exit)) (now (masks .exit)) ≡ learnt (datum left right (now (p .entry))) (tab h (datumIn (now (lefts .entry)) (now (rights .entry)) (now (held .entry)) (now (terms .entry)))) (entriesIn n (now (counts .entry)) (now (masks .entry))) ⌝ }
 {
     let mut known = n;
@@ -84,6 +86,7 @@ pub fn learn_all(
             p,
             counts,
             masks,
+            marks,
             known,
         );
         i += 1;
@@ -98,15 +101,16 @@ fn explained_row(
     i: usize,
     counts: &[u32],
     masks: &[u32],
+    marks: &[u32],
     n: usize,
 ) -> bool
     requires { ⌜ (i < length (now held)) × (i * 8 + getD (now held) i 0 ≤ length (now terms)) ⌝ }
-    requires { ⌜ Table 16 n (now counts) (now masks) ⌝ }
+    requires { ⌜ Table 16 n (now counts) (now masks) × Marked n (now counts) (now masks) (now marks) ⌝ }
     ensures { λ r. ⌜ r ≡ explained (entriesIn n (now (counts .entry)) (now (masks .entry))) (row 8 (now (held .entry)) (now (terms .entry)) i) ⌝ }
 {
     let from = i * 8;
     let to = from + held[i] as usize;
-    super::tables::explained(counts, masks, n, &terms[from..to])
+    super::tables::explained(counts, masks, marks, n, &terms[from..to])
 }
 
 // Step 2: held data whose predicate is implied by one entry go.
@@ -116,15 +120,16 @@ pub fn drop_explained(
     h: usize,
     counts: &[u32],
     masks: &[u32],
+    marks: &[u32],
     n: usize,
 )
     requires { ⌜ Table 8 h (now held) (now terms) ⌝ }
-    requires { ⌜ Table 16 n (now counts) (now masks) ⌝ }
+    requires { ⌜ Table 16 n (now counts) (now masks) × Marked n (now counts) (now masks) (now marks) ⌝ }
     ensures { λ _. ⌜ now (held .exit) ≡ givenUp h (λ i. explained (entriesIn n (now (counts .entry)) (now (masks .entry))) (row 8 (now (held .entry)) (now (terms .entry)) i)) (now (held .entry)) ⌝ }
 {
     let mut i: usize = 0;
     while i < h {
-        if explained_row(held, terms, i, counts, masks, n) {
+        if explained_row(held, terms, i, counts, masks, marks, n) {
             held[i] = 0;
         }
         i += 1;

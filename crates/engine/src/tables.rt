@@ -1,26 +1,25 @@
 // Predicates in flat arrays, as a receipt works on them: row i has its count at i and its terms from i * width on; a row without terms has been
-// given up.
+// given up. The names that make a row true alone are its mark, at i.
 ghost use mathlib.Core.Path.{_≡_};
 ghost use mathlib.Core.Bool.{_&&_};
 ghost use Prim.Native.Nat.{_+_, _*_, _≤_, _<_};
 ghost use lib.ListN.{length, getD, set};
 ghost use lib.Seq.{sets};
-ghost use Rattle.predicates.specs.Predicates.{holds, implies, joint as Predicates·joint, singles};
-ghost use Rattle.engine.specs.Tables.{Table, row, some, entriesIn, givenUp};
+ghost use Rattle.predicates.specs.Predicates.{implies, alone};
+ghost use Rattle.engine.specs.Tables.{Table, Marked, row, some, entriesIn, givenUp};
 ghost use Rattle.engine.specs.Receiving.{explained as Receiving·explained, learn as Receiving·learn};
 
-// Whether row i of 16 has terms and implies p; p's masks are given, and whether it is true whatever has failed.
+// Whether row i of 16 has terms and implies p; p's mask is given.
 fn row_implies(
     counts: &[u32],
     masks: &[u32],
+    marks: &[u32],
     i: usize,
     p: &[u32],
-    single: u32,
-    joint: u32,
-    always: bool,
+    bound: u32,
 ) -> bool
-    requires { ⌜ (i < length (now counts)) × (i * 16 + getD (now counts) i 0 ≤ length (now masks)) ⌝ }
-    requires { ⌜ (single ≡ singles (now p)) × (joint ≡ Predicates·joint (now p)) × (always ≡ holds 0 (now p)) ⌝ }
+    requires { ⌜ (i < length (now counts)) × (i * 16 + getD (now counts) i 0 ≤ length (now masks)) × (i < length (now marks)) ⌝ }
+    requires { ⌜ (bound ≡ alone (now p)) × ((getD (now counts) i 0 ≡ 0 → ⊥) → getD (now marks) i 0 ≡ alone (row 16 (now counts) (now masks) i)) ⌝ }
     ensures { λ r. ⌜ r ≡ some (row 16 (now (counts .entry)) (now (masks .entry)) i) && implies (row 16 (now (counts .entry)) (now (masks .entry)) i) (now (p .entry)) ⌝ }
 {
     let count = counts[i] as usize;
@@ -29,23 +28,21 @@ fn row_implies(
     }
     let from = i * 16;
     let to = from + count;
-    predicates::masks::implies(&masks[from..to], p, single, joint, always)
+    predicates::masks::implies(&masks[from..to], marks[i], p, bound)
 }
 
-// Whether an entry of the table implies p. All of them are held against p, so its masks are made once, and for a table of no rows not at all.
-pub fn explained(counts: &[u32], masks: &[u32], n: usize, p: &[u32]) -> bool
-    requires { ⌜ Table 16 n (now counts) (now masks) ⌝ }
+// Whether an entry of the table implies p. All of them are held against p, so its mask is made once, and for a table of no rows not at all.
+pub fn explained(counts: &[u32], masks: &[u32], marks: &[u32], n: usize, p: &[u32]) -> bool
+    requires { ⌜ Table 16 n (now counts) (now masks) × Marked n (now counts) (now masks) (now marks) ⌝ }
     ensures { λ r. ⌜ r ≡ Receiving·explained (entriesIn n (now (counts .entry)) (now (masks .entry))) (now (p .entry)) ⌝ }
 {
     if n == 0 {
         return false;
     }
-    let single = predicates::masks::singles(p);
-    let joint = predicates::masks::joint(p);
-    let always = predicates::holds(p, 0);
+    let bound = predicates::masks::alone(p);
     let mut i: usize = 0;
     while i < n {
-        if row_implies(counts, masks, i, p, single, joint, always) {
+        if row_implies(counts, masks, marks, i, p, bound) {
             return true;
         }
         i += 1;
@@ -53,39 +50,47 @@ pub fn explained(counts: &[u32], masks: &[u32], n: usize, p: &[u32]) -> bool
     false
 }
 
-// Whether e implies the predicate in row i of 16.
-fn implies_row(e: &[u32], counts: &[u32], masks: &[u32], i: usize) -> bool
-    requires { ⌜ (i < length (now counts)) × (i * 16 + getD (now counts) i 0 ≤ length (now masks)) ⌝ }
+// Whether e, which has terms, implies the predicate in row i of 16; e's mask is given. No predicate of any terms implies one of none.
+fn implies_row(e: &[u32], mark: u32, counts: &[u32], masks: &[u32], marks: &[u32], i: usize) -> bool
+    requires { ⌜ (i < length (now counts)) × (i * 16 + getD (now counts) i 0 ≤ length (now masks)) × (i < length (now marks)) ⌝ }
+    requires { ⌜ (mark ≡ alone (now e)) × ((getD (now counts) i 0 ≡ 0 → ⊥) → getD (now marks) i 0 ≡ alone (row 16 (now counts) (now masks) i)) × (0 < length (now e)) ⌝ }
     ensures { λ r. ⌜ r ≡ implies (now (e .entry)) (row 16 (now (counts .entry)) (now (masks .entry)) i) ⌝ }
 {
+    let count = counts[i] as usize;
+    if count == 0 {
+        return false;
+    }
     let from = i * 16;
-    let to = from + counts[i] as usize;
-    predicates::implies(e, &masks[from..to])
+    let to = from + count;
+    predicates::masks::implies(e, mark, &masks[from..to], marks[i])
 }
 
-// Gives up the entries that e implies.
-fn forget(counts: &mut [u32], masks: &[u32], n: usize, e: &[u32])
-    requires { ⌜ Table 16 n (now counts) (now masks) ⌝ }
+// Gives up the entries that e, which has terms, implies; e's mask is given.
+fn forget(counts: &mut [u32], masks: &[u32], marks: &[u32], n: usize, e: &[u32], mark: u32)
+    requires { ⌜ Table 16 n (now counts) (now masks) × Marked n (now counts) (now masks) (now marks) ⌝ }
+    requires { ⌜ (mark ≡ alone (now e)) × (0 < length (now e)) ⌝ }
     ensures { λ _. ⌜ now (counts .exit) ≡ givenUp n (λ i. implies (now (e .entry)) (row 16 (now (counts .entry)) (now (masks .entry)) i)) (now (counts .entry)) ⌝ }
 {
     let mut i: usize = 0;
     while i < n {
-        if implies_row(e, counts, masks, i) {
+        if implies_row(e, mark, counts, masks, marks, i) {
             counts[i] = 0;
         }
         i += 1;
     }
 }
 
-// Puts e last, into row n.
-fn append(counts: &mut [u32], masks: &mut [u32], n: usize, e: &[u32])
-    requires { ⌜ (n < length (now counts)) × (n * 16 + length (now e) ≤ length (now masks)) × (length (now e) ≤ 16) ⌝ }
+// Puts e, whose mask is given, last, into row n.
+fn append(counts: &mut [u32], masks: &mut [u32], marks: &mut [u32], n: usize, e: &[u32], mark: u32)
+    requires { ⌜ (n < length (now counts)) × (n * 16 + length (now e) ≤ length (now masks)) × (length (now e) ≤ 16) × (n < length (now marks)) ⌝ }
     ensures { λ _. ⌜ now (counts .exit) ≡ set (now (counts .entry)) n (length (now (e .entry))) ⌝ }
     ensures { λ _. ⌜ now (masks .exit) ≡ sets (now (masks .entry)) (n * 16) (now (e .entry)) ⌝ }
+    ensures { λ _. ⌜ now (marks .exit) ≡ set (now (marks .entry)) n mark ⌝ }
 {
     let count = e.len();
     let from = n * 16;
     counts[n] = count as u32;
+    marks[n] = mark;
     let mut j: usize = 0;
     while j < count {
         masks[from + j] = e[j];
@@ -94,16 +99,40 @@ fn append(counts: &mut [u32], masks: &mut [u32], n: usize, e: &[u32])
 }
 
 // Places an entry: not added where an entry implies it; else those that it implies go, and it stands last. Answers how many rows there are now.
-pub fn learn(counts: &mut [u32], masks: &mut [u32], n: usize, e: &[u32]) -> usize
+pub fn learn(counts: &mut [u32], masks: &mut [u32], marks: &mut [u32], n: usize, e: &[u32]) -> usize
     requires { ⌜ Table 16 (n + 1) (now counts) (now masks) ⌝ }
-    requires { ⌜ (0 < length (now e)) × (length (now e) ≤ 16) ⌝ }
-    ensures { λ r. ⌜ (n ≤ r) × (r ≤ n + 1) × Table 16 r (now (counts .exit)) (now (masks .exit)) ⌝ }
+    requires { ⌜ (0 < length (now e)) × (length (now e) ≤ 16) × (n < length (now marks)) × Marked n (now counts) (now masks) (now marks) ⌝ }
+    ensures { λ r. ⌜ (n ≤ r) × (r ≤ n + 1) × Table 16 r (now (counts .exit)) (now (masks .exit)) × Marked r (now (counts .exit)) (now (masks .exit)) (now (marks .exit)) ⌝ }
     ensures { λ r. ⌜ entriesIn r (now (counts .exit)) (now (masks .exit)) ≡ Receiving·learn (now (e .entry)) (entriesIn n (now (counts .entry)) (now (masks .entry))) ⌝ }
 {
-    if explained(counts, masks, n, e) {
+    if explained(counts, masks, marks, n, e) {
         return n;
     }
-    forget(counts, masks, n, e);
-    append(counts, masks, n, e);
+    let mark = predicates::masks::alone(e);
+    forget(counts, masks, marks, n, e, mark);
+    append(counts, masks, marks, n, e, mark);
     n + 1
+}
+
+// The mark of row i of 16.
+fn mark_of(counts: &[u32], masks: &[u32], i: usize) -> u32
+    requires { ⌜ (i < length (now counts)) × (i * 16 + getD (now counts) i 0 ≤ length (now masks)) ⌝ }
+    ensures { λ r. ⌜ r ≡ alone (row 16 (now (counts .entry)) (now (masks .entry)) i) ⌝ }
+{
+    let from = i * 16;
+    let to = from + counts[i] as usize;
+    predicates::masks::alone(&masks[from..to])
+}
+
+// Makes the marks of the first n rows.
+pub fn mark_rows(counts: &[u32], masks: &[u32], n: usize, marks: &mut [u32])
+    requires { ⌜ Table 16 n (now counts) (now masks) ⌝ }
+    requires { ⌜ n ≤ length (now marks) ⌝ }
+    ensures { λ _. ⌜ Marked n (now (counts .entry)) (now (masks .entry)) (now (marks .exit)) ⌝ }
+{
+    let mut i: usize = 0;
+    while i < n {
+        marks[i] = mark_of(counts, masks, i);
+        i += 1;
+    }
 }

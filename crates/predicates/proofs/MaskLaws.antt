@@ -1,22 +1,25 @@
 -- The masks of a predicate's names: what they decide of a set, and one turn of the loops that make them. No contract cites this file.
 -- Assumes nothing.
-use mathlib.Core.Path.{_≡_, refl, sym, ap, ap₂, subst, _∙_}
-use mathlib.Core.Bool.{Bool, true, false, _||_, not}
+use mathlib.Core.Path.{_≡_, refl, sym, ap, subst, _∙_}
+use mathlib.Core.Bool.{Bool, true, false, _&&_, not}
+use mathlib.Core.Logic.{inl, inr, ⊎-elim}
 use mathlib.Core.List.{List, [], _∷_}
 use Prim.Native.Nat.{ℕ, _+_, _≤_, _<_}
 use native.Mathlib.Omega.{arith}
-use native.Mathlib.Decide.{ℕ-discrete, decLe}
-use borrow.Author.Tests.{eq-eqb, lt-leb}
+use native.Mathlib.Decide.{ℕ-discrete}
+use borrow.Author.Tests.{eq-eqb}
 use lib.Bits.{and-zero-r, or-zero-r}
 use lib.Count.{ones}
-use lib.Dec.{T, T-not, eqb, eqb→eq, leb, leb→le, le→leb}
+use lib.Dec.{T, T-not, not-T, eqb, eqb→eq, leb, leb→le, le→leb}
 use lib.ListN.{length, getD, drop, drop-of-length-le}
 use Rattle.names.specs.Sets.{subset, union, shared, digit}
-use Rattle.names.proofs.SetLaws.{test-ext, digit-union, digit-empty, digits-ext, subset-refl, subset-trans, subset-empty, empty-subset, union-left, union-right, ones-none, ones-mono}
-use Rattle.names.proofs.PartLaws.{digit-shared, shared-left, shared-right, shared-greatest, subset-same}
-use Rattle.predicates.specs.Predicates.{holds, singles, joint}
-use Rattle.predicates.proofs.ListLaws.{true-T, T-true, or-l, or-r, cond-ind}
+use Rattle.names.proofs.SetLaws.{digit-union, digit-empty, digits-ext, subset-trans, empty-subset, union-left, union-right, union-least, ones-none}
+use Rattle.names.proofs.PartLaws.{digit-shared, shared-left, shared-right, subset-same}
+use Rattle.predicates.specs.Lists.{In}
+use Rattle.predicates.specs.Predicates.{holds, implies, alone, singles}
+use Rattle.predicates.proofs.ListLaws.{true-T, T-true, T-false, both-l, both-r, or-l, or-r, cond-ind, all-out}
 use Rattle.predicates.proofs.LoopLaws.{drop-next}
+use Rattle.predicates.proofs.PredicateLaws.{holds-in, holds-out, holds-mono, implies-out}
 
 -- ---- a set that shares a name with a term of one name contains that term
 
@@ -47,36 +50,59 @@ singles-holds s (u ∷ p) f =
     either e g rest (yes z) = or-l (subset u s) (holds s p) (single-inside s u e (λ w. g (shared-neither s u (singles p) w z)))
     either e g rest (no h) = or-r (subset u s) (holds s p) (rest h)
 
--- ---- a set with no name of theirs, and at most one of the terms of several names, contains the empty term or none
+-- ---- a name that makes the predicate true alone is one of them
 
-module _ (s a j : ℕ) (z : shared s a ≡ 0) (few : ones (shared s j) ≤ 1) where
-  -- one term, which is in one of the masks
-  one-term : (u : ℕ) → (ones u ≡ 1 → T (subset u a)) → (1 < ones u → T (subset u j)) → subset u s ≡ subset u 0
-  one-term u f g =
-      test-ext (subset u s) (subset u 0) (λ h. go h (ℕ-discrete (ones u) 1) (decLe (ones u) 1))
-      (λ h. subst (λ (x : ℕ). T (subset x s)) (sym (subset-empty u h)) (empty-subset s))
-    where
-      go : T (subset u s) → Dec (ones u ≡ 1) → Dec (ones u ≤ 1) → T (subset u 0)
-      go h (yes e) d = subst (λ (x : ℕ). T (subset u x)) z (shared-greatest u s a h (f e))
-      go h (no n) (yes l) = subst (λ (x : ℕ). T (subset x 0)) (sym (ones-none u (omega (arith, n, l)))) (empty-subset 0)
-      go h (no n) (no m) =
-          let more : 1 < ones u = omega (arith, m) in
-          let c : ⊥ = omega (arith, ones-mono u (shared s j) (shared-greatest u s j h (g more)), few, more) in absurd c
+singles-in : (t : ℕ) (p : List ℕ) → In t p → ones t ≡ 1 → T (subset t (singles p))
+unfolding singles
+singles-in t (u ∷ p) m e =
+    cond-ind (λ (x : ℕ). T (subset t x)) (eqb (ones u) 1) (union u (singles p)) (singles p)
+    (λ _. ⊎-elim (λ d. subst (λ (x : ℕ). T (subset t (union x (singles p)))) d (union-left t (singles p)))
+    (λ k. subset-trans t (singles p) (union u (singles p)) (singles-in t p k e) (union-right u (singles p))) m)
+    (λ n. ⊎-elim (λ d. absurd (T-not (eqb (ones u) 1) n (true-T (eqb (ones u) 1) (eq-eqb (ones u) 1 (ap ones (sym d) ∙ e))))) (λ k. singles-in t p k e) m)
 
-  pub masks-decide : (p : List ℕ) → T (subset (singles p) a) → T (subset (joint p) j) → holds s p ≡ holds 0 p
-  unfolding holds singles joint
-  masks-decide [] h k = refl
-  masks-decide (u ∷ p) h k =
-      let behind : T (subset (singles p) (singles (u ∷ p))) =
-      cond-ind (λ (x : ℕ). T (subset (singles p) x)) (eqb (ones u) 1) (union u (singles p)) (singles p)
-      (λ _. union-right u (singles p)) (λ _. subset-refl (singles p)) in
-      let after : T (subset (joint p) (joint (u ∷ p))) =
-      cond-ind (λ (x : ℕ). T (subset (joint p) x)) (leb (ones u) 1) (joint p) (union u (joint p))
-      (λ _. subset-refl (joint p)) (λ _. union-right u (joint p)) in
-      ap₂ (λ (x y : Bool). x || y)
-      (one-term u (λ e. subset-trans u (singles (u ∷ p)) a (rw (eq-eqb (ones u) 1 e) (union-left u (singles p))) h)
-      (λ m. subset-trans u (joint (u ∷ p)) j (rw (lt-leb (ones u) 1 m) (union-left u (joint p))) k))
-      (masks-decide p (subset-trans (singles p) (singles (u ∷ p)) a behind h) (subset-trans (joint p) (joint (u ∷ p)) j after k))
+singles-least : (p : List ℕ) (s : ℕ) → ((t : ℕ) → In t p → ones t ≡ 1 → T (subset t s)) → T (subset (singles p) s)
+unfolding singles
+singles-least [] s f = empty-subset s
+singles-least (u ∷ p) s f =
+    let rest : T (subset (singles p) s) = singles-least p s (λ t m. f t (inr m)) in
+    cond-ind (λ (x : ℕ). T (subset x s)) (eqb (ones u) 1) (union u (singles p)) (singles p)
+    (λ e. union-least u (singles p) s (f u (inl refl) (eqb→eq (ones u) 1 e)) rest) (λ _. rest)
+
+-- a set of one name contains no term, or the empty one, or that of its name
+one-holds : (t : ℕ) (q : List ℕ) → ones t ≡ 1 → T (holds t q) → T (not (holds 0 q)) → T (subset t (singles q))
+one-holds t q e h n = let r = holds-out t q h in go (r .0) (r .1) (r .2) (ℕ-discrete (ones (r .0)) 0)
+  where
+    go : (u : ℕ) → In u q → T (subset u t) → Dec (ones u ≡ 0) → T (subset t (singles q))
+    go u m k (yes z) = absurd (T-not (holds 0 q) n (holds-in 0 q u m (subst (λ (x : ℕ). T (subset x 0)) (sym (ones-none u z)) (empty-subset 0))))
+    go u m k (no f) =
+        let same : u ≡ t = subset-same u t k (omega (arith, e, f)) in
+        subst (λ (x : ℕ). T (subset x (singles q))) same (singles-in u q m (ap ones same ∙ e))
+
+-- ---- what the names that decide alone tell: p implies no q that has fewer of them, unless q is true whatever has failed
+
+implies-alone : (p q : List ℕ) → T (implies p q) → T (not (holds 0 q)) → T (subset (alone p) (singles q))
+unfolding alone implies
+implies-alone p q i n =
+    cond-ind (λ (x : ℕ). T (subset x (singles q))) (holds 0 p) 536870911 (singles p) (λ h. absurd (T-not (holds 0 q) n (implies-out p q i 0 h)))
+    (λ _. singles-least p (singles q) (λ t m e. one-holds t q e (all-out (λ u. holds u q) p i t m) n))
+
+-- a and b are the masks of p and q, and r whether b contains a
+pub implies-not : (p q : List ℕ) (a b : ℕ) (r : Bool) → a ≡ alone p → b ≡ alone q → r ≡ subset a b → not (eqb b 536870911) && not r ≡ true → implies p q ≡ false
+unfolding alone
+implies-not p q a b r f g d h =
+    let both = true-T (not (eqb b 536870911) && not r) h in
+    let other : b ≡ 536870911 → ⊥ = λ e. T-not (eqb b 536870911) (both-l (not (eqb b 536870911)) (not r) both) (true-T (eqb b 536870911) (eq-eqb b 536870911 e)) in
+    let outside = both-r (not (eqb b 536870911)) (not r) both in
+    T-false (implies p q) (not-T (implies p q) (λ i.
+    cond-ind (λ (x : ℕ). b ≡ x → ⊥) (holds 0 q) 536870911 (singles q) (λ _. other)
+    (λ k e. T-not r outside (rw (d, f, e) (implies-alone p q i k))) g))
+
+pub holds-alone : (s a r : ℕ) (p : List ℕ) → a ≡ alone p → r ≡ shared s a → (r ≡ 0 → ⊥) → holds s p ≡ true
+unfolding alone
+holds-alone s a r p e d f =
+    T-true (holds s p)
+    (cond-ind (λ (x : ℕ). a ≡ x → T (holds s p)) (holds 0 p) 536870911 (singles p) (λ h _. holds-mono 0 s p (empty-subset s) h)
+    (λ _ k. singles-holds s p (λ z. f (d ∙ ap (λ (x : ℕ). shared s x) k ∙ z))) e)
 
 -- ---- the loops
 
@@ -107,14 +133,6 @@ singles-many t p h =
     cond-ind (λ (x : ℕ). x ≡ singles p) (eqb (ones t) 1) (union t (singles p)) (singles p)
     (λ e. absurd (T-not (leb (ones t) 1) (subst (λ (b : Bool). T (not b)) (sym h) tt) (le→leb (ones t) 1 (omega (arith, eqb→eq (ones t) 1 e))))) (λ _. refl)
 
-pub joint-few : (t : ℕ) (p : List ℕ) → leb (ones t) 1 ≡ true → joint (t ∷ p) ≡ joint p
-unfolding joint
-joint-few t p h = rw h
-
-pub joint-many : (t : ℕ) (p : List ℕ) → leb (ones t) 1 ≡ false → joint (t ∷ p) ≡ union t (joint p)
-unfolding joint
-joint-many t p h = rw h
-
 -- m are the names of the terms before i; the names of the term at i are taken, or not
 module _ (f : List ℕ → ℕ) (p : List ℕ) (i m : ℕ) where
   pub mask-take : i < length p → ((q : List ℕ) → f (getD p i 0 ∷ q) ≡ union (getD p i 0) (f q)) → union (union m (getD p i 0)) (f (drop (i + 1) p)) ≡ union m (f (drop i p))
@@ -125,15 +143,3 @@ module _ (f : List ℕ → ℕ) (p : List ℕ) (i m : ℕ) where
 
   pub mask-done : f [] ≡ 0 → length p ≤ i → union m (f (drop i p)) ≡ m
   mask-done e h = rw (drop-of-length-le p {i = i} h, e) (union-empty m)
-
--- ---- what the tests find: r is what s shares with the terms of one name, m what it shares with those of several
-
-module _ (s single r : ℕ) (p : List ℕ) (e : single ≡ singles p) (d : r ≡ shared s single) where
-  pub holds-single : (r ≡ 0 → ⊥) → holds s p ≡ true
-  holds-single f = T-true (holds s p) (singles-holds s p (λ z. f (d ∙ ap (λ (x : ℕ). shared s x) e ∙ z)))
-
-  pub holds-always : (j m : ℕ) (always : Bool) → j ≡ joint p → always ≡ holds 0 p → r ≡ 0 → m ≡ shared s j → leb (ones m) 1 ≡ true → holds s p ≡ always
-  holds-always j m always g a z k h =
-      masks-decide s (singles p) (joint p) (ap (λ (x : ℕ). shared s x) (sym e) ∙ sym d ∙ z)
-      (leb→le (ones (shared s (joint p))) 1 (true-T (leb (ones (shared s (joint p))) 1) (ap (λ (x : ℕ). leb (ones x) 1) (ap (λ (x : ℕ). shared s x) (sym g) ∙ sym k) ∙ h)))
-      p (subset-refl (singles p)) (subset-refl (joint p)) ∙ sym a

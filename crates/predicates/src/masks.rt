@@ -1,10 +1,10 @@
-// The names of a predicate's terms as two masks, and the tests that they decide at once. A term nearly always passes or fails by the masks alone,
-// so they are worth making where many terms are held against one predicate.
+// The names that each make a predicate true alone, as one mask, and the tests that it decides at once. Nearly all pairs of predicates are told
+// apart by their masks, so they are worth making where many are held against each other.
 ghost use mathlib.Core.Path.{_≡_};
-ghost use Rattle.predicates.specs.Predicates.{holds as Predicates·holds, implies as Predicates·implies, joint as Predicates·joint, singles as Predicates·singles};
+ghost use Rattle.predicates.specs.Predicates.{holds as Predicates·holds, implies as Predicates·implies, alone as Predicates·alone, singles as Predicates·singles};
 
 // The names of the terms of one name.
-pub fn singles(p: &[u32]) -> u32
+fn singles(p: &[u32]) -> u32
     ensures { λ r. ⌜ r ≡ Predicates·singles (now (p .entry)) ⌝ }
 {
     let mut names: u32 = 0;
@@ -19,44 +19,38 @@ pub fn singles(p: &[u32]) -> u32
     names
 }
 
-// The names of the terms of several names.
-pub fn joint(p: &[u32]) -> u32
-    ensures { λ r. ⌜ r ≡ Predicates·joint (now (p .entry)) ⌝ }
+// The names that each make p true alone; all names where p is true whatever has failed.
+pub fn alone(p: &[u32]) -> u32
+    ensures { λ r. ⌜ r ≡ Predicates·alone (now (p .entry)) ⌝ }
 {
-    let mut names: u32 = 0;
-    let mut i: usize = 0;
-    while i < p.len() {
-        let t = p[i];
-        if !names::at_most_one(t) {
-            names = names::union(names, t);
-        }
-        i += 1;
+    if super::holds(p, 0) {
+        return 536870911;
     }
-    names
+    singles(p)
 }
 
-// Whether the set s makes p true; p's masks are given, and whether it is true whatever has failed.
-fn holds(p: &[u32], single: u32, joint: u32, always: bool, s: u32) -> bool
-    requires { ⌜ (single ≡ Predicates·singles (now p)) × (joint ≡ Predicates·joint (now p)) × (always ≡ Predicates·holds 0 (now p)) ⌝ }
+// Whether the set s makes p true; p's mask is given.
+fn holds(p: &[u32], mark: u32, s: u32) -> bool
+    requires { ⌜ mark ≡ Predicates·alone (now p) ⌝ }
     ensures { λ r. ⌜ r ≡ Predicates·holds s (now (p .entry)) ⌝ }
 {
-    if names::shared(s, single) != 0 {
+    if names::shared(s, mark) != 0 {
         return true;
-    }
-    if names::at_most_one(names::shared(s, joint)) {
-        return always;
     }
     super::holds(p, s)
 }
 
-// Whether p implies q; q's masks are given, and whether it is true whatever has failed.
-pub fn implies(p: &[u32], q: &[u32], single: u32, joint: u32, always: bool) -> bool
-    requires { ⌜ (single ≡ Predicates·singles (now q)) × (joint ≡ Predicates·joint (now q)) × (always ≡ Predicates·holds 0 (now q)) ⌝ }
+// Whether p implies q; the masks of both are given. Unless q is true whatever has failed, p's lies within q's.
+pub fn implies(p: &[u32], mark: u32, q: &[u32], bound: u32) -> bool
+    requires { ⌜ (mark ≡ Predicates·alone (now p)) × (bound ≡ Predicates·alone (now q)) ⌝ }
     ensures { λ r. ⌜ r ≡ Predicates·implies (now (p .entry)) (now (q .entry)) ⌝ }
 {
+    if (bound != 536870911) & !names::subset(mark, bound) {
+        return false;
+    }
     let mut i: usize = 0;
     while i < p.len() {
-        if !holds(q, single, joint, always, p[i]) {
+        if !holds(q, bound, p[i]) {
             return false;
         }
         i += 1;

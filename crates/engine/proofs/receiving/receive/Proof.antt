@@ -43,7 +43,7 @@ settle-requires c κs =
       data-columns _ s (a .pre .0 .1) h _ _ _ _ _ _ _ _ (read .0) (read .1 .0) (read .1 .1 .0) (read .1 .1 .1) _ (le-refl _) (columns-fresh _ 16 16 16 128 (omega arith) (omega arith) (omega arith) (omega arith)),
       (
         entries-table _ s (a .pre .0 .1) n _ _ _ _ (entries .0) (entries .1) _ (omega arith) (table-fresh 16 _ 48 768 (omega arith) (omega arith)),
-        ((a .pre .1 .0, a .pre .1 .1), rows ∙ sym held),
+        ((a .pre .1 .0, a .pre .1 .1, omega arith), rows ∙ sym held),
       ),
     )
 

@@ -14,10 +14,10 @@ use Rattle.engine.proofs.steps.drop_explained.Statement.{statement}
 use Rattle.engine.proofs.steps.drop_explained.Tie as tie
 
 abbrev Inv-loop : tie.InvT-loop
-Inv-loop held₀ terms h counts masks n i₀ held i = (i ≤ h) × (length held ≡ length held₀) × (held ≡ givenUp i (λ k. explained (entriesIn n counts masks) (row 8 held₀ terms k)) held₀)
+Inv-loop held₀ terms h counts masks marks n i₀ held i = (i ≤ h) × (length held ≡ length held₀) × (held ≡ givenUp i (λ k. explained (entriesIn n counts masks) (row 8 held₀ terms k)) held₀)
 
 abbrev μ-loop : tie.MeasureT-loop
-μ-loop held₀ terms h counts masks n i₀ held i = h - i
+μ-loop held₀ terms h counts masks marks n i₀ held i = h - i
 
 loop-holds : tie.Need-loop-holds Inv-loop μ-loop
 loop-holds c = (search needs, refl, sym (given-up-none _ _))
@@ -25,7 +25,7 @@ loop-holds c = (search needs, refl, sym (given-up-none _ _))
 explained-row-requires : tie.Need-explained-row-requires Inv-loop μ-loop
 explained-row-requires c κs =
     let head = c .before .before in
-    let a = head .before .before .before .before .before in
+    let a = head .before .before .before .before .before .before in
     let i = head .loop .i in
     let same : getD (head .loop .held) i 0 ≡ getD (a .args .held .now) i 0 = ap (λ l. getD l i 0) (head .loop .inv .2) ∙ given-up-at _ _ i in
     ((omega (arith, a .pre .0 .counted), omega (arith, same, table-room 8 _ _ _ (a .pre .0) i (c .before .loop-test .taken))), a .pre .1)
@@ -33,7 +33,7 @@ explained-row-requires c κs =
 loop-again : tie.Need-loop-again Inv-loop μ-loop
 loop-again c =
     let head = c .before .before .before .before in
-    let a = head .before .before .before .before .before in
+    let a = head .before .before .before .before .before .before in
     let i = head .loop .i in
     let same : getD (head .loop .held) i 0 ≡ getD (a .args .held .now) i 0 = ap (λ l. getD l i 0) (head .loop .inv .2) ∙ given-up-at _ _ i in
     let near : i < length (a .args .held .now) = omega (arith, a .pre .0 .counted) in
@@ -45,7 +45,7 @@ loop-again c =
 
 returns : tie.Need-returns Inv-loop μ-loop
 returns c =
-    let done : c .before .loop .i ≡ c .before .before .before .before .before .before .args .h = omega arith in
+    let done : c .before .loop .i ≡ c .before .before .before .before .before .before .before .args .h = omega arith in
     rw done at (c .before .loop .inv .2)
 
 pub drop-explained-spec : {M : Type 1} → statement M

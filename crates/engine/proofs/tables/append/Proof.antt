@@ -11,10 +11,10 @@ use Rattle.engine.proofs.tables.append.Statement.{statement}
 use Rattle.engine.proofs.tables.append.Tie as tie
 
 abbrev Inv-loop : tie.InvT-loop
-Inv-loop counts masks₀ n e count from j₀ masks j = (j ≤ length e) × (length masks ≡ length masks₀) × (sets masks (n * 16 + j) (drop j e) ≡ sets masks₀ (n * 16) e)
+Inv-loop counts masks₀ marks n e mark count from j₀ masks j = (j ≤ length e) × (length masks ≡ length masks₀) × (sets masks (n * 16 + j) (drop j e) ≡ sets masks₀ (n * 16) e)
 
 abbrev μ-loop : tie.MeasureT-loop
-μ-loop counts masks₀ n e count from j₀ masks j = length e - j
+μ-loop counts masks₀ marks n e mark count from j₀ masks j = length e - j
 
 loop-holds : tie.Need-loop-holds Inv-loop μ-loop
 loop-holds c =
@@ -29,7 +29,7 @@ loop-again c =
 returns : tie.Need-returns Inv-loop μ-loop
 returns c =
     let at-head = c .before .loop in
-    (refl, rw (drop-of-length-le (c .before .before .args .e .now) {i = at-head .j} (c .loop-test .left)) at (at-head .inv .2))
+    (refl, (rw (drop-of-length-le (c .before .before .args .e .now) {i = at-head .j} (c .loop-test .left)) at (at-head .inv .2), refl))
 
 pub append-spec : {M : Type 1} → statement M
 append-spec =
@@ -37,6 +37,8 @@ append-spec =
     (tie.spec
     Inv-loop
     μ-loop
+    (λ c. search needs)
+    (λ c. search needs)
     (λ c. search needs)
     (λ c. search needs)
     (λ c. search needs)
@@ -50,6 +52,7 @@ append-spec =
     (λ c. search needs)
     (λ c. search needs)
     loop-again
+    (λ c. search needs)
     (λ c. search needs)
     (λ c. search needs)
     returns)
