@@ -1,8 +1,8 @@
 -- Tables of predicates in flat arrays: what the loops over them find, give up and put last, as facts on the lists that they hold.
 -- No contract cites this file. Assumes nothing.
-use Prim.Native.Nat.{ℕ, zero, suc, _+_, _*_, _-_, _≤_, _<_}
+use Prim.Native.Nat.{ℕ, zero, suc, _+_, _*_, _-_, _^_, _≤_, _<_}
 use mathlib.Core.Path.{_≡_, refl, sym, ap, ap₂, subst, _∙_}
-use mathlib.Core.Bool.{Bool, true, false, _&&_, _||_, not, cond, or-assoc, or-false, or-true}
+use mathlib.Core.Bool.{Bool, true, false, _&&_, _||_, not, cond, and-false, or-assoc, or-false, or-true}
 use mathlib.Core.List.{List, [], _∷_, _++_, append-assoc}
 use mathlib.Core.Logic.{_⊎_, inl, inr}
 use native.Mathlib.Nat.{mul-le-mul-right, suc-mul}
@@ -11,11 +11,13 @@ use native.Mathlib.Omega.{arith}
 use native.Mathlib.Decide.{ℕ-discrete, decLt}
 use lib.ListN.{length, getD, take, drop, set, length-append, length-drop, length-set, List·getD-append}
 use lib.Seq.{sets, sets-eq, length-sets, take-at, drop-at, take-append-le, drop-append-le, length-take-le, getD-drop, getD-append-add, set-at, getD-set-same, getD-set-other, drop-cons}
+use Rattle.names.specs.Sets.{subset}
 use Rattle.numbers.specs.Numbers.{tab}
 use Rattle.numbers.proofs.NumberLaws.{length-tab, getD-tab}
 use Rattle.predicates.specs.Lists.{any, keep, In}
 use Rattle.predicates.specs.Predicates.{holds, implies, alone}
 use Rattle.predicates.proofs.ListLaws.{in-l, in-r, in-cases}
+use Rattle.predicates.proofs.MaskLaws.{implies-not}
 use Rattle.engine.specs.Receiving.{explained, learn}
 use Rattle.engine.specs.Tables.{Table, Marked, row, some, entriesIn, givenUp}
 
@@ -247,6 +249,22 @@ row-some w i counts masks f h =
     nonempty : (l : List ℕ) → 0 < length l → some l ≡ true
     nonempty [] h = absurd (omega arith)
     nonempty (x ∷ l) h = refl
+
+-- a is the mark of row i, where it is still there
+module _ (i : ℕ) (counts masks p : List ℕ) (a b : ℕ) (f : (getD counts i 0 ≡ 0 → ⊥) → a ≡ alone (row 16 counts masks i)) (g : b ≡ alone p) where
+  pub row-apart : a < 2 ^ 32 → subset a b ≡ false → some (row 16 counts masks i) && implies (row 16 counts masks i) p ≡ false
+  row-apart l h = go (ℕ-discrete (getD counts i 0) 0)
+    where
+      go : Dec (getD counts i 0 ≡ 0) → some (row 16 counts masks i) && implies (row 16 counts masks i) p ≡ false
+      go (yes z) = rw (row-none 16 i counts masks z)
+      go (no n) = rw (implies-not (row 16 counts masks i) p a b (f n) g l h) (and-false (some (row 16 counts masks i)))
+
+  pub apart-row : 0 < length p → b < 2 ^ 32 → subset b a ≡ false → implies p (row 16 counts masks i) ≡ false
+  apart-row s l h = go (ℕ-discrete (getD counts i 0) 0)
+    where
+      go : Dec (getD counts i 0 ≡ 0) → implies p (row 16 counts masks i) ≡ false
+      go (yes z) = implies-none p 16 i counts masks s z
+      go (no n) = implies-not p (row 16 counts masks i) b a g (f n) l h
 
 pub explained-rows : (n : ℕ) (counts masks p : List ℕ) →
     explained (entriesIn n counts masks) p ≡ anyBelow n (λ i. some (row 16 counts masks i) && implies (row 16 counts masks i) p)

@@ -22,13 +22,16 @@ fn row_implies(
     requires { ⌜ (bound ≡ alone (now p)) × ((getD (now counts) i 0 ≡ 0 → ⊥) → getD (now marks) i 0 ≡ alone (row 16 (now counts) (now masks) i)) ⌝ }
     ensures { λ r. ⌜ r ≡ some (row 16 (now (counts .entry)) (now (masks .entry)) i) && implies (row 16 (now (counts .entry)) (now (masks .entry)) i) (now (p .entry)) ⌝ }
 {
+    if !predicates::masks::may_imply(marks[i], bound) {
+        return false;
+    }
     let count = counts[i] as usize;
     if count == 0 {
         return false;
     }
     let from = i * 16;
     let to = from + count;
-    predicates::masks::implies(&masks[from..to], marks[i], p, bound)
+    predicates::masks::implies(&masks[from..to], p, bound)
 }
 
 // Whether an entry of the table implies p. All of them are held against p, so its mask is made once, and for a table of no rows not at all.
@@ -56,13 +59,16 @@ fn implies_row(e: &[u32], mark: u32, counts: &[u32], masks: &[u32], marks: &[u32
     requires { ⌜ (mark ≡ alone (now e)) × ((getD (now counts) i 0 ≡ 0 → ⊥) → getD (now marks) i 0 ≡ alone (row 16 (now counts) (now masks) i)) × (0 < length (now e)) ⌝ }
     ensures { λ r. ⌜ r ≡ implies (now (e .entry)) (row 16 (now (counts .entry)) (now (masks .entry)) i) ⌝ }
 {
+    if !predicates::masks::may_imply(mark, marks[i]) {
+        return false;
+    }
     let count = counts[i] as usize;
     if count == 0 {
         return false;
     }
     let from = i * 16;
     let to = from + count;
-    predicates::masks::implies(e, mark, &masks[from..to], marks[i])
+    predicates::masks::implies(e, &masks[from..to], marks[i])
 }
 
 // Gives up the entries that e, which has terms, implies; e's mask is given.

@@ -1,24 +1,25 @@
 -- The masks of a predicate's names: what they decide of a set, and one turn of the loops that make them. No contract cites this file.
 -- Assumes nothing.
 use mathlib.Core.Path.{_≡_, refl, sym, ap, subst, _∙_}
-use mathlib.Core.Bool.{Bool, true, false, _&&_, not}
+use mathlib.Core.Bool.{Bool, true, false, not}
 use mathlib.Core.Logic.{inl, inr, ⊎-elim}
 use mathlib.Core.List.{List, [], _∷_}
-use Prim.Native.Nat.{ℕ, _+_, _≤_, _<_}
+use Prim.Native.Nat.{ℕ, _+_, _-_, _^_, _≤_, _<_}
+use native.Mathlib.Nat.{mod-eq-of-lt}
 use native.Mathlib.Omega.{arith}
 use native.Mathlib.Decide.{ℕ-discrete}
 use borrow.Author.Tests.{eq-eqb}
-use lib.Bits.{and-zero-r, or-zero-r}
+use lib.Bits.{and-zero-r, or-zero-r, and-mask}
 use lib.Count.{ones}
 use lib.Dec.{T, T-not, not-T, eqb, eqb→eq, leb, leb→le, le→leb}
 use lib.ListN.{length, getD, drop, drop-of-length-le}
 use Rattle.names.specs.Sets.{subset, union, shared, digit}
-use Rattle.names.proofs.SetLaws.{digit-union, digit-empty, digits-ext, subset-trans, empty-subset, union-left, union-right, union-least, ones-none}
+use Rattle.names.proofs.SetLaws.{digit-union, and-subset, subset-empty, digit-empty, digits-ext, subset-trans, empty-subset, union-left, union-right, union-least, ones-none}
 use Rattle.names.proofs.PartLaws.{digit-shared, shared-left, shared-right, subset-same}
 use Rattle.predicates.specs.Lists.{In}
 use Rattle.predicates.specs.Predicates.{holds, implies, alone, singles}
-use Rattle.predicates.proofs.ListLaws.{true-T, T-true, T-false, both-l, both-r, or-l, or-r, cond-ind, all-out}
-use Rattle.predicates.proofs.LoopLaws.{drop-next}
+use Rattle.predicates.proofs.ListLaws.{true-T, T-true, T-false, or-l, or-r, cond-ind, all-out}
+use Rattle.predicates.proofs.LoopLaws.{drop-next, any-here, any-next, any-done}
 use Rattle.predicates.proofs.PredicateLaws.{holds-in, holds-out, holds-mono, implies-out}
 
 -- ---- a set that shares a name with a term of one name contains that term
@@ -83,25 +84,24 @@ one-holds t q e h n = let r = holds-out t q h in go (r .0) (r .1) (r .2) (ℕ-di
 implies-alone : (p q : List ℕ) → T (implies p q) → T (not (holds 0 q)) → T (subset (alone p) (singles q))
 unfolding alone implies
 implies-alone p q i n =
-    cond-ind (λ (x : ℕ). T (subset x (singles q))) (holds 0 p) 536870911 (singles p) (λ h. absurd (T-not (holds 0 q) n (implies-out p q i 0 h)))
+    cond-ind (λ (x : ℕ). T (subset x (singles q))) (holds 0 p) (2 ^ 32 - 1) (singles p) (λ h. absurd (T-not (holds 0 q) n (implies-out p q i 0 h)))
     (λ _. singles-least p (singles q) (λ t m e. one-holds t q e (all-out (λ u. holds u q) p i t m) n))
 
--- a and b are the masks of p and q, and r whether b contains a
-pub implies-not : (p q : List ℕ) (a b : ℕ) (r : Bool) → a ≡ alone p → b ≡ alone q → r ≡ subset a b → not (eqb b 536870911) && not r ≡ true → implies p q ≡ false
+-- a and b are the masks of p and q
+pub implies-not : (p q : List ℕ) (a b : ℕ) → a ≡ alone p → b ≡ alone q → a < 2 ^ 32 → subset a b ≡ false → implies p q ≡ false
 unfolding alone
-implies-not p q a b r f g d h =
-    let both = true-T (not (eqb b 536870911) && not r) h in
-    let other : b ≡ 536870911 → ⊥ = λ e. T-not (eqb b 536870911) (both-l (not (eqb b 536870911)) (not r) both) (true-T (eqb b 536870911) (eq-eqb b 536870911 e)) in
-    let outside = both-r (not (eqb b 536870911)) (not r) both in
+implies-not p q a b f g l h =
+    let outside : T (not (subset a b)) = subst (λ (x : Bool). T (not x)) (sym h) tt in
     T-false (implies p q) (not-T (implies p q) (λ i.
-    cond-ind (λ (x : ℕ). b ≡ x → ⊥) (holds 0 q) 536870911 (singles q) (λ _. other)
-    (λ k e. T-not r outside (rw (d, f, e) (implies-alone p q i k))) g))
+    cond-ind (λ (x : ℕ). b ≡ x → ⊥) (holds 0 q) (2 ^ 32 - 1) (singles q)
+    (λ _ e. T-not (subset a b) outside (rw e (and-subset a (2 ^ 32 - 1) (and-mask a 32 ∙ mod-eq-of-lt l))))
+    (λ k e. T-not (subset a b) outside (rw (f, e) (implies-alone p q i k))) g))
 
 pub holds-alone : (s a r : ℕ) (p : List ℕ) → a ≡ alone p → r ≡ shared s a → (r ≡ 0 → ⊥) → holds s p ≡ true
 unfolding alone
 holds-alone s a r p e d f =
     T-true (holds s p)
-    (cond-ind (λ (x : ℕ). a ≡ x → T (holds s p)) (holds 0 p) 536870911 (singles p) (λ h _. holds-mono 0 s p (empty-subset s) h)
+    (cond-ind (λ (x : ℕ). a ≡ x → T (holds s p)) (holds 0 p) (2 ^ 32 - 1) (singles p) (λ h _. holds-mono 0 s p (empty-subset s) h)
     (λ _ k. singles-holds s p (λ z. f (d ∙ ap (λ (x : ℕ). shared s x) k ∙ z))) e)
 
 -- ---- the loops
@@ -143,3 +143,19 @@ module _ (f : List ℕ → ℕ) (p : List ℕ) (i m : ℕ) where
 
   pub mask-done : f [] ≡ 0 → length p ≤ i → union m (f (drop i p)) ≡ m
   mask-done e h = rw (drop-of-length-le p {i = i} h, e) (union-empty m)
+
+-- a term that is not empty passes, an empty one decides
+pub holds-pass : (p : List ℕ) (i : ℕ) → i < length p → (getD p i 0 ≡ 0 → ⊥) → holds 0 (drop i p) ≡ holds 0 (drop (i + 1) p)
+unfolding holds
+holds-pass p i h f =
+    any-next (λ t. subset t 0) p i h (T-false (subset (getD p i 0) 0) (not-T (subset (getD p i 0) 0) (λ k. f (subset-empty (getD p i 0) k))))
+
+pub alone-all : (p : List ℕ) (i : ℕ) → holds 0 p ≡ holds 0 (drop i p) → i < length p → getD p i 0 ≡ 0 → alone p ≡ 2 ^ 32 - 1
+unfolding alone holds
+alone-all p i e h z =
+    let here : holds 0 p ≡ true = e ∙ any-here (λ t. subset t 0) p i h (rw z (T-true (subset 0 0) (empty-subset 0))) in rw here
+
+pub alone-some : (p : List ℕ) (i m : ℕ) → holds 0 p ≡ holds 0 (drop i p) → length p ≤ i → union m (singles (drop i p)) ≡ singles p → alone p ≡ m
+unfolding alone holds singles
+alone-some p i m e h k =
+    let none : holds 0 p ≡ false = e ∙ any-done (λ t. subset t 0) p i h in rw none (sym k ∙ mask-done singles p i m refl h)

@@ -1,16 +1,21 @@
 // The names that each make a predicate true alone, as one mask, and the tests that it decides at once. Nearly all pairs of predicates are told
 // apart by their masks, so they are worth making where many are held against each other.
 ghost use mathlib.Core.Path.{_≡_};
-ghost use Rattle.predicates.specs.Predicates.{holds as Predicates·holds, implies as Predicates·implies, alone as Predicates·alone, singles as Predicates·singles};
+ghost use Prim.Native.Nat.{_^_, _<_};
+ghost use Rattle.names.specs.Sets.{subset};
+ghost use Rattle.predicates.specs.Predicates.{holds as Predicates·holds, implies as Predicates·implies, alone as Predicates·alone};
 
-// The names of the terms of one name.
-fn singles(p: &[u32]) -> u32
-    ensures { λ r. ⌜ r ≡ Predicates·singles (now (p .entry)) ⌝ }
+// The names that each make p true alone; all that a mask can hold where p is true whatever has failed.
+pub fn alone(p: &[u32]) -> u32
+    ensures { λ r. ⌜ r ≡ Predicates·alone (now (p .entry)) ⌝ }
 {
     let mut names: u32 = 0;
     let mut i: usize = 0;
     while i < p.len() {
         let t = p[i];
+        if t == 0 {
+            return 4294967295;
+        }
         if names::at_most_one(t) {
             names = names::union(names, t);
         }
@@ -19,14 +24,11 @@ fn singles(p: &[u32]) -> u32
     names
 }
 
-// The names that each make p true alone; all names where p is true whatever has failed.
-pub fn alone(p: &[u32]) -> u32
-    ensures { λ r. ⌜ r ≡ Predicates·alone (now (p .entry)) ⌝ }
+// Whether a predicate may imply one whose mask is `bound`, by its own mask: it does not where that has a name more.
+pub fn may_imply(mark: u32, bound: u32) -> bool
+    ensures { λ r. ⌜ (r ≡ subset mark bound) × (mark < 2 ^ 32) ⌝ }
 {
-    if super::holds(p, 0) {
-        return 536870911;
-    }
-    singles(p)
+    names::subset(mark, bound)
 }
 
 // Whether the set s makes p true; p's mask is given.
@@ -40,14 +42,11 @@ fn holds(p: &[u32], mark: u32, s: u32) -> bool
     super::holds(p, s)
 }
 
-// Whether p implies q; the masks of both are given. Unless q is true whatever has failed, p's lies within q's.
-pub fn implies(p: &[u32], mark: u32, q: &[u32], bound: u32) -> bool
-    requires { ⌜ (mark ≡ Predicates·alone (now p)) × (bound ≡ Predicates·alone (now q)) ⌝ }
+// Whether p implies q; q's mask is given.
+pub fn implies(p: &[u32], q: &[u32], bound: u32) -> bool
+    requires { ⌜ bound ≡ Predicates·alone (now q) ⌝ }
     ensures { λ r. ⌜ r ≡ Predicates·implies (now (p .entry)) (now (q .entry)) ⌝ }
 {
-    if (bound != 536870911) & !names::subset(mark, bound) {
-        return false;
-    }
     let mut i: usize = 0;
     while i < p.len() {
         if !holds(q, bound, p[i]) {
