@@ -54,7 +54,8 @@ fn place(
     }
 }
 
-// The four steps: what the new datum teaches, what the entries explain, and what becomes of it.
+// The four steps: what the new datum teaches, what the entries explain, and what becomes of it. The entries are marked first, since many predicates
+// are held against them.
 pub fn settle(
     lefts: &[u64],
     rights: &[u64],

@@ -9,7 +9,7 @@ ghost use Rattle.predicates.specs.Predicates.{implies, alone};
 ghost use Rattle.engine.specs.Tables.{Table, Marked, row, some, entriesIn, givenUp};
 ghost use Rattle.engine.specs.Receiving.{explained as Receiving·explained, learn as Receiving·learn};
 
-// Whether row i of 16 has terms and implies p; p's mask is given.
+// Whether row i of 16 has terms and implies p; p's mark is given.
 fn row_implies(
     counts: &[u32],
     masks: &[u32],
@@ -34,7 +34,7 @@ fn row_implies(
     predicates::masks::implies(&masks[from..to], p, bound)
 }
 
-// Whether an entry of the table implies p. All of them are held against p, so its mask is made once, and for a table of no rows not at all.
+// Whether an entry of the table implies p. All of them are held against p, so its mark is made once, and for a table of no rows not at all.
 pub fn explained(counts: &[u32], masks: &[u32], marks: &[u32], n: usize, p: &[u32]) -> bool
     requires { ⌜ Table 16 n (now counts) (now masks) × Marked n (now counts) (now masks) (now marks) ⌝ }
     ensures { λ r. ⌜ r ≡ Receiving·explained (entriesIn n (now (counts .entry)) (now (masks .entry))) (now (p .entry)) ⌝ }
@@ -53,7 +53,7 @@ pub fn explained(counts: &[u32], masks: &[u32], marks: &[u32], n: usize, p: &[u3
     false
 }
 
-// Whether e, which has terms, implies the predicate in row i of 16; e's mask is given. No predicate of any terms implies one of none.
+// Whether e, which has terms, implies the predicate in row i of 16; e's mark is given. No predicate of any terms implies one of none.
 fn implies_row(e: &[u32], mark: u32, counts: &[u32], masks: &[u32], marks: &[u32], i: usize) -> bool
     requires { ⌜ (i < length (now counts)) × (i * 16 + getD (now counts) i 0 ≤ length (now masks)) × (i < length (now marks)) ⌝ }
     requires { ⌜ (mark ≡ alone (now e)) × ((getD (now counts) i 0 ≡ 0 → ⊥) → getD (now marks) i 0 ≡ alone (row 16 (now counts) (now masks) i)) × (0 < length (now e)) ⌝ }
@@ -71,7 +71,7 @@ fn implies_row(e: &[u32], mark: u32, counts: &[u32], masks: &[u32], marks: &[u32
     predicates::masks::implies(e, &masks[from..to], marks[i])
 }
 
-// Gives up the entries that e, which has terms, implies; e's mask is given.
+// Gives up the entries that e, which has terms, implies; e's mark is given.
 fn forget(counts: &mut [u32], masks: &[u32], marks: &[u32], n: usize, e: &[u32], mark: u32)
     requires { ⌜ Table 16 n (now counts) (now masks) × Marked n (now counts) (now masks) (now marks) ⌝ }
     requires { ⌜ (mark ≡ alone (now e)) × (0 < length (now e)) ⌝ }
@@ -86,7 +86,7 @@ fn forget(counts: &mut [u32], masks: &[u32], marks: &[u32], n: usize, e: &[u32],
     }
 }
 
-// Puts e, whose mask is given, last, into row n.
+// Puts e, whose mark is given, last, into row n.
 fn append(counts: &mut [u32], masks: &mut [u32], marks: &mut [u32], n: usize, e: &[u32], mark: u32)
     requires { ⌜ (n < length (now counts)) × (n * 16 + length (now e) ≤ length (now masks)) × (length (now e) ≤ 16) × (n < length (now marks)) ⌝ }
     ensures { λ _. ⌜ now (counts .exit) ≡ set (now (counts .entry)) n (length (now (e .entry))) ⌝ }

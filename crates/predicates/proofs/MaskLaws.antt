@@ -1,4 +1,4 @@
--- The masks of a predicate's names: what they decide of a set, and one turn of the loops that make them. No contract cites this file.
+-- A predicate's mark: what it decides of a set and of another predicate, and one turn of the loop that makes it. No contract cites this file.
 -- Assumes nothing.
 use mathlib.Core.Path.{_≡_, refl, sym, ap, subst, _∙_}
 use mathlib.Core.Bool.{Bool, true, false, not}
@@ -87,7 +87,7 @@ implies-alone p q i n =
     cond-ind (λ (x : ℕ). T (subset x (singles q))) (holds 0 p) (2 ^ 32 - 1) (singles p) (λ h. absurd (T-not (holds 0 q) n (implies-out p q i 0 h)))
     (λ _. singles-least p (singles q) (λ t m e. one-holds t q e (all-out (λ u. holds u q) p i t m) n))
 
--- a and b are the masks of p and q
+-- a and b are the marks of p and q
 pub implies-not : (p q : List ℕ) (a b : ℕ) → a ≡ alone p → b ≡ alone q → a < 2 ^ 32 → subset a b ≡ false → implies p q ≡ false
 unfolding alone
 implies-not p q a b f g l h =
@@ -104,7 +104,7 @@ holds-alone s a r p e d f =
     (cond-ind (λ (x : ℕ). a ≡ x → T (holds s p)) (holds 0 p) (2 ^ 32 - 1) (singles p) (λ h _. holds-mono 0 s p (empty-subset s) h)
     (λ _ k. singles-holds s p (λ z. f (d ∙ ap (λ (x : ℕ). shared s x) k ∙ z))) e)
 
--- ---- the loops
+-- ---- the loop
 
 union-assoc : (a b c : ℕ) → union (union a b) c ≡ union a (union b c)
 union-assoc a b c =
@@ -116,7 +116,7 @@ unfolding union
 union-empty m = or-zero-r m
 
 -- the empty term adds no name
-pub singles-few : (t : ℕ) (p : List ℕ) → leb (ones t) 1 ≡ true → singles (t ∷ p) ≡ union t (singles p)
+singles-few : (t : ℕ) (p : List ℕ) → leb (ones t) 1 ≡ true → singles (t ∷ p) ≡ union t (singles p)
 unfolding singles union
 singles-few t p h =
     cond-ind (λ (x : ℕ). x ≡ union t (singles p)) (eqb (ones t) 1) (union t (singles p)) (singles p) (λ _. refl) (λ n. empty n)
@@ -127,22 +127,19 @@ singles-few t p h =
         let none : t ≡ 0 = ones-none t (omega (arith, other, leb→le (ones t) 1 (true-T (leb (ones t) 1) h))) in
         rw none
 
-pub singles-many : (t : ℕ) (p : List ℕ) → leb (ones t) 1 ≡ false → singles (t ∷ p) ≡ singles p
+singles-many : (t : ℕ) (p : List ℕ) → leb (ones t) 1 ≡ false → singles (t ∷ p) ≡ singles p
 unfolding singles
 singles-many t p h =
     cond-ind (λ (x : ℕ). x ≡ singles p) (eqb (ones t) 1) (union t (singles p)) (singles p)
     (λ e. absurd (T-not (leb (ones t) 1) (subst (λ (b : Bool). T (not b)) (sym h) tt) (le→leb (ones t) 1 (omega (arith, eqb→eq (ones t) 1 e))))) (λ _. refl)
 
 -- m are the names of the terms before i; the names of the term at i are taken, or not
-module _ (f : List ℕ → ℕ) (p : List ℕ) (i m : ℕ) where
-  pub mask-take : i < length p → ((q : List ℕ) → f (getD p i 0 ∷ q) ≡ union (getD p i 0) (f q)) → union (union m (getD p i 0)) (f (drop (i + 1) p)) ≡ union m (f (drop i p))
-  mask-take h e = rw (drop-next p i h, e (drop (i + 1) p)) (union-assoc m (getD p i 0) (f (drop (i + 1) p)))
+module _ (p : List ℕ) (i m : ℕ) where
+  pub singles-take : i < length p → leb (ones (getD p i 0)) 1 ≡ true → union (union m (getD p i 0)) (singles (drop (i + 1) p)) ≡ union m (singles (drop i p))
+  singles-take h e = rw (drop-next p i h, singles-few (getD p i 0) (drop (i + 1) p) e) (union-assoc m (getD p i 0) (singles (drop (i + 1) p)))
 
-  pub mask-pass : i < length p → ((q : List ℕ) → f (getD p i 0 ∷ q) ≡ f q) → union m (f (drop (i + 1) p)) ≡ union m (f (drop i p))
-  mask-pass h e = rw (drop-next p i h, e (drop (i + 1) p))
-
-  pub mask-done : f [] ≡ 0 → length p ≤ i → union m (f (drop i p)) ≡ m
-  mask-done e h = rw (drop-of-length-le p {i = i} h, e) (union-empty m)
+  pub singles-pass : i < length p → leb (ones (getD p i 0)) 1 ≡ false → union m (singles (drop (i + 1) p)) ≡ union m (singles (drop i p))
+  singles-pass h e = rw (drop-next p i h, singles-many (getD p i 0) (drop (i + 1) p) e)
 
 -- a term that is not empty passes, an empty one decides
 pub holds-pass : (p : List ℕ) (i : ℕ) → i < length p → (getD p i 0 ≡ 0 → ⊥) → holds 0 (drop i p) ≡ holds 0 (drop (i + 1) p)
@@ -158,4 +155,4 @@ alone-all p i e h z =
 pub alone-some : (p : List ℕ) (i m : ℕ) → holds 0 p ≡ holds 0 (drop i p) → length p ≤ i → union m (singles (drop i p)) ≡ singles p → alone p ≡ m
 unfolding alone holds singles
 alone-some p i m e h k =
-    let none : holds 0 p ≡ false = e ∙ any-done (λ t. subset t 0) p i h in rw none (sym k ∙ mask-done singles p i m refl h)
+    let none : holds 0 p ≡ false = e ∙ any-done (λ t. subset t 0) p i h in rw none (sym k ∙ rw (drop-of-length-le p {i = i} h) (union-empty m))

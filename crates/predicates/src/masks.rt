@@ -1,11 +1,11 @@
-// The names that each make a predicate true alone, as one mask, and the tests that it decides at once. Nearly all pairs of predicates are told
-// apart by their masks, so they are worth making where many are held against each other.
+// A predicate's mark: the names that each make it true alone, as one mask. Marks tell nearly all pairs of predicates apart at once, so they are
+// worth making where many are held against each other.
 ghost use mathlib.Core.Path.{_≡_};
 ghost use Prim.Native.Nat.{_^_, _<_};
 ghost use Rattle.names.specs.Sets.{subset};
 ghost use Rattle.predicates.specs.Predicates.{holds as Predicates·holds, implies as Predicates·implies, alone as Predicates·alone};
 
-// The names that each make p true alone; all that a mask can hold where p is true whatever has failed.
+// The mark of p: the names that each make it true alone, or all that a mask can hold where it is true whatever has failed.
 pub fn alone(p: &[u32]) -> u32
     ensures { λ r. ⌜ r ≡ Predicates·alone (now (p .entry)) ⌝ }
 {
@@ -24,14 +24,15 @@ pub fn alone(p: &[u32]) -> u32
     names
 }
 
-// Whether a predicate may imply one whose mask is `bound`, by its own mask: it does not where that has a name more.
+// Whether a predicate may imply one whose mark is `bound`, by its own mark: it does not where that has a name more. One that is always true is
+// implied by all, and every mark lies within its own.
 pub fn may_imply(mark: u32, bound: u32) -> bool
     ensures { λ r. ⌜ (r ≡ subset mark bound) × (mark < 2 ^ 32) ⌝ }
 {
     names::subset(mark, bound)
 }
 
-// Whether the set s makes p true; p's mask is given.
+// Whether the set s makes p true; p's mark is given.
 fn holds(p: &[u32], mark: u32, s: u32) -> bool
     requires { ⌜ mark ≡ Predicates·alone (now p) ⌝ }
     ensures { λ r. ⌜ r ≡ Predicates·holds s (now (p .entry)) ⌝ }
@@ -42,7 +43,7 @@ fn holds(p: &[u32], mark: u32, s: u32) -> bool
     super::holds(p, s)
 }
 
-// Whether p implies q; q's mask is given.
+// Whether p implies q; q's mark is given.
 pub fn implies(p: &[u32], q: &[u32], bound: u32) -> bool
     requires { ⌜ bound ≡ Predicates·alone (now q) ⌝ }
     ensures { λ r. ⌜ r ≡ Predicates·implies (now (p .entry)) (now (q .entry)) ⌝ }

@@ -7,7 +7,7 @@ use mathlib.Core.Logic.{⊎-elim}
 use lib.ListN.{length, drop}
 use Rattle.names.specs.Sets.{union}
 use Rattle.predicates.specs.Predicates.{holds, singles}
-use Rattle.predicates.proofs.MaskLaws.{singles-few, singles-many, mask-take, mask-pass, holds-pass, alone-all, alone-some}
+use Rattle.predicates.proofs.MaskLaws.{singles-take, singles-pass, holds-pass, alone-all, alone-some}
 use borrow.Author.Needs.{needs}
 use Rattle.predicates.proofs.masks.alone.Statement.{statement}
 use Rattle.predicates.proofs.masks.alone.Tie as tie
@@ -36,8 +36,8 @@ loop-again c =
     let near = at-test .loop-test .taken in
     let rest = head .inv .1 ∙ holds-pass _ (head .i) near (at-if1 .if1 .left) in
     ⊎-elim
-    (λ w. (rw (w .2 ∙ w .1 .ensures) (mask-take singles _ (head .i) (head .names) near (λ q. singles-few _ q (test ∙ w .0 .taken)) ∙ head .inv .0), rest))
-    (λ w. (rw (w .1) (mask-pass singles _ (head .i) (head .names) near (λ q. singles-many _ q (test ∙ w .0 .left)) ∙ head .inv .0), rest))
+    (λ w. (rw (w .2 ∙ w .1 .ensures) (singles-take _ (head .i) (head .names) near (test ∙ w .0 .taken) ∙ head .inv .0), rest))
+    (λ w. (rw (w .1) (singles-pass _ (head .i) (head .names) near (test ∙ w .0 .left) ∙ head .inv .0), rest))
     (c .if2 .came)
 
 returns-2 : tie.Need-returns-2 Inv-loop μ-loop

@@ -1,4 +1,4 @@
--- `predicates::masks::holds` meets its contract: a name that is shared with the mask decides (`holds-alone`); else the terms are tried.
+-- `predicates::masks::holds` meets its contract: a name that is shared with the mark decides (`holds-alone`); else the terms are tried.
 use mathlib.Core.Path.{sym}
 use Rattle.predicates.proofs.MaskLaws.{holds-alone}
 use borrow.Author.Needs.{needs}
