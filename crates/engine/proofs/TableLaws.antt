@@ -15,7 +15,7 @@ use Rattle.names.specs.Sets.{subset}
 use Rattle.numbers.specs.Numbers.{tab}
 use Rattle.numbers.proofs.NumberLaws.{length-tab, getD-tab}
 use Rattle.predicates.specs.Lists.{any, keep, In}
-use Rattle.predicates.specs.Predicates.{holds, implies, alone}
+use Rattle.predicates.specs.Predicates.{holds, implies, markOf}
 use Rattle.predicates.proofs.ListLaws.{in-l, in-r, in-cases}
 use Rattle.predicates.proofs.MaskLaws.{implies-not}
 use Rattle.engine.specs.Receiving.{explained, learn}
@@ -251,7 +251,7 @@ row-some w i counts masks f h =
     nonempty (x ∷ l) h = refl
 
 -- a is the mark of row i, where it is still there
-module _ (i : ℕ) (counts masks p : List ℕ) (a b : ℕ) (f : (getD counts i 0 ≡ 0 → ⊥) → a ≡ alone (row 16 counts masks i)) (g : b ≡ alone p) where
+module _ (i : ℕ) (counts masks p : List ℕ) (a b : ℕ) (f : (getD counts i 0 ≡ 0 → ⊥) → a ≡ markOf (row 16 counts masks i)) (g : b ≡ markOf p) where
   pub row-apart : a < 2 ^ 32 → subset a b ≡ false → some (row 16 counts masks i) && implies (row 16 counts masks i) p ≡ false
   row-apart l h = go (ℕ-discrete (getD counts i 0) 0)
     where
@@ -327,13 +327,13 @@ pub marked-none : (counts masks marks : List ℕ) → Marked 0 counts masks mark
 marked-none counts masks marks = record { reach = omega arith; mark = λ i h. absurd (omega arith) }
 
 -- the next row has its mark
-pub marked-next : (i v : ℕ) (counts masks marks : List ℕ) → v ≡ alone (row 16 counts masks i) → i < length marks → Marked i counts masks marks
+pub marked-next : (i v : ℕ) (counts masks marks : List ℕ) → v ≡ markOf (row 16 counts masks i) → i < length marks → Marked i counts masks marks
     → Marked (i + 1) counts masks (set marks i v)
 marked-next i v counts masks marks e h k = record { reach = omega (arith, length-set marks i v); mark = λ j l f. at j l f (ℕ-discrete j i) }
   where
-    at : (j : ℕ) → j < i + 1 → (getD counts j 0 ≡ 0 → ⊥) → Dec (j ≡ i) → getD (set marks i v) j 0 ≡ alone (row 16 counts masks j)
+    at : (j : ℕ) → j < i + 1 → (getD counts j 0 ≡ 0 → ⊥) → Dec (j ≡ i) → getD (set marks i v) j 0 ≡ markOf (row 16 counts masks j)
     at j l f (yes p) =
-        subst (λ (x : ℕ). getD (set marks i v) x 0 ≡ alone (row 16 counts masks x)) (sym p) (getD-set-same marks i v 0 h ∙ e)
+        subst (λ (x : ℕ). getD (set marks i v) x 0 ≡ markOf (row 16 counts masks x)) (sym p) (getD-set-same marks i v 0 h ∙ e)
     at j l f (no p) = getD-set-other marks i j v 0 p ∙ k .mark j (omega arith) f
 
 -- a row that is still there has kept its mark
@@ -341,9 +341,9 @@ marked-given-up : (n : ℕ) (test : ℕ → Bool) (counts masks marks : List ℕ
 marked-given-up n test counts masks marks k = record { reach = k .reach; mark = λ i h. go i h (test i) (given-up-count test counts n i h) }
   where
     go : (i : ℕ) → i < n → (b : Bool) → getD (givenUp n test counts) i 0 ≡ cond b 0 (getD counts i 0) → (getD (givenUp n test counts) i 0 ≡ 0 → ⊥)
-        → getD marks i 0 ≡ alone (row 16 (givenUp n test counts) masks i)
+        → getD marks i 0 ≡ markOf (row 16 (givenUp n test counts) masks i)
     go i h true e f = absurd (f e)
-    go i h false e f = k .mark i h (λ z. f (e ∙ z)) ∙ ap alone (sym (row-count 16 i counts (givenUp n test counts) masks e))
+    go i h false e f = k .mark i h (λ z. f (e ∙ z)) ∙ ap markOf (sym (row-count 16 i counts (givenUp n test counts) masks e))
 
 -- an entry is learnt: those that it implies are given up, and it is put last
 module _ (n : ℕ) (counts masks e : List ℕ) (t : Table 16 (n + 1) counts masks) (few : length e ≤ 16) (a b m : List ℕ)
@@ -354,7 +354,7 @@ module _ (n : ℕ) (counts masks e : List ℕ) (t : Table 16 (n + 1) counts mask
   pub learn-table : Table 16 (n + 1) b m
   learn-table = rw (q, r) (table-appended 16 n a masks e gone few)
 
-  pub learn-marked : (marks k : List ℕ) (mark : ℕ) → Marked n counts masks marks → n < length marks → mark ≡ alone e → k ≡ set marks n mark → Marked (n + 1) b m k
+  pub learn-marked : (marks k : List ℕ) (mark : ℕ) → Marked n counts masks marks → n < length marks → mark ≡ markOf e → k ≡ set marks n mark → Marked (n + 1) b m k
   learn-marked marks k mark g h d f =
       let near : n < length a = omega (arith, gone .counted) in
       let room : n * 16 + length e ≤ length masks = omega (arith, gone .long, suc-mul n 16) in
@@ -364,9 +364,9 @@ module _ (n : ℕ) (counts masks e : List ℕ) (t : Table 16 (n + 1) counts mask
       record {
         reach = kept .reach;
         mark = λ i l c. kept .mark i l (λ z. c (getD-set-other a n i (length e) 0 (λ x. omega arith) ∙ z))
-            ∙ ap alone (sym (rows-before 16 n a masks e less near room i l));
+            ∙ ap markOf (sym (rows-before 16 n a masks e less near room i l));
       } in
-      rw (q, r, f) (marked-next n mark (set a n (length e)) (sets masks (n * 16) e) marks (d ∙ ap alone (sym (row-last 16 n a masks e less near room))) h put)
+      rw (q, r, f) (marked-next n mark (set a n (length e)) (sets masks (n * 16) e) marks (d ∙ ap markOf (sym (row-last 16 n a masks e less near room))) h put)
 
   pub learn-rows : 0 < length e → explained (entriesIn n counts masks) e ≡ false → entriesIn (n + 1) b m ≡ learn e (entriesIn n counts masks)
   unfolding learn entriesIn some

@@ -8,7 +8,7 @@ use mathlib.Core.List.{List, [], _∷_, _++_}
 use lib.ListN.{length, getD, take, drop}
 use Rattle.numbers.specs.Numbers.{tab}
 use Rattle.predicates.specs.Lists.{keep}
-use Rattle.predicates.specs.Predicates.{alone}
+use Rattle.predicates.specs.Predicates.{markOf}
 use Rattle.state.specs.Model.{Datum, Store}
 
 -- the arrays have n rows of the width
@@ -23,7 +23,7 @@ row width counts masks i = take (getD counts i 0) (drop (i * width) masks)
 -- each of the first n rows of 16 that has not been given up has its mark: the names that make it true alone
 pub record Marked (n : ℕ) (counts masks marks : List ℕ) : Type 0 where
   pub reach : n ≤ length marks
-  pub mark : (i : ℕ) → i < n → (getD counts i 0 ≡ 0 → ⊥) → getD marks i 0 ≡ alone (row 16 counts masks i)
+  pub mark : (i : ℕ) → i < n → (getD counts i 0 ≡ 0 → ⊥) → getD marks i 0 ≡ markOf (row 16 counts masks i)
 
 -- the predicate has terms
 unfoldable pub some : List ℕ → Bool

@@ -5,7 +5,7 @@ ghost use mathlib.Core.Bool.{_&&_};
 ghost use Prim.Native.Nat.{_+_, _*_, _≤_, _<_};
 ghost use lib.ListN.{length, getD, set};
 ghost use lib.Seq.{sets};
-ghost use Rattle.predicates.specs.Predicates.{implies, alone};
+ghost use Rattle.predicates.specs.Predicates.{implies, markOf};
 ghost use Rattle.engine.specs.Tables.{Table, Marked, row, some, entriesIn, givenUp};
 ghost use Rattle.engine.specs.Receiving.{explained as Receiving·explained, learn as Receiving·learn};
 
@@ -19,7 +19,7 @@ fn row_implies(
     bound: u32,
 ) -> bool
     requires { ⌜ (i < length (now counts)) × (i * 16 + getD (now counts) i 0 ≤ length (now masks)) × (i < length (now marks)) ⌝ }
-    requires { ⌜ (bound ≡ alone (now p)) × ((getD (now counts) i 0 ≡ 0 → ⊥) → getD (now marks) i 0 ≡ alone (row 16 (now counts) (now masks) i)) ⌝ }
+    requires { ⌜ (bound ≡ markOf (now p)) × ((getD (now counts) i 0 ≡ 0 → ⊥) → getD (now marks) i 0 ≡ markOf (row 16 (now counts) (now masks) i)) ⌝ }
     ensures { λ r. ⌜ r ≡ some (row 16 (now (counts .entry)) (now (masks .entry)) i) && implies (row 16 (now (counts .entry)) (now (masks .entry)) i) (now (p .entry)) ⌝ }
 {
     if !predicates::masks::may_imply(marks[i], bound) {
@@ -42,7 +42,7 @@ pub fn explained(counts: &[u32], masks: &[u32], marks: &[u32], n: usize, p: &[u3
     if n == 0 {
         return false;
     }
-    let bound = predicates::masks::alone(p);
+    let bound = predicates::masks::mark_of(p);
     let mut i: usize = 0;
     while i < n {
         if row_implies(counts, masks, marks, i, p, bound) {
@@ -56,7 +56,7 @@ pub fn explained(counts: &[u32], masks: &[u32], marks: &[u32], n: usize, p: &[u3
 // Whether e, which has terms, implies the predicate in row i of 16; e's mark is given. No predicate of any terms implies one of none.
 fn implies_row(e: &[u32], mark: u32, counts: &[u32], masks: &[u32], marks: &[u32], i: usize) -> bool
     requires { ⌜ (i < length (now counts)) × (i * 16 + getD (now counts) i 0 ≤ length (now masks)) × (i < length (now marks)) ⌝ }
-    requires { ⌜ (mark ≡ alone (now e)) × ((getD (now counts) i 0 ≡ 0 → ⊥) → getD (now marks) i 0 ≡ alone (row 16 (now counts) (now masks) i)) × (0 < length (now e)) ⌝ }
+    requires { ⌜ (mark ≡ markOf (now e)) × ((getD (now counts) i 0 ≡ 0 → ⊥) → getD (now marks) i 0 ≡ markOf (row 16 (now counts) (now masks) i)) × (0 < length (now e)) ⌝ }
     ensures { λ r. ⌜ r ≡ implies (now (e .entry)) (row 16 (now (counts .entry)) (now (masks .entry)) i) ⌝ }
 {
     if !predicates::masks::may_imply(mark, marks[i]) {
@@ -74,7 +74,7 @@ fn implies_row(e: &[u32], mark: u32, counts: &[u32], masks: &[u32], marks: &[u32
 // Gives up the entries that e, which has terms, implies; e's mark is given.
 fn forget(counts: &mut [u32], masks: &[u32], marks: &[u32], n: usize, e: &[u32], mark: u32)
     requires { ⌜ Table 16 n (now counts) (now masks) × Marked n (now counts) (now masks) (now marks) ⌝ }
-    requires { ⌜ (mark ≡ alone (now e)) × (0 < length (now e)) ⌝ }
+    requires { ⌜ (mark ≡ markOf (now e)) × (0 < length (now e)) ⌝ }
     ensures { λ _. ⌜ now (counts .exit) ≡ givenUp n (λ i. implies (now (e .entry)) (row 16 (now (counts .entry)) (now (masks .entry)) i)) (now (counts .entry)) ⌝ }
 {
     let mut i: usize = 0;
@@ -114,20 +114,20 @@ pub fn learn(counts: &mut [u32], masks: &mut [u32], marks: &mut [u32], n: usize,
     if explained(counts, masks, marks, n, e) {
         return n;
     }
-    let mark = predicates::masks::alone(e);
+    let mark = predicates::masks::mark_of(e);
     forget(counts, masks, marks, n, e, mark);
     append(counts, masks, marks, n, e, mark);
     n + 1
 }
 
 // The mark of row i of 16.
-fn mark_of(counts: &[u32], masks: &[u32], i: usize) -> u32
+fn row_mark(counts: &[u32], masks: &[u32], i: usize) -> u32
     requires { ⌜ (i < length (now counts)) × (i * 16 + getD (now counts) i 0 ≤ length (now masks)) ⌝ }
-    ensures { λ r. ⌜ r ≡ alone (row 16 (now (counts .entry)) (now (masks .entry)) i) ⌝ }
+    ensures { λ r. ⌜ r ≡ markOf (row 16 (now (counts .entry)) (now (masks .entry)) i) ⌝ }
 {
     let from = i * 16;
     let to = from + counts[i] as usize;
-    predicates::masks::alone(&masks[from..to])
+    predicates::masks::mark_of(&masks[from..to])
 }
 
 // Makes the marks of the first n rows.
@@ -138,7 +138,7 @@ pub fn mark_rows(counts: &[u32], masks: &[u32], n: usize, marks: &mut [u32])
 {
     let mut i: usize = 0;
     while i < n {
-        marks[i] = mark_of(counts, masks, i);
+        marks[i] = row_mark(counts, masks, i);
         i += 1;
     }
 }

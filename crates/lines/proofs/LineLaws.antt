@@ -1,6 +1,6 @@
 -- Laws of `specs.Lines`: a turn of each loop that reads a line, on plain values. `-here` is a loop's early exit, `-next` a turn, `-done` its end.
 -- The idea: each loop answers for the elements from its place on, so a turn takes one element off. No contract cites this file. Assumes nothing.
-use Prim.Native.Nat.{ℕ, zero, suc, _+_, _*_, _-_, _^_, _≤_, _<_}
+use Prim.Native.Nat.{ℕ, suc, _+_, _*_, _-_, _^_, _≤_, _<_}
 use mathlib.Core.Path.{_≡_, refl, sym, ap, _∙_}
 use mathlib.Core.Bool.{Bool, true, false, not, _&&_, cond, and-false}
 use mathlib.Core.Logic.{⊎-elim}
@@ -8,12 +8,12 @@ use mathlib.Core.List.{List, [], _∷_, map}
 use native.Mathlib.Nat.{le-refl}
 use native.Mathlib.Numerals.{add-one}
 use native.Mathlib.Omega.{arith}
-use borrow.Author.Tests.{lt-ltb, le-ltb, le-leb, lt-leb, eq-eqb, ne-eqb, eqb-true, eqb-false, leb-true, ltb-true, ltb-false}
+use borrow.Author.Tests.{lt-ltb, le-ltb, eq-eqb, ne-eqb, eqb-true, eqb-false, leb-true, ltb-true, ltb-false}
 use lib.Dec.{T, ltb, leb, eqb}
 use lib.ListN.{length, getD, take, drop, set, drop-of-length-le, length-take, length-drop}
 use lib.Seq.{drop-drop, take-all}
 use Rattle.predicates.specs.Lists.{all}
-use Rattle.predicates.proofs.ListLaws.{true-T, T-true, T-false, both-l, both-r, cond-ind, split}
+use Rattle.predicates.proofs.ListLaws.{true-T, T-true, T-false, both-l, cond-ind, split}
 use Rattle.predicates.proofs.LoopLaws.{drop-next}
 use Rattle.numbers.specs.Numbers.{put, bytesOf}
 use Rattle.numbers.proofs.NumberLaws.{length-bytesOf, take-put}

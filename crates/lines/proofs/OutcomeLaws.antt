@@ -1,15 +1,13 @@
 -- No line that the listing prints is longer than 64 bytes: the law by which a caller of `lines::answer` knows that its output has room.
 -- The idea: each outcome is a choice between texts that are short. No contract cites this file. Assumes nothing.
 use Prim.Native.Nat.{ℕ, _≤_}
-use mathlib.Core.Bool.{Bool, _&&_, cond}
+use mathlib.Core.Bool.{Bool, _&&_}
 use mathlib.Core.List.{List, [], _∷_, map}
 use native.Mathlib.Omega.{arith}
 use lib.Dec.{ltb, leb, eqb}
 use lib.ListN.{length, getD, drop}
 use Rattle.predicates.specs.Lists.{all}
 use Rattle.predicates.proofs.ListLaws.{cond-ind}
-use Rattle.monitor.specs.Runs.{answerIn, fewestIn}
-use Rattle.lines.specs.Text.{numberText}
 use Rattle.lines.specs.Lines.{isWord, isNumber, value, fields, sameBytes, setWord, ageWord, getWord, askWord, fewestWord}
 use Rattle.lines.specs.Lines.{Outcome, badLine, setLine, ageLine, getLine, answeredText, askText, askLine, fewestAnswer, fewestLine}
 use Rattle.lines.specs.Lines.{laterLine, wordLine, fieldsLine, lineOutcome}

@@ -1,7 +1,7 @@
 -- Laws of `specs.Text`: copying a text, the digits of a number, and the answer lines put together from their parts.
 -- The idea: `digits` goes by the number of places, and a line is one store behind the other. No contract cites this file. Assumes nothing.
-use Prim.Native.Nat.{ℕ, zero, suc, _+_, _*_, _-_, _/_, _%_, _^_, _≤_, _<_}
-use mathlib.Core.Path.{_≡_, refl, sym, ap, _∙_}
+use Prim.Native.Nat.{ℕ, zero, suc, _+_, _-_, _/_, _%_, _^_, _≤_, _<_}
+use mathlib.Core.Path.{_≡_, refl}
 use mathlib.Core.List.{List, [], _∷_, _++_}
 use native.Mathlib.Nat.{pow-suc, div-lt-iff-lt-mul}
 use native.Mathlib.Numerals.{add-one}
@@ -11,7 +11,7 @@ use lib.Dec.{lit<, ltb, eqb}
 use lib.ListN.{length, getD, drop, set, length-append}
 use lib.Seq.{drop-cons}
 use Rattle.numbers.specs.Numbers.{put}
-use Rattle.numbers.proofs.NumberLaws.{put-append, put-then}
+use Rattle.numbers.proofs.NumberLaws.{put-then}
 use Rattle.predicates.proofs.ListLaws.{cond-ind}
 use Rattle.asking.specs.declared.Answer.{Answer}
 use Rattle.asking.specs.declared.Answer.the-variants.{Contradicted, Open, Between}

@@ -1,6 +1,6 @@
 -- A line of the listing (document 01, "A listing, complete"): its fields, and what it leaves and prints. A line is its bytes without the line feed.
 -- Assumes nothing: these are definitions.
-use Prim.Native.Nat.{ℕ, zero, suc, _+_, _*_, _-_, _^_}
+use Prim.Native.Nat.{ℕ, suc, _+_, _*_, _-_, _^_}
 use mathlib.Core.Bool.{Bool, true, false, _&&_, _||_, cond}
 use mathlib.Core.List.{List, [], _∷_, map}
 use lib.Dec.{ltb, leb, eqb}

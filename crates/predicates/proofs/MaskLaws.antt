@@ -14,10 +14,10 @@ use lib.Count.{ones}
 use lib.Dec.{T, T-not, not-T, eqb, eqb→eq, leb, leb→le, le→leb}
 use lib.ListN.{length, getD, drop, drop-of-length-le}
 use Rattle.names.specs.Sets.{subset, union, shared, digit}
-use Rattle.names.proofs.SetLaws.{digit-union, and-subset, subset-empty, digit-empty, digits-ext, subset-trans, empty-subset, union-left, union-right, union-least, ones-none}
+use Rattle.names.proofs.SetLaws.{digit-union, and-subset, subset-empty, digit-empty, digits-ext, subset-trans, empty-subset, union-left, union-right, union-least, ones-none, union-assoc}
 use Rattle.names.proofs.PartLaws.{digit-shared, shared-left, shared-right, subset-same}
 use Rattle.predicates.specs.Lists.{In}
-use Rattle.predicates.specs.Predicates.{holds, implies, alone, singles}
+use Rattle.predicates.specs.Predicates.{holds, implies, markOf, singles}
 use Rattle.predicates.proofs.ListLaws.{true-T, T-true, T-false, or-l, or-r, cond-ind, all-out}
 use Rattle.predicates.proofs.LoopLaws.{drop-next, any-here, any-next, any-done}
 use Rattle.predicates.proofs.PredicateLaws.{holds-in, holds-out, holds-mono, implies-out}
@@ -81,35 +81,30 @@ one-holds t q e h n = let r = holds-out t q h in go (r .0) (r .1) (r .2) (ℕ-di
 
 -- ---- what the names that decide alone tell: p implies no q that has fewer of them, unless q is true whatever has failed
 
-implies-alone : (p q : List ℕ) → T (implies p q) → T (not (holds 0 q)) → T (subset (alone p) (singles q))
-unfolding alone implies
-implies-alone p q i n =
+implies-mark : (p q : List ℕ) → T (implies p q) → T (not (holds 0 q)) → T (subset (markOf p) (singles q))
+unfolding markOf implies
+implies-mark p q i n =
     cond-ind (λ (x : ℕ). T (subset x (singles q))) (holds 0 p) (2 ^ 32 - 1) (singles p) (λ h. absurd (T-not (holds 0 q) n (implies-out p q i 0 h)))
     (λ _. singles-least p (singles q) (λ t m e. one-holds t q e (all-out (λ u. holds u q) p i t m) n))
 
 -- a and b are the marks of p and q
-pub implies-not : (p q : List ℕ) (a b : ℕ) → a ≡ alone p → b ≡ alone q → a < 2 ^ 32 → subset a b ≡ false → implies p q ≡ false
-unfolding alone
+pub implies-not : (p q : List ℕ) (a b : ℕ) → a ≡ markOf p → b ≡ markOf q → a < 2 ^ 32 → subset a b ≡ false → implies p q ≡ false
+unfolding markOf
 implies-not p q a b f g l h =
     let outside : T (not (subset a b)) = subst (λ (x : Bool). T (not x)) (sym h) tt in
     T-false (implies p q) (not-T (implies p q) (λ i.
     cond-ind (λ (x : ℕ). b ≡ x → ⊥) (holds 0 q) (2 ^ 32 - 1) (singles q)
     (λ _ e. T-not (subset a b) outside (rw e (and-subset a (2 ^ 32 - 1) (and-mask a 32 ∙ mod-eq-of-lt l))))
-    (λ k e. T-not (subset a b) outside (rw (f, e) (implies-alone p q i k))) g))
+    (λ k e. T-not (subset a b) outside (rw (f, e) (implies-mark p q i k))) g))
 
-pub holds-alone : (s a r : ℕ) (p : List ℕ) → a ≡ alone p → r ≡ shared s a → (r ≡ 0 → ⊥) → holds s p ≡ true
-unfolding alone
-holds-alone s a r p e d f =
+pub holds-mark : (s a r : ℕ) (p : List ℕ) → a ≡ markOf p → r ≡ shared s a → (r ≡ 0 → ⊥) → holds s p ≡ true
+unfolding markOf
+holds-mark s a r p e d f =
     T-true (holds s p)
     (cond-ind (λ (x : ℕ). a ≡ x → T (holds s p)) (holds 0 p) (2 ^ 32 - 1) (singles p) (λ h _. holds-mono 0 s p (empty-subset s) h)
     (λ _ k. singles-holds s p (λ z. f (d ∙ ap (λ (x : ℕ). shared s x) k ∙ z))) e)
 
 -- ---- the loop
-
-union-assoc : (a b c : ℕ) → union (union a b) c ≡ union a (union b c)
-union-assoc a b c =
-    digits-ext (union (union a b) c) (union a (union b c)) (λ n.
-    omega (arith, digit-union (union a b) c n, digit-union a b n, digit-union a (union b c) n, digit-union b c n))
 
 union-empty : (m : ℕ) → union m 0 ≡ m
 unfolding union
@@ -147,12 +142,12 @@ unfolding holds
 holds-pass p i h f =
     any-next (λ t. subset t 0) p i h (T-false (subset (getD p i 0) 0) (not-T (subset (getD p i 0) 0) (λ k. f (subset-empty (getD p i 0) k))))
 
-pub alone-all : (p : List ℕ) (i : ℕ) → holds 0 p ≡ holds 0 (drop i p) → i < length p → getD p i 0 ≡ 0 → alone p ≡ 2 ^ 32 - 1
-unfolding alone holds
-alone-all p i e h z =
+pub mark-all : (p : List ℕ) (i : ℕ) → holds 0 p ≡ holds 0 (drop i p) → i < length p → getD p i 0 ≡ 0 → markOf p ≡ 2 ^ 32 - 1
+unfolding markOf holds
+mark-all p i e h z =
     let here : holds 0 p ≡ true = e ∙ any-here (λ t. subset t 0) p i h (rw z (T-true (subset 0 0) (empty-subset 0))) in rw here
 
-pub alone-some : (p : List ℕ) (i m : ℕ) → holds 0 p ≡ holds 0 (drop i p) → length p ≤ i → union m (singles (drop i p)) ≡ singles p → alone p ≡ m
-unfolding alone holds singles
-alone-some p i m e h k =
+pub mark-some : (p : List ℕ) (i m : ℕ) → holds 0 p ≡ holds 0 (drop i p) → length p ≤ i → union m (singles (drop i p)) ≡ singles p → markOf p ≡ m
+unfolding markOf holds singles
+mark-some p i m e h k =
     let none : holds 0 p ≡ false = e ∙ any-done (λ t. subset t 0) p i h in rw none (sym k ∙ rw (drop-of-length-le p {i = i} h) (union-empty m))

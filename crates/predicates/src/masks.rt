@@ -3,11 +3,11 @@
 ghost use mathlib.Core.Path.{_≡_};
 ghost use Prim.Native.Nat.{_^_, _<_};
 ghost use Rattle.names.specs.Sets.{subset};
-ghost use Rattle.predicates.specs.Predicates.{holds as Predicates·holds, implies as Predicates·implies, alone as Predicates·alone};
+ghost use Rattle.predicates.specs.Predicates.{holds as Predicates·holds, implies as Predicates·implies, markOf as Predicates·markOf};
 
 // The mark of p: the names that each make it true alone, or all that a mask can hold where it is true whatever has failed.
-pub fn alone(p: &[u32]) -> u32
-    ensures { λ r. ⌜ r ≡ Predicates·alone (now (p .entry)) ⌝ }
+pub fn mark_of(p: &[u32]) -> u32
+    ensures { λ r. ⌜ r ≡ Predicates·markOf (now (p .entry)) ⌝ }
 {
     let mut names: u32 = 0;
     let mut i: usize = 0;
@@ -34,7 +34,7 @@ pub fn may_imply(mark: u32, bound: u32) -> bool
 
 // Whether the set s makes p true; p's mark is given.
 fn holds(p: &[u32], mark: u32, s: u32) -> bool
-    requires { ⌜ mark ≡ Predicates·alone (now p) ⌝ }
+    requires { ⌜ mark ≡ Predicates·markOf (now p) ⌝ }
     ensures { λ r. ⌜ r ≡ Predicates·holds s (now (p .entry)) ⌝ }
 {
     if names::shared(s, mark) != 0 {
@@ -45,7 +45,7 @@ fn holds(p: &[u32], mark: u32, s: u32) -> bool
 
 // Whether p implies q; q's mark is given.
 pub fn implies(p: &[u32], q: &[u32], bound: u32) -> bool
-    requires { ⌜ bound ≡ Predicates·alone (now q) ⌝ }
+    requires { ⌜ bound ≡ Predicates·markOf (now q) ⌝ }
     ensures { λ r. ⌜ r ≡ Predicates·implies (now (p .entry)) (now (q .entry)) ⌝ }
 {
     let mut i: usize = 0;

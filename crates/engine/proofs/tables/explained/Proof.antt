@@ -33,7 +33,7 @@ row-implies-requires c κs =
     let a = c .before .before .before .before .before .before .before .before in
     let i = c .before .loop .i in (
       (omega (arith, a .pre .0 .counted), table-room 16 _ _ _ (a .pre .0) i (c .loop-test .taken), omega (arith, a .pre .1 .reach)),
-      (c .before .before .alone .ensures, a .pre .1 .mark i (c .loop-test .taken)),
+      (c .before .before .mark-of .ensures, a .pre .1 .mark i (c .loop-test .taken)),
     )
 
 returns-2 : tie.Need-returns-2 Inv-loop μ-loop

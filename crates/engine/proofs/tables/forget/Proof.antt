@@ -6,7 +6,7 @@ use mathlib.Core.Bool.{true, false}
 use mathlib.Core.Logic.{⊎-elim}
 use native.Mathlib.Omega.{arith}
 use lib.ListN.{length, getD, length-set}
-use Rattle.predicates.specs.Predicates.{implies, alone}
+use Rattle.predicates.specs.Predicates.{implies, markOf}
 use Rattle.engine.specs.Tables.{row, givenUp}
 use Rattle.engine.proofs.TableLaws.{given-up-none, given-up-at, given-up-turn, row-count, table-room}
 use borrow.Author.Needs.{needs}
@@ -30,7 +30,7 @@ implies-row-requires c κs =
     let same : getD (head .loop .counts) i 0 ≡ getD (a .args .counts .now) i 0 = ap (λ l. getD l i 0) (head .loop .inv .2) ∙ given-up-at _ _ i in
     let near = c .before .loop-test .taken in (
       (omega (arith, a .pre .0 .0 .counted), omega (arith, same, table-room 16 _ _ _ (a .pre .0 .0) i near), omega (arith, a .pre .0 .1 .reach)),
-      (a .pre .1 .0, λ f. a .pre .0 .1 .mark i near (λ z. f (same ∙ z)) ∙ ap alone (sym (row-count 16 i _ _ _ same)), a .pre .1 .1),
+      (a .pre .1 .0, λ f. a .pre .0 .1 .mark i near (λ z. f (same ∙ z)) ∙ ap markOf (sym (row-count 16 i _ _ _ same)), a .pre .1 .1),
     )
 
 loop-again : tie.Need-loop-again Inv-loop μ-loop

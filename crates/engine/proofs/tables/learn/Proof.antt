@@ -22,7 +22,7 @@ returns c =
 forget-requires : tie.Need-forget-requires
 forget-requires c κs =
     let a = c .before .before .before .before .before .before .before .before .before .before .before .before .before in
-    ((table-less 16 _ _ _ _ (a .pre .0) (omega arith), a .pre .1 .3), (c .before .before .before .alone .ensures, a .pre .1 .0))
+    ((table-less 16 _ _ _ _ (a .pre .0) (omega arith), a .pre .1 .3), (c .before .before .before .mark-of .ensures, a .pre .1 .0))
 
 append-requires : tie.Need-append-requires
 append-requires c κs =
@@ -33,15 +33,15 @@ returns-2 : tie.Need-returns-2
 returns-2 c =
     let at-append = c .before .before .before .before .before .before in
     let at-forget = at-append .before .before .before .before .before .before in
-    let at-alone = at-forget .before .before .before .before in
-    let at-explained = at-alone .before .before in
+    let at-mark = at-forget .before .before .before .before in
+    let at-explained = at-mark .before .before in
     let a = at-explained .before .before .before .before .before .before .before .before in
     let made = at-append .append .ensures in
     let gone = at-forget .forget .ensures in
     let n = a .args .n in
     let table = learn-table n (a .args .counts .now) (a .args .masks .now) (a .args .e .now) (a .pre .0) (a .pre .1 .1) _ _ _ gone (made .0) (made .1 .0) in
-    let marked = learn-marked n (a .args .counts .now) (a .args .masks .now) (a .args .e .now) (a .pre .0) (a .pre .1 .1) _ _ _ gone (made .0) (made .1 .0) _ _ _ (a .pre .1 .3) (a .pre .1 .2) (at-alone .alone .ensures) (made .1 .1) in
-    let rows = learn-rows n (a .args .counts .now) (a .args .masks .now) (a .args .e .now) (a .pre .0) (a .pre .1 .1) _ _ _ gone (made .0) (made .1 .0) (a .pre .1 .0) (sym (at-explained .explained .ensures) ∙ at-alone .before .if1 .left) in
+    let marked = learn-marked n (a .args .counts .now) (a .args .masks .now) (a .args .e .now) (a .pre .0) (a .pre .1 .1) _ _ _ gone (made .0) (made .1 .0) _ _ _ (a .pre .1 .3) (a .pre .1 .2) (at-mark .mark-of .ensures) (made .1 .1) in
+    let rows = learn-rows n (a .args .counts .now) (a .args .masks .now) (a .args .e .now) (a .pre .0) (a .pre .1 .1) _ _ _ gone (made .0) (made .1 .0) (a .pre .1 .0) (sym (at-explained .explained .ensures) ∙ at-mark .before .if1 .left) in
     ((omega arith, omega arith, table, marked), rows)
 
 pub learn-spec : {M : Type 1} → statement M

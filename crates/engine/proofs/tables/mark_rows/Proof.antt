@@ -19,15 +19,15 @@ abbrev μ-loop : tie.MeasureT-loop
 loop-holds : tie.Need-loop-holds Inv-loop μ-loop
 loop-holds c = (search needs, refl, marked-none _ _ _)
 
-mark-of-requires : tie.Need-mark-of-requires Inv-loop μ-loop
-mark-of-requires c κs =
+row-mark-requires : tie.Need-row-mark-requires Inv-loop μ-loop
+row-mark-requires c κs =
     let a = c .before .before .before .before .before in
     (omega (arith, a .pre .0 .counted), table-room 16 _ _ _ (a .pre .0) (c .before .loop .i) (c .loop-test .taken))
 
 loop-again : tie.Need-loop-again Inv-loop μ-loop
 loop-again c =
     let head = c .before .before .loop in
-    (search needs, simp length-set (head .inv .1), marked-next (head .i) _ _ _ _ (c .mark-of .ensures) (search needs) (head .inv .2))
+    (search needs, simp length-set (head .inv .1), marked-next (head .i) _ _ _ _ (c .row-mark .ensures) (search needs) (head .inv .2))
 
 returns : tie.Need-returns Inv-loop μ-loop
 returns c =
@@ -41,7 +41,7 @@ mark-rows-spec =
     Inv-loop
     μ-loop
     loop-holds
-    mark-of-requires
+    row-mark-requires
     (λ c. search needs)
     (λ c. search needs)
     (λ c. search needs)

@@ -1,5 +1,5 @@
 -- `lines::commands::later_line` meets its contract: one command word after the other; another word is a bad line. Assumes nothing.
-use mathlib.Core.Path.{sym, _∙_, refl}
+use mathlib.Core.Path.{sym, _∙_}
 use Rattle.lines.specs.Lines.{laterLine, badLine}
 use Rattle.lines.proofs.LineLaws.{ask-state, fewest-state}
 use borrow.Author.Needs.{needs}

@@ -1,11 +1,10 @@
 -- `lines::read::numbers_behind` meets its contract: a line with no space has no field behind the first, and else they start behind that space.
 -- Assumes nothing.
-use Prim.Native.Nat.{_+_}
-use mathlib.Core.Path.{_≡_, refl, sym, _∙_}
+use mathlib.Core.Path.{_≡_, sym, _∙_}
 use native.Mathlib.Omega.{arith}
 use lib.ListN.{length}
 use Rattle.numbers.specs.Numbers.{put}
-use Rattle.lines.specs.Lines.{spaceAt, fields, later}
+use Rattle.lines.specs.Lines.{spaceAt}
 use Rattle.lines.proofs.LineLaws.{later-none, later-some}
 use borrow.Author.Needs.{needs}
 use Rattle.lines.proofs.read.numbers_behind.Statement.{statement}

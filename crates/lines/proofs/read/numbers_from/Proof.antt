@@ -4,10 +4,9 @@
 use Prim.Native.Nat.{_+_, _*_, _-_, _≤_}
 use mathlib.Core.Path.{_≡_, refl, sym, _∙_}
 use mathlib.Core.List.{map}
-use mathlib.Core.Bool.{true, false}
 use native.Mathlib.Omega.{arith}
 use borrow.Author.Tests.{not-true, not-false}
-use lib.ListN.{length, take, drop, length-set}
+use lib.ListN.{length, drop, length-set}
 use Rattle.predicates.specs.Lists.{all}
 use Rattle.numbers.specs.Numbers.{put}
 use Rattle.lines.specs.Lines.{fields, value, isNumber}

@@ -1,7 +1,7 @@
 -- `lines::stream::end_line` meets its contract: the answer stands at the front of an array and goes behind the output that waits. It fits, since no
 -- answer is longer than 64 bytes (`line-short` of `proofs.OutcomeLaws`). Assumes nothing.
 use Prim.Native.Nat.{_≤_}
-use mathlib.Core.Path.{_≡_, refl, sym, _∙_}
+use mathlib.Core.Path.{_≡_, refl, sym}
 use native.Mathlib.Omega.{arith}
 use lib.ListN.{length, take, length-take}
 use lib.Seq.{length-take-le}

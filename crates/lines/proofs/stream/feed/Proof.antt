@@ -2,7 +2,7 @@
 -- Invariant: the desk, the count and the output are those behind the first i bytes, and an answer fits. Measure: the bytes still to take.
 -- The mathematics is `feed-next` of `proofs.StreamLaws`. Assumes nothing.
 use Prim.Native.Nat.{_+_, _-_, _≤_}
-use mathlib.Core.Path.{_≡_, refl, sym, _∙_}
+use mathlib.Core.Path.{_≡_, refl}
 use native.Mathlib.Omega.{arith}
 use lib.ListN.{length, take}
 use Rattle.numbers.specs.Numbers.{put}

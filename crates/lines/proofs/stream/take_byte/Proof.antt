@@ -1,7 +1,6 @@
 -- `lines::stream::take_byte` meets its contract: a line feed ends the line; another byte stands behind the line's, as long as there are not 201.
 -- Assumes nothing.
 use mathlib.Core.Path.{sym}
-use native.Mathlib.Nat.{add-zero}
 use native.Mathlib.Omega.{arith}
 use borrow.Author.Tests.{eq-eqb, ne-eqb}
 use lib.Seq.{length-take-le}

@@ -1,6 +1,6 @@
--- `predicates::masks::holds` meets its contract: a name that is shared with the mark decides (`holds-alone`); else the terms are tried.
+-- `predicates::masks::holds` meets its contract: a name that is shared with the mark decides (`holds-mark`); else the terms are tried.
 use mathlib.Core.Path.{sym}
-use Rattle.predicates.proofs.MaskLaws.{holds-alone}
+use Rattle.predicates.proofs.MaskLaws.{holds-mark}
 use borrow.Author.Needs.{needs}
 use Rattle.predicates.proofs.masks.holds.Statement.{statement}
 use Rattle.predicates.proofs.masks.holds.Tie as tie
@@ -8,7 +8,7 @@ use Rattle.predicates.proofs.masks.holds.Tie as tie
 returns : tie.Need-returns
 returns c =
     let a = c .before .before .before in
-    sym (holds-alone _ _ _ _ (a .pre) (c .before .shared .ensures) (c .if1 .taken))
+    sym (holds-mark _ _ _ _ (a .pre) (c .before .shared .ensures) (c .if1 .taken))
 
 pub holds-spec : {M : Type 1} → statement M
 holds-spec =

@@ -1,4 +1,4 @@
--- `predicates::masks::alone` meets its contract: the empty term decides; of the others, the names of each term of one name are added.
+-- `predicates::masks::mark_of` meets its contract: the empty term decides; of the others, the names of each term of one name are added.
 -- Invariant: the names found so far and those of the terms from i on are all, and no term before i is empty. Measure: the terms still to look at.
 -- The turns are `MaskLaws`.
 use Prim.Native.Nat.{_-_}
@@ -7,10 +7,10 @@ use mathlib.Core.Logic.{⊎-elim}
 use lib.ListN.{length, drop}
 use Rattle.names.specs.Sets.{union}
 use Rattle.predicates.specs.Predicates.{holds, singles}
-use Rattle.predicates.proofs.MaskLaws.{singles-take, singles-pass, holds-pass, alone-all, alone-some}
+use Rattle.predicates.proofs.MaskLaws.{singles-take, singles-pass, holds-pass, mark-all, mark-some}
 use borrow.Author.Needs.{needs}
-use Rattle.predicates.proofs.masks.alone.Statement.{statement}
-use Rattle.predicates.proofs.masks.alone.Tie as tie
+use Rattle.predicates.proofs.masks.mark_of.Statement.{statement}
+use Rattle.predicates.proofs.masks.mark_of.Tie as tie
 
 abbrev Inv-loop : tie.InvT-loop
 Inv-loop p names₀ i₀ names i = (union names (singles (drop i p)) ≡ singles p) × (holds 0 p ≡ holds 0 (drop i p))
@@ -25,7 +25,7 @@ loop-holds c = (refl, refl)
 returns : tie.Need-returns Inv-loop μ-loop
 returns c =
     let at-test = c .before .before in
-    sym (alone-all _ _ (at-test .before .loop .inv .1) (at-test .loop-test .taken) (c .if1 .taken))
+    sym (mark-all _ _ (at-test .before .loop .inv .1) (at-test .loop-test .taken) (c .if1 .taken))
 
 loop-again : tie.Need-loop-again Inv-loop μ-loop
 loop-again c =
@@ -41,10 +41,10 @@ loop-again c =
     (c .if2 .came)
 
 returns-2 : tie.Need-returns-2 Inv-loop μ-loop
-returns-2 c = let head = c .before .loop in sym (alone-some _ (head .i) _ (head .inv .1) (c .loop-test .left) (head .inv .0))
+returns-2 c = let head = c .before .loop in sym (mark-some _ (head .i) _ (head .inv .1) (c .loop-test .left) (head .inv .0))
 
-pub alone-spec : {M : Type 1} → statement M
-alone-spec =
+pub mark-of-spec : {M : Type 1} → statement M
+mark-of-spec =
     tie.close
     (tie.spec
     Inv-loop
