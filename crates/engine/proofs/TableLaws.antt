@@ -326,6 +326,9 @@ given-up-turn test counts c d i b h p q r = r ∙ rw (q, p) (sym (given-up-next 
 pub marked-none : (counts masks marks : List ℕ) → Marked 0 counts masks marks
 marked-none counts masks marks = record { reach = omega arith; mark = λ i h. absurd (omega arith) }
 
+pub marked-less : (n m : ℕ) (counts masks marks : List ℕ) → Marked n counts masks marks → m ≤ n → Marked m counts masks marks
+marked-less n m counts masks marks k h = record { reach = omega (arith, k .reach); mark = λ i l. k .mark i (omega arith) }
+
 -- the next row has its mark
 pub marked-next : (i v : ℕ) (counts masks marks : List ℕ) → v ≡ markOf (row 16 counts masks i) → i < length marks → Marked i counts masks marks
     → Marked (i + 1) counts masks (set marks i v)

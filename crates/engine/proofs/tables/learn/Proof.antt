@@ -3,7 +3,7 @@ use mathlib.Core.Path.{sym, _∙_}
 use native.Mathlib.Omega.{arith}
 use native.Mathlib.Nat.{suc-mul}
 use Rattle.engine.specs.Receiving.{learn}
-use Rattle.engine.proofs.TableLaws.{table-less, learn-table, learn-marked, learn-rows}
+use Rattle.engine.proofs.TableLaws.{table-less, marked-less, learn-table, learn-marked, learn-rows}
 use borrow.Author.Needs.{needs}
 use Rattle.engine.proofs.tables.learn.Statement.{statement}
 use Rattle.engine.proofs.tables.learn.Tie as tie
@@ -22,7 +22,7 @@ returns c =
 forget-requires : tie.Need-forget-requires
 forget-requires c κs =
     let a = c .before .before .before .before .before .before .before .before .before .before .before .before .before in
-    ((table-less 16 _ _ _ _ (a .pre .0) (omega arith), a .pre .1 .3), (c .before .before .before .mark-of .ensures, a .pre .1 .0))
+    ((table-less 16 _ _ _ _ (a .pre .0) (omega arith), marked-less _ _ _ _ _ (a .pre .1 .3) (omega arith)), (c .before .before .before .mark-of .ensures, a .pre .1 .0))
 
 append-requires : tie.Need-append-requires
 append-requires c κs =
