@@ -14,7 +14,7 @@ use lib.Count.{ones}
 use Rattle.names.specs.Sets.{subset, union, shared, less, lowest}
 use Rattle.names.proofs.SetLaws.{subset-refl, subset-trans, subset-antisym, union-left, union-right, union-least, ones-mono, ones-union}
 use Rattle.numbers.proofs.NumberLaws.{above-zero}
-use Rattle.names.proofs.PartLaws.{adds-none, adds-some, adds-one, one-added, shared-left, shared-right, shared-greatest, less-subset, less-mono, less-add, less-apart, union-add, subset-same, ones-more, single-part, lowest-least, lowest-in, lowest-one}
+use Rattle.names.proofs.PartLaws.{without-one, adds-none, adds-some, adds-one, one-added, shared-left, shared-right, shared-greatest, less-subset, less-mono, less-add, less-apart, union-add, subset-same, ones-more, single-part, lowest-least, lowest-in, lowest-one}
 use Rattle.predicates.specs.Lists.{all, In}
 use Rattle.predicates.specs.Predicates.{holds}
 use Rattle.predicates.proofs.ListLaws.{both, both-l, both-r, cond-ind}
@@ -49,7 +49,7 @@ module _ (s t free v : ℕ) (a : v ≡ less t s) where
 module _ (limit s : ℕ) (last : ones s + 1 ≡ limit) where
   -- ---- the names that alone do for one predicate
 
-  alone-above : (p : List ℕ) → T (subset s (alone limit s p))
+  pub alone-above : (p : List ℕ) → T (subset s (alone limit s p))
   unfolding gather
   alone-above [] = subset-refl s
   alone-above (t ∷ p) =
@@ -158,6 +158,22 @@ module _ (limit s : ℕ) (last : ones s + 1 ≡ limit) where
     where
       n : ℕ
       n = cond (holds s p) m (shared m (alone limit s p))
+
+  -- ---- one name is left of those to try
+
+  pub one-all : (c : ℕ) (ps : List (List ℕ)) → ones c ≡ 1 → T (all (holds (union s c)) ps) → sieve limit s (union s c) ps ≡ union s c
+  one-all c ps one h =
+      let m = union s c in
+      let fits : Fits limit s c ps m =
+      record { above = union-left s c; within = subset-refl m; few = omega (arith, ones-union s c, one); holding = h } in
+      subset-antisym (sieve limit s m ps) m (sieve-part m ps) (sieve-in m m c ps ps (subset-refl m) fits h)
+
+  pub one-none : (c : ℕ) (ps : List (List ℕ)) → ones c ≡ 1 → (T (subset c s) → ⊥) → (T (all (holds (union s c)) ps) → ⊥)
+      → sieve limit s (union s c) ps ≡ s
+  one-none c ps one apart f =
+      let m = union s c in
+      subset-antisym (sieve limit s m ps) s (without-one s c (sieve limit s m ps) one (sieve-part m ps) (λ i. f (sieve-holds m ps c one apart i)))
+      (sieve-above m ps (union-left s c))
 
   -- ---- the search with one name left
 

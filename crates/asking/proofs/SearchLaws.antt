@@ -2,21 +2,22 @@
 -- The idea: a set that fits and holds a term t holds s joined with t. If t adds one name and nothing better came of it, every set that is still of
 -- interest lacks that name, which is then no longer free. No contract cites this file. Assumes nothing.
 use Prim.Native.Nat.{ℕ, _+_, _≤_, _<_, min}
-use mathlib.Core.Path.{_≡_, refl, sym, subst}
+use mathlib.Core.Path.{_≡_, refl, sym, ap, subst, _∙_}
 use mathlib.Core.Logic.{_⊎_, inl, inr, ⊎-elim}
-use mathlib.Core.Bool.{Bool, not}
+use mathlib.Core.Bool.{Bool, true, false, not}
 use mathlib.Core.List.{List, [], _∷_}
 use native.Mathlib.Nat.{le-trans, le-refl}
 use native.Mathlib.Decide.{decLe}
 use native.Mathlib.Omega.{arith}
 use lib.Dec.{T, T-not}
 use lib.Count.{ones}
+use lib.ListN.{length}
 use Rattle.names.specs.Sets.{subset, union, less}
 use Rattle.names.proofs.SetLaws.{subset-refl, subset-trans, subset-le, union-left, union-right, union-least}
 use Rattle.names.proofs.PartLaws.{less-subset, subset-same, one-more, less-free}
 use Rattle.predicates.specs.Lists.{all}
 use Rattle.predicates.specs.Predicates.{holds}
-use Rattle.predicates.proofs.ListLaws.{both, both-l, both-r, or-cases, or-l, or-r, T-true, split, cond-ind}
+use Rattle.predicates.proofs.ListLaws.{both, both-l, both-r, or-cases, or-l, or-r, T-true, T-false, split, cond-ind}
 use Rattle.predicates.proofs.PredicateLaws.{holds-mono}
 use Rattle.asking.specs.Search.{Fits, Best, skipped}
 
@@ -30,6 +31,19 @@ skipped-all s u (p ∷ ps) h =
     let rest = skipped-all s u ps h in
     cond-ind (λ qs. all (holds u) qs ≡ all (holds u) (p ∷ ps)) (holds s p) (skipped s ps) (p ∷ ps)
     (λ t. rw (T-true (holds u p) (holds-mono s u p h t)) rest) (λ _. refl)
+
+-- where some predicate is left, s does not make all true; where none is, it does
+pub skipped-some : (s : ℕ) (ps qs : List (List ℕ)) (p : List ℕ) → p ∷ qs ≡ skipped s ps → all (holds s) ps ≡ false
+unfolding skipped
+skipped-some s [] qs p e = absurd (omega (arith, ap length e))
+skipped-some s (v ∷ ps) qs p e = go (split (holds s v)) (skipped-some s ps qs p)
+  where
+    go : T (holds s v) ⊎ T (not (holds s v)) → (p ∷ qs ≡ skipped s ps → all (holds s) ps ≡ false) → all (holds s) (v ∷ ps) ≡ false
+    go (inl t) f = rw (T-true (holds s v) t) (f (rw (T-true (holds s v) t) at e))
+    go (inr n) f = rw (T-false (holds s v) n)
+
+pub skipped-none : (s : ℕ) (ps : List (List ℕ)) → [] ≡ skipped s ps → all (holds s) ps ≡ true
+skipped-none s ps e = sym (skipped-all s s ps (subset-refl s)) ∙ ap (all (holds s)) (sym e)
 
 fits-other : (limit s free u : ℕ) (ps qs : List (List ℕ)) → all (holds u) ps ≡ all (holds u) qs → Fits limit s free ps u → Fits limit s free qs u
 fits-other limit s free u ps qs e f =

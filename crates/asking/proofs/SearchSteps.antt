@@ -8,23 +8,23 @@ use native.Mathlib.Nat.{le-trans, le-refl}
 use native.Mathlib.Numerals.{add-one}
 use native.Mathlib.Omega.{arith}
 use borrow.Author.Tests.{le-leb, lt-leb, le-ltb, lt-ltb, eq-eqb, ne-eqb}
-use lib.Dec.{T, not-T, leb, leb→le, le→leb, ltb, nltb→le, eqb, eqb→eq}
+use lib.Dec.{T, T-not, not-T, leb, leb→le, le→leb, ltb, nltb→le, eqb, eqb→eq}
 use lib.Count.{ones}
 use lib.ListN.{length, getD, take, drop, drop-of-length-le}
 use lib.Seq.{drop-cons}
 use Rattle.numbers.specs.Numbers.{tab}
 use Rattle.numbers.proofs.NumberLaws.{above-zero, length-tab, getD-tab}
 use Rattle.names.specs.Sets.{subset, union, shared, less, lowest}
-use Rattle.names.proofs.SetLaws.{subset-le, subset-trans, union-least, ones-mono}
-use Rattle.names.proofs.PartLaws.{less-add, adds-none, adds-some, adds-one, one-added}
+use Rattle.names.proofs.SetLaws.{subset-le, subset-refl, subset-trans, subset-antisym, union-right, union-least, ones-none, ones-mono}
+use Rattle.names.proofs.PartLaws.{shared-greatest, less-add, less-apart, subset-same, lowest-in, lowest-one, added, adds-none, adds-some, adds-one, one-added}
 use Rattle.predicates.specs.Predicates.{holds}
 use Rattle.predicates.proofs.ListLaws.{both, both-l, both-r, true-T, T-true, T-false, split, cond-ind}
-use Rattle.predicates.specs.Lists.{In}
+use Rattle.predicates.specs.Lists.{all, In}
 use Rattle.predicates.proofs.PredicateLaws.{holds-in}
 use Rattle.predicates.proofs.LoopLaws.{drop-next}
 use Rattle.asking.specs.Search.{Fits, Best, skipped, gather, alone, sieve, rowTerms, predAt, preds}
-use Rattle.asking.proofs.LastLaws.{sieve-stop, sieve-above, last-none, last-found}
-use Rattle.asking.proofs.SearchLaws.{best-skipped, best-done, best-full, terms-none, terms-skip, terms-stop, terms-on, terms-bar}
+use Rattle.asking.proofs.LastLaws.{alone-above, sieve-stop, sieve-above, one-all, one-none, last-none, last-found}
+use Rattle.asking.proofs.SearchLaws.{skipped-some, skipped-none, best-skipped, best-done, best-full, terms-none, terms-skip, terms-stop, terms-on, terms-bar}
 
 -- ---- the predicates from place i on
 
@@ -66,6 +66,14 @@ module _ (n : ℕ) (listed counts masks : List ℕ) where
     pub sieve-done : (limit m : ℕ) → n ≤ i → sieve limit s m (rest i) ≡ m
     unfolding sieve
     sieve-done limit m h = ap (λ (ps : List (List ℕ)). sieve limit s m ps) (rest-none i h)
+
+  -- a set that alone is left to try: it leaves the predicate at place k false, or none
+  module _ (u best j k : ℕ) (e : rest k ≡ skipped u (rest j)) where
+    pub only-not : k < n → best ≡ cond (all (holds u) (rest j)) (min u best) best
+    only-not h = rw (skipped-some u (rest j) (rest (k + 1)) (predAt listed counts masks k) (sym (rest-next k h) ∙ e))
+
+    pub only-all : n ≤ k → (r : ℕ) → r ≡ min u best → r ≡ cond (all (holds u) (rest j)) (min u best) best
+    only-all h r g = rw (skipped-none u (rest j) (sym (rest-none k h) ∙ e)) g
 
 -- the part of the array from `at` to `end`, where the code found the terms to stand
 pub row-part : (counts masks : List ℕ) (row at end : ℕ) → at ≡ row * 16 → end ≡ row * 16 + getD counts row 0
@@ -257,6 +265,12 @@ pub terms-start : (d limit s : ℕ) (p : List ℕ) → (d ≡ gather d limit s (
 unfolding gather holds
 terms-start d limit s p = let none = drop-of-length-le p {i = length p} (le-refl (length p)) in (rw none, rw none)
 
+-- a predicate sifts, and s stays
+pub sift-above : (s : ℕ) (p : List ℕ) (m r : ℕ) → r ≡ cond (holds s p) m (shared m (alone (ones s + 1) s p)) → T (subset s m) → T (subset s r)
+sift-above s p m r e i =
+    rw e (cond-ind (λ x. T (subset s x)) (holds s p) m (shared m (alone (ones s + 1) s p)) (λ _. i)
+    (λ _. shared-greatest s m (alone (ones s + 1) s p) i (alone-above (ones s + 1) s refl p)))
+
 -- ---- the last name: m are the names that do for the predicates from k up to j
 
 module _ (n : ℕ) (listed counts masks : List ℕ) (limit s free k best : ℕ) (few : ones s + 1 ≡ limit) (h : k < n)
@@ -267,14 +281,18 @@ module _ (n : ℕ) (listed counts masks : List ℕ) (limit s free k best : ℕ) 
   first-rest : rest n listed counts masks k ≡ predAt listed counts masks k ∷ rest n listed counts masks (k + 1)
   first-rest = rest-next n listed counts masks k h
 
+  -- no name does
+  over : names ≡ s → (enough : ℕ) → Best enough limit s free (rest n listed counts masks k) best best
+  over done enough =
+      subst (λ (ps : List (List ℕ)). Best enough limit s free ps best best) (sym first-rest)
+      (last-none limit s few enough free best (predAt listed counts masks k) (rest n listed counts masks (k + 1)) left
+      (ap (sieve limit s (union s free)) (sym first-rest) ∙ done))
+
   -- none is left at place j
   pub last-stop : (j m : ℕ) → names ≡ sieve limit s m (rest n listed counts masks j) → m ≡ s → (enough : ℕ)
       → Best enough limit s free (rest n listed counts masks k) best best
   last-stop j m e z enough =
-      let done : names ≡ s = e ∙ ap (λ (x : ℕ). sieve limit s x (rest n listed counts masks j)) z ∙ sieve-stop limit s few (rest n listed counts masks j) in
-      subst (λ (ps : List (List ℕ)). Best enough limit s free ps best best) (sym first-rest)
-      (last-none limit s few enough free best (predAt listed counts masks k) (rest n listed counts masks (k + 1)) left
-      (ap (sieve limit s (union s free)) (sym first-rest) ∙ done))
+      over (e ∙ ap (λ (x : ℕ). sieve limit s x (rest n listed counts masks j)) z ∙ sieve-stop limit s few (rest n listed counts masks j)) enough
 
   -- some are left at the end
   pub last-least : (m v c u r : ℕ) → names ≡ m → (m ≡ s → ⊥) → v ≡ less m s → c ≡ lowest v → u ≡ union s c → r ≡ min u best → (enough : ℕ)
@@ -295,3 +313,47 @@ module _ (n : ℕ) (listed counts masks : List ℕ) (limit s free k best : ℕ) 
     where
       go : (d : ℕ) → s + d ≡ m → 0 < d
       go d q = above-zero (λ z. f (omega arith))
+
+  -- names are left beyond s at place j, as the loop has them
+  pub some-left : (m : ℕ) → T (subset s m) → (m ≡ s → ⊥) → 0 < less m s
+  some-left m i f = go (less m s) (less-add s m i)
+    where
+      go : (d : ℕ) → s + d ≡ m → 0 < d
+      go d q = above-zero (λ z. f (omega arith))
+
+  -- one name is left at place j: s with it makes the predicates from there on true, or nothing does
+  pub last-one : (j m v u : ℕ) → names ≡ sieve limit s m (rest n listed counts masks j) → T (subset s m) → (m ≡ s → ⊥) → v ≡ less m s
+      → leb (ones v) 1 ≡ true → u ≡ union s v → (r : ℕ) → r ≡ cond (all (holds u) (rest n listed counts masks j)) (min u best) best → (enough : ℕ)
+      → Best enough limit s free (rest n listed counts masks k) best r
+  last-one j m v u e i f a b d r g enough = go (split (all (holds u) ps))
+    where
+      ps : List (List ℕ)
+      ps = rest n listed counts masks j
+
+      some : 0 < v
+      some = rw a (some-left m i f)
+
+      one : ones v ≡ 1
+      one = let more : ones v ≡ 0 → ⊥ = λ z. absurd (omega (arith, some, ones-none v z)) in omega (arith, leb→le (ones v) 1 (true-T _ b), more)
+
+      apart : T (subset v s) → ⊥
+      apart h = less-apart m s v (rw a (subset-refl (less m s))) h one
+
+      whole : m ≡ union s v
+      whole = sym (ap (union s) a ∙ added s m ∙ subset-antisym (union s m) m (union-least s m m i (subset-refl m)) (union-right s m))
+
+      here : names ≡ sieve limit s (union s v) ps
+      here = e ∙ ap (λ (x : ℕ). sieve limit s x ps) whole
+
+      least : v ≡ lowest v
+      least = sym (subset-same (lowest v) v (lowest-in v) (omega (arith, one, lowest-one v some)))
+
+      go : T (all (holds u) ps) ⊎ T (not (all (holds u) ps)) → Best enough limit s free (rest n listed counts masks k) best r
+      go (inl t) =
+          let all-true = subst (λ (x : ℕ). T (all (holds x) ps)) d t in
+          last-least m v v u r (here ∙ one-all limit s few v ps one all-true ∙ sym whole) f a least d
+          (g ∙ rw (T-true (all (holds u) ps) t)) enough
+      go (inr k′) =
+          let none = one-none limit s few v ps one apart (λ t. T-not (all (holds u) ps) k′ (subst (λ (x : ℕ). T (all (holds x) ps)) (sym d) t)) in
+          subst (λ (x : ℕ). Best enough limit s free (rest n listed counts masks k) best x) (sym (g ∙ rw (T-false (all (holds u) ps) k′)))
+          (over (here ∙ none) enough)

@@ -8,6 +8,7 @@ ghost use lib.Dec.{T, eqb, leb, ltb};
 ghost use lib.Count.{ones};
 ghost use lib.ListN.{length, getD, take, drop};
 ghost use Rattle.names.specs.Sets.{subset, union, shared, less};
+ghost use Rattle.predicates.specs.Lists.{all};
 ghost use Rattle.predicates.specs.Predicates.{holds as Predicates·holds};
 ghost use Rattle.asking.specs.Search.{Best, Rows, rowTerms, Parted, predAt, preds, skipped, gather, alone};
 
@@ -117,7 +118,27 @@ fn sift(listed: &[u32], counts: &[u32], masks: &[u32], j: usize, set: u32, names
     sift_terms(&masks[at..end], set, names::union(set, one), names)
 }
 
-// With one name left to add: the least set that makes the predicates from k on true, or `best`.
+// The lesser of `best` and a set that alone is left to try, if that makes the predicates from j on true.
+fn only_set(
+    listed: &[u32],
+    counts: &[u32],
+    masks: &[u32],
+    n: usize,
+    j: usize,
+    set: u32,
+    best: u32,
+) -> u32
+    requires { ⌜ Rows n (now listed) (now counts) (now masks) × (j ≤ n) ⌝ }
+    ensures { λ r. ⌜ r ≡ cond (all (Predicates·holds set) (drop j (preds n (now (listed .entry)) (now (counts .entry)) (now (masks .entry))))) (min set best) best ⌝ }
+{
+    if next_unexplained(listed, counts, masks, n, j, set) < n {
+        return best;
+    }
+    lesser(set, best)
+}
+
+// With one name left to add: the least set that makes the predicates from k on true, or `best`. Once a single name is left it is tried as it is: to
+// test a set costs less than to sift.
 fn last_name(
     listed: &[u32],
     counts: &[u32],
@@ -138,6 +159,10 @@ fn last_name(
     while j < n {
         if names == set {
             return best;
+        }
+        let left = names::less(names, set);
+        if names::at_most_one(left) {
+            return only_set(listed, counts, masks, n, j, names::union(set, left), best);
         }
         names = sift(listed, counts, masks, j, set, names);
         j += 1;

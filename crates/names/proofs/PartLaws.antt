@@ -198,7 +198,7 @@ adds-none s t e = subset-in t s (λ n. omega (arith, digit-less t s n, digit-emp
 pub adds-some : (s t : ℕ) → (less t s ≡ 0 → ⊥) → T (subset t s) → ⊥
 adds-some s t f h = f (digits-ext (less t s) 0 (λ n. omega (arith, digit-less t s n, digit-empty n, subset-out t s h n)))
 
-added : (s t : ℕ) → union s (less t s) ≡ union s t
+pub added : (s t : ℕ) → union s (less t s) ≡ union s t
 added s t =
     digits-ext (union s (less t s)) (union s t) (λ n.
     omega (arith, digit-union s (less t s) n, digit-union s t n, digit-less t s n, digit-lt s n, digit-lt t n))
@@ -228,6 +228,20 @@ one-added s t h few =
 
     same : union s c ≡ union s t
     same = subset-same (union s c) (union s t) part (omega (arith, more))
+
+-- what lies in a set and one name more, and lacks that name, lies in the set
+pub without-one : (s c x : ℕ) → ones c ≡ 1 → T (subset x (union s c)) → (T (subset c x) → ⊥) → T (subset x s)
+without-one s c x one h f = adds-none s x (go (ℕ-discrete (less x s) 0))
+  where
+    part : T (subset (less x s) c)
+    part = subset-in (less x s) c (λ n. omega (arith, digit-less x s n, digit-union s c n, subset-out x (union s c) h n, digit-lt x n, digit-lt s n))
+
+    go : Dec (less x s ≡ 0) → less x s ≡ 0
+    go (yes e) = e
+    go (no e) =
+        let some : ones (less x s) ≡ 0 → ⊥ = λ z. e (ones-none (less x s) z) in
+        let same : less x s ≡ c = subset-same (less x s) c part (omega (arith, some)) in
+        absurd (f (subst (λ (y : ℕ). T (subset y x)) same (less-subset x s)))
 
 -- ---- all names but one
 
