@@ -70,6 +70,3 @@ module _ (s : ℕ) (k : Store) where
 module _ (limit : ℕ) (st : State) where
   pub counts-in : (x : ℕ) → Explained limit st (neededAt x (st .store)) → Counts limit st (pos x)
   counts-in x h = (h .0, h .1, needed-out (h .0) (st .store) x (h .2))
-
-  pub counts-out : (x : ℕ) → Counts limit st (pos x) → Explained limit st (neededAt x (st .store))
-  counts-out x h = (h .0, h .1, needed-in (h .0) (st .store) x (h .2))

@@ -1,10 +1,10 @@
 -- Instants in intervals, and the instants that one set of failed names allows: a held datum at a time, so that what is known of each datum is
--- known of all, and back. An instant below 0 is in no interval, so a number stands in for it (`near`). Assumes nothing.
+-- known of all, and back. An instant below 0 is in no interval. Assumes nothing.
 use mathlib.Core.Path.{refl, sym, subst}
 use mathlib.Core.Logic.{inl, inr}
 use mathlib.Core.Bool.{not}
 use mathlib.Core.List.{List, [], _∷_}
-use Prim.Native.Nat.{ℕ, zero, _≤_, _<_, min, max}
+use Prim.Native.Nat.{ℕ, _≤_, _<_, min, max}
 use native.Mathlib.Omega.{arith}
 use lib.Dec.{T, T-not, leb, leb→le, le→leb}
 use lib.IntN.{ℤ, pos, negsuc}
@@ -16,15 +16,6 @@ use Rattle.asking.specs.Instants.{Within, InAll}
 use Rattle.asking.specs.Claims.{inside}
 
 -- ---- intervals
-
--- an instant in an interval, as a number
-abbrev pub near : ℤ → ℕ
-near (pos n) = n
-near (negsuc n) = zero
-
-pub within-near : (l r : ℕ) (x : ℤ) → Within l r x → Within l r (pos (near x))
-within-near l r (pos n) h = h
-within-near l r (negsuc n) h = absurd h
 
 pub within-none : (l r : ℕ) (x : ℤ) → r < l → Within l r x → ⊥
 within-none l r (pos n) h w = omega arith
@@ -77,9 +68,6 @@ module _ (s : ℕ) where
   pub inall-in : (ds : List Datum) (x : ℤ) → ((d : Datum) → In d ds → Allows x d) → InAll s ds x
   inall-in [] x f = tt
   inall-in (e ∷ ds) x f = (f e (inl refl), inall-in ds x (λ d m. f d (inr m)))
-
-  pub inall-near : (ds : List Datum) (x : ℤ) → InAll s ds x → InAll s ds (pos (near x))
-  inall-near ds x h = inall-in ds (pos (near x)) (λ d m a. within-near (d .left) (d .right) x (inall-out ds x h d m a))
 
   -- what lies between two instants that s allows
   pub inall-between : (ds : List Datum) (a b c : ℕ) → a ≤ b → b ≤ c → InAll s ds (pos a) → InAll s ds (pos c) → InAll s ds (pos b)

@@ -2,12 +2,11 @@
 -- The idea: rule 15 stores no empty interval. Two data with one predicate and disjoint intervals teach an entry in step 1 that implies that
 -- predicate, and what is explained stays so to the end of the step; so step 2 ends the receipt before rule 15 comes.
 -- No contract cites this file. Assumes nothing.
-use Prim.Native.Nat.{ℕ, suc, _+_, _^_, _≤_, _<_}
+use Prim.Native.Nat.{ℕ, _+_, _^_, _≤_, _<_}
 use mathlib.Core.Path.{_≡_, refl, sym, ap₂, subst}
 use mathlib.Core.Logic.{_⊎_, inl, inr, ⊎-elim}
 use mathlib.Core.Bool.{Bool, true, _&&_, _||_, not, cond}
 use mathlib.Core.List.{List, [], _∷_, _++_}
-use native.Mathlib.Nat.{le-refl}
 use native.Mathlib.Omega.{arith}
 use lib.Dec.{T, T-not, not-T, eqb, eqb→eq, leb→le, le→leb, ltb, ltb→lt, lt→ltb, nltb→le}
 use lib.ListN.{length, length-append}
@@ -260,13 +259,6 @@ without-all f p (d ∷ ds) h =
     cond-ind (λ cs. T (all f cs)) (same (d .terms) p) ds (d ∷ without p ds)
     (λ _. both-r (f d) (all f ds) h) (λ _. both (f d) (all f (without p ds)) (both-l (f d) (all f ds) h) rest)
 
-length-without : (p : List ℕ) (ds : List Datum) → length (without p ds) ≤ length ds
-unfolding without
-length-without p [] = le-refl 0
-length-without p (d ∷ ds) =
-    let rest = length-without p ds in
-    cond-ind (λ cs. length cs ≤ suc (length ds)) (same (d .terms) p) ds (d ∷ without p ds) (λ _. omega arith) (λ _. omega arith)
-
 -- n cut to a datum with its predicate is right, if the two have an instant in common
 met-ok : (own : ℕ) (n : Datum) (ds : List Datum) → OkDatum own n → T (all (datumOk own) ds)
     → ((d : Datum) → In d ds → d .terms ≡ n .terms → (n .left ≤ d .right) × (d .left ≤ n .right)) → OkDatum own (met n ds)
@@ -289,13 +281,6 @@ stored-all f n ds t h =
     let rest = keep (λ d. not (betters n d)) ds in
     cond-ind (λ cs. T (all f cs)) (any (λ d. betters d n) ds) ds (rest ++ (n ∷ [])) (λ _. h)
     (λ _. all-append f rest (n ∷ []) (all-keep f (λ d. not (betters n d)) ds h) (both (f n) true t tt))
-
-length-stored : (n : Datum) (ds : List Datum) → length (stored n ds) ≤ length ds + 1
-unfolding stored
-length-stored n ds =
-    let rest = keep (λ d. not (betters n d)) ds in
-    cond-ind (λ cs. length cs ≤ length ds + 1) (any (λ d. betters d n) ds) ds (rest ++ (n ∷ [])) (λ _. omega arith)
-    (λ _. omega (arith, length-append rest (n ∷ []), length-keep (λ d. not (betters n d)) ds))
 
 -- ---- the receipt
 
@@ -320,14 +305,6 @@ held-after-ok own n ds es o h =
 
     old : (d : Datum) → In d us → In d ds
     old d m = keep-out (λ e. not (explained fs (e .terms))) ds d m .0
-
-pub length-held-after : (n : Datum) (ds : List Datum) (es : List (List ℕ)) → length (heldAfter n ds es) ≤ length ds + 1
-unfolding heldAfter unexplained
-length-held-after n ds es =
-    let us = keep (λ d. not (explained es (d .terms))) ds in
-    let few = length-keep (λ d. not (explained es (d .terms))) ds in
-    cond-ind (λ cs. length cs ≤ length ds + 1) (explained es (n .terms)) us (stored (met n us) (without (n .terms) us)) (λ _. omega arith)
-    (λ _. omega (arith, length-stored (met n us) (without (n .terms) us), length-without (n .terms) us))
 
 -- a right store stays right: rule 15 stores no empty interval
 settled-ok : (own : ℕ) (n : Datum) (k : Store) → T (storeOk own k) → T (datumOk own n) → T (storeOk own (settled n k))

@@ -4,7 +4,6 @@ use Prim.Native.Nat.{ℕ, zero, suc, _+_, _*_, _-_, _^_, _≤_, _<_}
 use mathlib.Core.Path.{_≡_, refl, sym, ap, ap₂, subst, _∙_}
 use mathlib.Core.Bool.{Bool, true, false, _&&_, _||_, not, cond, and-false, or-assoc, or-false, or-true}
 use mathlib.Core.List.{List, [], _∷_, _++_, append-assoc}
-use mathlib.Core.Logic.{_⊎_, inl, inr}
 use native.Mathlib.Nat.{mul-le-mul-right, suc-mul}
 use native.Mathlib.Numerals.{add-one}
 use native.Mathlib.Omega.{arith}
@@ -14,9 +13,8 @@ use lib.Seq.{sets, sets-eq, length-sets, take-at, drop-at, take-append-le, drop-
 use Rattle.names.specs.Sets.{subset}
 use Rattle.numbers.specs.Numbers.{tab}
 use Rattle.numbers.proofs.NumberLaws.{length-tab, getD-tab}
-use Rattle.predicates.specs.Lists.{any, keep, In}
+use Rattle.predicates.specs.Lists.{any, keep}
 use Rattle.predicates.specs.Predicates.{holds, implies, markOf}
-use Rattle.predicates.proofs.ListLaws.{in-l, in-r, in-cases}
 use Rattle.predicates.proofs.MaskLaws.{implies-not}
 use Rattle.engine.specs.Receiving.{explained, learn}
 use Rattle.engine.specs.Tables.{Table, Marked, row, some, entriesIn, givenUp}
@@ -32,25 +30,6 @@ module _ {A : Type 0} where
   unfolding tab
   tab-cong zero f g h = refl
   tab-cong (suc n) f g h = rw (tab-cong n f g (λ i p. h i (omega arith)), h n (omega arith))
-
-  pub tab-in : (n i : ℕ) (f : ℕ → A) → i < n → In (f i) (tab n f)
-  unfolding tab
-  tab-in zero i f h = absurd (omega arith)
-  tab-in (suc n) i f h = go (tab-in n i f) (ℕ-discrete i n)
-    where
-      go : (i < n → In (f i) (tab n f)) → Dec (i ≡ n) → In (f i) (tab n f ++ (f n ∷ []))
-      go rest (yes p) = in-r (f i) (tab n f) (f n ∷ []) (inl (ap f p))
-      go rest (no p) = in-l (f i) (tab n f) (f n ∷ []) (rest (omega arith))
-
-  pub tab-out : (n : ℕ) (a : A) (f : ℕ → A) → In a (tab n f) → (i : ℕ) × i < n × (a ≡ f i)
-  unfolding tab
-  tab-out zero a f h = absurd h
-  tab-out (suc n) a f h = go (tab-out n a f) (in-cases a (tab n f) (f n ∷ []) h)
-    where
-      go : (In a (tab n f) → (i : ℕ) × i < n × (a ≡ f i)) → In a (tab n f) ⊎ In a (f n ∷ []) → (i : ℕ) × i < suc n × (a ≡ f i)
-      go rest (inl m) = let r = rest m in (r .0, omega (arith, r .1), r .2)
-      go rest (inr (inl e)) = (n, omega arith, e)
-      go rest (inr (inr m)) = absurd m
 
   pub keep-append : (f : A → Bool) (xs ys : List A) → keep f (xs ++ ys) ≡ keep f xs ++ keep f ys
   keep-append f [] ys = refl
