@@ -1,4 +1,6 @@
--- One turn of each loop and call of the search, over the predicates in the flat arrays. No contract cites this file. Assumes nothing.
+-- One turn of each loop and call of the search, over the predicates in the flat arrays.
+-- The idea: the predicates from a place on are the next one and the rest (`rest-next`), so each turn is a law by sets, for one predicate or one
+-- term, said of the arrays. No contract cites this file. Assumes nothing.
 use Prim.Native.Nat.{ℕ, suc, _+_, _-_, _*_, _≤_, _<_, min}
 use mathlib.Core.Path.{_≡_, refl, sym, ap, subst, _∙_}
 use mathlib.Core.Logic.{_⊎_, inl, inr}

@@ -1,5 +1,6 @@
 -- Tables of predicates in flat arrays: what the loops over them find, give up and put last, as facts on the lists that they hold.
--- No contract cites this file. Assumes nothing.
+-- The idea: a row that is given up is passed over and no other row moves, so a table holds the list of the rows that have terms, and the mark of
+-- a row stays right until the row is gone. No contract cites this file. Assumes nothing.
 use Prim.Native.Nat.{ℕ, zero, suc, _+_, _*_, _-_, _^_, _≤_, _<_}
 use mathlib.Core.Path.{_≡_, refl, sym, ap, ap₂, subst, _∙_}
 use mathlib.Core.Bool.{Bool, true, false, _&&_, _||_, not, cond, and-false, or-assoc, or-false, or-true}

@@ -1,5 +1,6 @@
--- A predicate's mark: what it decides of a set and of another predicate, and one turn of the loop that makes it. No contract cites this file.
--- Assumes nothing.
+-- A predicate's mark: what it decides of a set and of another predicate, and one turn of the loop that makes it.
+-- The idea: a set of one name makes a predicate true only by a term that is that name, or by the empty one; so what p has of such terms, q must
+-- have if p implies q. No contract cites this file. Assumes nothing.
 use mathlib.Core.Path.{_≡_, refl, sym, ap, subst, _∙_}
 use mathlib.Core.Bool.{Bool, true, false, not}
 use mathlib.Core.Logic.{inl, inr, ⊎-elim}
