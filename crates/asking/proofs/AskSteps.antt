@@ -22,7 +22,7 @@ use Rattle.state.specs.Model.{Datum, Store, State}
 use Rattle.state.specs.Layout.{datumPlace, heldCount, entryCount, datumAt, headOf, storeOf, stateOf}
 use Rattle.state.specs.Form.{inForm}
 use Rattle.state.proofs.StateLaws.{state-out, length-held, length-entries, form-ok}
-use Rattle.engine.proofs.StoreLaws.{column-front, length-column}
+use Rattle.state.proofs.StoreLaws.{column-front, length-column}
 use Rattle.asking.specs.declared.Answer.the-variants.{Contradicted, Open, Between}
 use Rattle.asking.specs.Asking.{interval, highest, lowest, answer}
 use Rattle.asking.specs.Claims.{inside, neededAt, everything, Explained}

@@ -20,7 +20,7 @@ use Rattle.numbers.proofs.NumberLaws.{put-then, put-front, tab-ext}
 use Rattle.predicates.specs.Lists.{keep, In}
 use Rattle.predicates.specs.Predicates.{holds}
 use Rattle.predicates.proofs.ListLaws.{both, both-l, both-r, true-T, split, keep-out}
-use Rattle.engine.proofs.TableLaws.{keep-append}
+use Rattle.predicates.proofs.ListLaws.{keep-append}
 use Rattle.asking.specs.Search.{Best, Rows, rowTerms, predAt, preds, none}
 use Rattle.asking.specs.Tables.{outside}
 use Rattle.asking.specs.Ends.{noEnd, Next, Last, Latest, Ready, needs, Trying}

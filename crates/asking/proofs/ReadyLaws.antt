@@ -14,7 +14,7 @@ use Rattle.state.specs.Model.{Store, State}
 use Rattle.state.specs.Layout.{heldCount, entryCount, zeros, storeOf, stateOf}
 use Rattle.state.specs.Form.{inForm, stateOk, datumOk}
 use Rattle.state.proofs.StateLaws.{state-out, held-count-le, entry-count-le, form-ok}
-use Rattle.engine.proofs.ReceiveLaws.{ok-datum-out}
+use Rattle.state.proofs.OkLaws.{ok-datum-out}
 use Rattle.asking.specs.Tables.{entryClaim, claimAt, Loaded, Bounded, claimLeft, claimRight}
 use Rattle.asking.specs.Ends.{noEnd, Ready, Complete}
 use Rattle.asking.proofs.TableLaws.{bounded-in}

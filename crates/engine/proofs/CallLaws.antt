@@ -16,10 +16,13 @@ use Rattle.predicates.proofs.ListLaws.{both, both-l, both-r, neither}
 use Rattle.state.specs.Model.{Datum, Head, Store, State, endLimit, readingLimit}
 use Rattle.state.specs.Form.{headOk, datumOk, storeOk, countsOk, stateOk}
 use Rattle.engine.specs.Ageing.{leastAdvance, greatestAdvance, slow, fast, widened, aged}
-use Rattle.engine.specs.Receiving.{Delivery, grown, received}
+use Rattle.engine.specs.Receiving.{Delivery, grown}
+use Rattle.steps.specs.Steps.{received}
 use Rattle.engine.specs.Calls.{Setup, begun, setUp, age, receive, moved, made, done}
-use Rattle.engine.specs.Refusals.{refuse, setUpRefusal, passesEnd, ageRefusal, tooMany, receiptRefusal}
-use Rattle.engine.proofs.ReceiveLaws.{ok-datum-out, ok-datum-in, formed-fit, received-ok}
+use Rattle.engine.specs.Refusals.{refuse, setUpRefusal, passesEnd, ageRefusal, receiptRefusal}
+use Rattle.steps.specs.Steps.{tooMany}
+use Rattle.state.proofs.OkLaws.{ok-datum-out, ok-datum-in}
+use Rattle.steps.proofs.ReceiveLaws.{formed-fit, received-ok}
 
 -- no refusal: the test did not pass, nor did those behind it
 pub refuse-none : (test : Bool) (number next : ℕ) → 0 < number → refuse test number next ≡ 0 → T (not test) × (next ≡ 0)

@@ -1,9 +1,5 @@
--- The laws that the proofs of `engine` share, lowest first: tables, steps, the receipt, and ageing and setting up beside them.
-pub mod TableLaws
-pub mod StepLaws
-pub mod ReceiveLaws
+-- The laws that the proofs of `engine` share, lowest first: what calls keep, ageing, setting up and the receipt on bytes.
 pub mod CallLaws
-pub mod StoreLaws
 pub mod ReceiptLaws
 pub mod AgeLaws
 pub mod WidenLaws

@@ -17,11 +17,13 @@ use Rattle.state.specs.Model.{endLimit}
 use Rattle.state.specs.Layout.{stateBytes, stateOf, headOf, storeOf}
 use Rattle.state.specs.Form.{inForm}
 use Rattle.state.proofs.StateLaws.{put-state-same, held-count-le, entry-count-le, length-held, length-entries}
-use Rattle.engine.specs.Receiving.{Delivery, grown, settled, received}
+use Rattle.engine.specs.Receiving.{Delivery, grown}
+use Rattle.steps.specs.Steps.{settled, received}
 use Rattle.engine.specs.Calls.{receive, done, moved, made}
-use Rattle.engine.specs.Refusals.{tooMany, receiptRefusal}
+use Rattle.steps.specs.Steps.{tooMany}
+use Rattle.engine.specs.Refusals.{receiptRefusal}
 use Rattle.engine.specs.Outcomes.{after}
-use Rattle.engine.proofs.ReceiveLaws.{formed-some, formed-normal}
+use Rattle.steps.proofs.ReceiveLaws.{formed-some, formed-normal}
 
 -- ---- the row
 

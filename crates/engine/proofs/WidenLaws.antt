@@ -16,7 +16,8 @@ use Rattle.state.specs.Model.{Datum, endLimit}
 use Rattle.state.specs.Layout.{zeros, joined, rowBytes, datumBytes, headBytes, dataBytes, entriesBytes, stateBytes, datumPlace, datumAt, heldCount, entryCount, headOf, storeOf, stateOf}
 use Rattle.state.specs.Form.{termsFit, datumFits, dataFit, inForm, datumOk}
 use Rattle.state.proofs.LayoutLaws.{below-out, part-add, At, at-then, length-joined, length-datum, length-head}
-use Rattle.state.proofs.FormLaws.{row-part, datum-row, datum-size}
+use Rattle.state.proofs.FormLaws.{row-part}
+use Rattle.state.proofs.FormLaws.{datum-row, datum-size}
 use Rattle.state.proofs.StateLaws.{state-out, length-held, length-entries, held-count-le, form-ok, datum-at-ok, form-split}
 use Rattle.state.proofs.RowLoops.{datum-put}
 use Rattle.state.proofs.PutLaws.{part-stands, put-stands, drop-put, put-swap, length-joined-tab, joined-next}

@@ -4,7 +4,8 @@ use Prim.Native.Nat.{ℕ}
 use mathlib.Core.List.{[]}
 use Rattle.state.specs.Model.{Head, Store, State}
 use Rattle.engine.specs.Ageing.{slow, fast, aged}
-use Rattle.engine.specs.Receiving.{Delivery, grown, received}
+use Rattle.engine.specs.Receiving.{Delivery, grown}
+use Rattle.steps.specs.Steps.{received}
 
 -- what setting up is given
 pub record Setup : Type 0 where

@@ -8,7 +8,8 @@ use lib.ListN.{length}
 use Rattle.predicates.specs.Lists.{any}
 use Rattle.state.specs.Model.{Store, State, endLimit, readingLimit}
 use Rattle.engine.specs.Ageing.{slow, fast, aged}
-use Rattle.engine.specs.Receiving.{Delivery, grown, received}
+use Rattle.engine.specs.Receiving.{Delivery, grown}
+use Rattle.steps.specs.Steps.{received, tooMany}
 use Rattle.engine.specs.Calls.{Setup}
 
 -- a test that fails gives its number; else what comes next decides
@@ -36,10 +37,6 @@ ageRefusal st reading =
 -- 21: "least delay above greatest, or greatest above 60,000,000"
 abbrev pub delaysFail : ℕ → ℕ → Bool
 delaysFail least greatest = ltb greatest least || ltb 60_000_000 greatest
-
--- "32 too many data or entries": "At most 16 data and 32 entries, counted at the end"
-unfoldable pub tooMany : Store → Bool
-tooMany k = ltb 16 (length (k .held)) || ltb 32 (length (k .entries))
 
 -- "18, 30, 31, 32; 30 comes also for a predicate that is true"; "31 more than 8 terms in the new predicate's normal form, stored or not"
 unfoldable pub receiptRefusal : State → Delivery → ℕ

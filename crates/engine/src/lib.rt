@@ -4,7 +4,3 @@ pub mod ageing;
 pub mod receipt;
 mod receiving;
 pub mod set_up;
-mod settling;
-mod steps;
-pub mod store;
-mod tables;

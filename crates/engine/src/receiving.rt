@@ -9,10 +9,12 @@ ghost use lib.ListN.{length};
 ghost use Rattle.numbers.specs.Numbers.{put};
 ghost use Rattle.state.specs.Layout.{dataBytes, entriesBytes, stateBytes, headOf, storeOf};
 ghost use Rattle.state.specs.Form.{inForm};
-ghost use Rattle.engine.specs.Tables.{Table, Columns, entriesIn, datum, dataIn, newly, outcomeStore};
-ghost use Rattle.engine.specs.Receiving.{settled};
-ghost use Rattle.engine.specs.Refusals.{tooMany};
-use super::settling::Outcome;
+ghost use Rattle.state.specs.code.Tables.{Table, Columns, entriesIn, datum};
+ghost use Rattle.state.specs.code.Tables.{dataIn};
+ghost use Rattle.steps.specs.code.Rows.{newly, outcomeStore};
+ghost use Rattle.steps.specs.Steps.{settled};
+ghost use Rattle.steps.specs.Steps.{tooMany};
+use steps::settling::Outcome;
 
 // Writes the data that have terms, then the new one where it is stored, and zeros into the places left over.
 fn put_held(
@@ -31,7 +33,7 @@ fn put_held(
     requires { ⌜ (h ≤ 16) × (3032 ≤ length (now state)) × (length (now p) ≤ 8) × (length (dataIn h (now lefts) (now rights) (now held) (now terms) ++ newly stored (datum left right (now p))) ≤ 16) ⌝ }
     ensures { λ _. ⌜ now (state .exit) ≡ put 24 (dataBytes (dataIn h (now (lefts .entry)) (now (rights .entry)) (now (held .entry)) (now (terms .entry)) ++ newly stored (datum left right (now (p .entry))))) (now (state .entry)) ⌝ }
 {
-    let places = super::store::put_data(state, lefts, rights, held, terms, h);
+    let places = state::store::put_data(state, lefts, rights, held, terms, h);
     if stored {
         state::rows::put_datum(state, places, left, right, p);
         state::rows::clear(state, 76 + places * 52, 856);
@@ -46,7 +48,7 @@ fn put_known(state: &mut [u8], counts: &[u32], masks: &[u32], n: usize)
     requires { ⌜ (n ≤ 48) × (3032 ≤ length (now state)) × (length (entriesIn n (now counts) (now masks)) ≤ 32) ⌝ }
     ensures { λ _. ⌜ now (state .exit) ≡ put 856 (entriesBytes (entriesIn n (now (counts .entry)) (now (masks .entry)))) (now (state .entry)) ⌝ }
 {
-    let places = super::store::put_entries(state, counts, masks, n);
+    let places = state::store::put_entries(state, counts, masks, n);
     state::rows::clear(state, 856 + places * 68, 3032);
 }
 
@@ -82,8 +84,8 @@ fn put_outcome(
     let known = done.known;
     let placed = done.placed;
     let stored = placed.stored;
-    let rows = with_new(super::steps::live(held, h), stored);
-    let entries = super::steps::live(counts, known);
+    let rows = with_new(steps::steps::live(held, h), stored);
+    let entries = steps::steps::live(counts, known);
     if (16 < rows) | (32 < entries) {
         return 32;
     }
@@ -118,11 +120,11 @@ pub fn receive(state: &mut [u8], left: u64, right: u64, p: &[u32]) -> u32
     let mut rights = [0u64; 16];
     let mut held = [0u32; 16];
     let mut terms = [0u32; 128];
-    super::store::get_data(state, h, &mut lefts, &mut rights, &mut held, &mut terms);
+    state::store::get_data(state, h, &mut lefts, &mut rights, &mut held, &mut terms);
     let mut counts = [0u32; 48];
     let mut masks = [0u32; 768];
-    super::store::get_entries(state, n, &mut counts, &mut masks);
-    let done = super::settling::settle(
+    state::store::get_entries(state, n, &mut counts, &mut masks);
+    let done = steps::settling::settle(
         &lefts,
         &rights,
         &mut held,

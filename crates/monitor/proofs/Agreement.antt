@@ -15,7 +15,8 @@ use Rattle.predicates.specs.Predicates.{holds}
 use Rattle.predicates.proofs.ListLaws.{split}
 use Rattle.state.specs.Model.{Datum, Head, Store}
 use Rattle.engine.specs.Ageing.{slow, fast, widened, aged}
-use Rattle.engine.specs.Receiving.{grown, received}
+use Rattle.engine.specs.Receiving.{grown}
+use Rattle.steps.specs.Steps.{received}
 use Rattle.engine.specs.Calls.{Call, age, receive, made}
 use Rattle.engine.proofs.CallLaws.{slow-fast, Heard, grown-ends}
 use Rattle.asking.specs.Instants.{Within, InAll, Fine}

@@ -22,7 +22,7 @@ use Rattle.state.specs.Layout.{joined}
 use Rattle.state.specs.Form.{datumOk, stateOk}
 use Rattle.state.proofs.StateLaws.{state-out}
 use Rattle.state.proofs.LayoutLaws.{At, all-getD, at-joined, length-joined, num-at}
-use Rattle.engine.proofs.ReceiveLaws.{ok-datum-out}
+use Rattle.state.proofs.OkLaws.{ok-datum-out}
 use Rattle.asking.specs.declared.Answer.{Answer}
 use Rattle.asking.specs.declared.Answer.the-variants.{Contradicted, Open, Between}
 use Rattle.asking.specs.declared.Fewest.{Fewest}

@@ -25,7 +25,7 @@ use Rattle.state.specs.Layout.{stateSize, datumPlace, masksAt, rowAt, datumAt, 
 use Rattle.state.specs.Form.{termFits, termsFit, inForm}
 use Rattle.state.proofs.StateLaws.{datum-at-ok, length-datum-at}
 use Rattle.engine.specs.Refusals.{refuse}
-use Rattle.engine.proofs.ReceiveLaws.{ok-datum-out, ok-terms-out}
+use Rattle.state.proofs.OkLaws.{ok-datum-out, ok-terms-out}
 use Rattle.asking.proofs.AskSteps.{own-fits}
 use Rattle.monitor.specs.Messages.{readBytes, readNumber, readingBytes, answered}
 use Rattle.monitor.specs.Calls.{writtenWords, writtenBytes, writeNumber, writeOutput}

@@ -5,10 +5,12 @@ use Rattle.names.specs.Sets.{subset, union, has}
 use Rattle.predicates.specs.Lists.{all}
 use Rattle.predicates.specs.Predicates.{holds, implies, isTrue, struck, insert, rising, minimal, normal, formed}
 use Rattle.engine.specs.Ageing.{leastAdvance, greatestAdvance, slow, fast, widened, aged}
-use Rattle.engine.specs.Receiving.{grown, disjoint, explained, learn, learnt, unexplained, same, meet, met, without}
-use Rattle.engine.specs.Receiving.{betters, stored, heldAfter, settled, received}
+use Rattle.engine.specs.Receiving.{grown}
+use Rattle.steps.specs.Steps.{disjoint, explained, learn, learnt, unexplained, same, meet, met, without}
+use Rattle.steps.specs.Steps.{betters, stored, heldAfter, settled, received}
 use Rattle.engine.specs.Calls.{begun, setUp, moved, made, done}
-use Rattle.engine.specs.Refusals.{setUpRefusal, passesEnd, ageRefusal, tooMany, receiptRefusal}
+use Rattle.engine.specs.Refusals.{setUpRefusal, passesEnd, ageRefusal, receiptRefusal}
+use Rattle.steps.specs.Steps.{tooMany}
 use Rattle.asking.specs.Asking.{cut, common, active, leaves, setsOf, sets, either, leftBy, answer, answerNumbers}
 use Rattle.monitor.specs.Cases.{limitRefusal, refusalOf, next, stateFrom, allTaken, sameDatum, sameAnswer, meets, holdsFor, cases}
 

@@ -7,10 +7,11 @@ use lib.Dec.{eqb}
 use Rattle.predicates.specs.Predicates.{formed}
 use Rattle.state.specs.Model.{Datum, State}
 use Rattle.engine.specs.Ageing.{slow, fast}
-use Rattle.engine.specs.Receiving.{delivery, same}
+use Rattle.engine.specs.Receiving.{delivery}
+use Rattle.steps.specs.Steps.{same}
 use Rattle.engine.specs.Calls.{Setup, setUp, Call, age, receive, done}
 use Rattle.engine.specs.Refusals.{refuse, setUpRefusal, ageRefusal, delaysFail, receiptRefusal}
-use Rattle.engine.specs.Tables.{datum}
+use Rattle.state.specs.code.Tables.{datum}
 use Rattle.asking.specs.declared.Answer.{Answer}
 use Rattle.asking.specs.declared.Answer.the-variants.{Contradicted, Open, Between}
 use Rattle.asking.specs.Asking.{answer, answerNumbers}

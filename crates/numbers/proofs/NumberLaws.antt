@@ -248,3 +248,15 @@ pub bytes-words : (s : List ℕ) → Bytes s → length s % 4 ≡ 0 → bytesOf 
 unfolding wordsOf
 bytes-words s b e =
     bytesOf-tab (length s / 4) s b (omega arith) ∙ take-all (length s / 4 * 4) s (omega arith)
+
+-- ---- a list by its elements
+
+module _ {A : Type 0} where
+  pub tab-suc : (n : ℕ) (f : ℕ → A) → tab (n + 1) f ≡ tab n f ++ (f n ∷ [])
+  unfolding tab
+  tab-suc n f = rw add-one
+
+  pub tab-cong : (n : ℕ) (f g : ℕ → A) → ((i : ℕ) → i < n → f i ≡ g i) → tab n f ≡ tab n g
+  unfolding tab
+  tab-cong zero f g h = refl
+  tab-cong (suc n) f g h = rw (tab-cong n f g (λ i p. h i (omega arith)), h n (omega arith))

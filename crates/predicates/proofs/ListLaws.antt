@@ -1,8 +1,8 @@
 -- Boolean tests as facts, tests over lists by their elements, and a list filled up with zeros. Assumes nothing.
 use Prim.Native.Nat.{suc, _≤_}
-use mathlib.Core.Path.{_≡_, refl, sym, ap, subst}
+use mathlib.Core.Path.{_≡_, refl, sym, ap, subst, _∙_}
 use mathlib.Core.Logic.{_⊎_, inl, inr}
-use mathlib.Core.Bool.{Bool, true, false, _&&_, _||_, not, cond}
+use mathlib.Core.Bool.{Bool, true, false, _&&_, _||_, not, cond, or-assoc}
 use mathlib.Core.List.{List, [], _∷_, _++_, map}
 use native.Mathlib.Nat.{le-refl}
 use native.Mathlib.Omega.{arith}
@@ -152,3 +152,18 @@ module _ {A B : Type 0} (f : A → B) where
   map-out [] b m = absurd m
   map-out (x ∷ l) b (inl e) = (x, inl refl, e)
   map-out (x ∷ l) b (inr m) = let r = map-out l b m in (r .0, inr (r .1), r .2)
+
+-- ---- two lists one after the other
+
+module _ {A : Type 0} where
+  pub keep-append : (f : A → Bool) (xs ys : List A) → keep f (xs ++ ys) ≡ keep f xs ++ keep f ys
+  keep-append f [] ys = refl
+  keep-append f (x ∷ xs) ys = go (f x) (keep-append f xs ys)
+    where
+      go : (b : Bool) → keep f (xs ++ ys) ≡ keep f xs ++ keep f ys → cond b (x ∷ keep f (xs ++ ys)) (keep f (xs ++ ys)) ≡ cond b (x ∷ keep f xs) (keep f xs) ++ keep f ys
+      go true e = ap (λ (l : List A). x ∷ l) e
+      go false e = e
+
+  pub any-append : (f : A → Bool) (xs ys : List A) → any f (xs ++ ys) ≡ any f xs || any f ys
+  any-append f [] ys = refl
+  any-append f (x ∷ xs) ys = ap (λ (b : Bool). f x || b) (any-append f xs ys) ∙ sym (or-assoc (f x) (any f xs) (any f ys))

@@ -8,3 +8,6 @@ pub mod RowLoops
 pub mod PutLaws
 pub mod HeldLaws
 pub mod KnowledgeLaws
+pub mod RowLaws
+pub mod OkLaws
+pub mod StoreLaws

@@ -3,3 +3,4 @@ pub mod Layout
 pub mod Form
 pub mod Held
 pub mod Known
+pub mod code

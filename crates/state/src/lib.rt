@@ -5,3 +5,4 @@ pub mod form;
 pub mod held;
 pub mod knowledge;
 pub mod rows;
+pub mod store;

@@ -4,7 +4,7 @@ use Prim.Native.Nat.{_-_, _≤_}
 use mathlib.Core.Path.{refl}
 use native.Mathlib.Omega.{arith}
 use lib.ListN.{getD}
-use Rattle.engine.proofs.StoreLaws.{Column, column-none, column-next, column-done}
+use Rattle.state.proofs.StoreLaws.{Column, column-none, column-next, column-done}
 use borrow.Author.Needs.{needs}
 use Rattle.asking.proofs.ask.mirror.Statement.{statement}
 use Rattle.asking.proofs.ask.mirror.Tie as tie

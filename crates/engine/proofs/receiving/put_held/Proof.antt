@@ -5,8 +5,11 @@ use mathlib.Core.Path.{_≡_, ap}
 use mathlib.Core.Bool.{cond}
 use native.Mathlib.Omega.{arith}
 use Rattle.state.proofs.LayoutLaws.{length-datum}
-use Rattle.engine.specs.Tables.{newly, datum, dataIn}
-use Rattle.engine.proofs.ReceiptLaws.{data-put, data-put-new, count-new}
+use Rattle.steps.specs.code.Rows.{newly}
+use Rattle.state.specs.code.Tables.{datum}
+use Rattle.state.specs.code.Tables.{dataIn}
+use Rattle.state.proofs.PutLaws.{data-put, data-put-new}
+use Rattle.steps.proofs.OutcomeLaws.{count-new}
 use borrow.Author.Needs.{needs}
 use Rattle.engine.proofs.receiving.put_held.Statement.{statement}
 use Rattle.engine.proofs.receiving.put_held.Tie as tie

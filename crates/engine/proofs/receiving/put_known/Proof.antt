@@ -1,6 +1,6 @@
 -- `engine::receiving::put_known` meets its contract: the entries, then zeros in the places left over (`entries-put`).
 use native.Mathlib.Omega.{arith}
-use Rattle.engine.proofs.ReceiptLaws.{entries-put}
+use Rattle.state.proofs.PutLaws.{entries-put}
 use borrow.Author.Needs.{needs}
 use Rattle.engine.proofs.receiving.put_known.Statement.{statement}
 use Rattle.engine.proofs.receiving.put_known.Tie as tie

@@ -8,9 +8,12 @@ use native.Mathlib.Omega.{arith}
 use lib.Dec.{ltb}
 use lib.ListN.{length}
 use Rattle.numbers.specs.Numbers.{Bytes, put, bytes}
-use Rattle.engine.specs.Tables.{newly, datum, dataIn, entriesIn, outcomeStore}
-use Rattle.engine.specs.Refusals.{tooMany}
-use Rattle.engine.proofs.ReceiptLaws.{many-counts, held-live, entries-live, length-outcome, state-put, few-counts, put-long}
+use Rattle.steps.specs.code.Rows.{newly, outcomeStore}
+use Rattle.state.specs.code.Tables.{datum, entriesIn}
+use Rattle.state.specs.code.Tables.{dataIn}
+use Rattle.steps.specs.Steps.{tooMany}
+use Rattle.steps.proofs.OutcomeLaws.{many-counts, held-live, entries-live, length-outcome, few-counts, put-long}
+use Rattle.engine.proofs.ReceiptLaws.{state-put}
 use borrow.Author.Needs.{needs}
 use Rattle.engine.proofs.receiving.put_outcome.Statement.{statement}
 use Rattle.engine.proofs.receiving.put_outcome.Tie as tie

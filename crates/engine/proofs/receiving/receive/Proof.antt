@@ -6,9 +6,10 @@ use native.Mathlib.Nat.{le-refl}
 use native.Mathlib.Omega.{arith}
 use Rattle.state.specs.Layout.{storeOf}
 use Rattle.state.proofs.StateLaws.{held-count-le, entry-count-le}
-use Rattle.engine.specs.Tables.{outcomeStore}
-use Rattle.engine.proofs.StoreLaws.{table-fresh, columns-fresh, entries-form, entries-table, data-rows, data-form, data-columns}
-use Rattle.engine.proofs.ReceiptLaws.{outcome-settled}
+use Rattle.steps.specs.code.Rows.{outcomeStore}
+use Rattle.state.proofs.StoreLaws.{table-fresh, columns-fresh, entries-form, entries-table}
+use Rattle.state.proofs.StoreLaws.{data-rows, data-form, data-columns}
+use Rattle.steps.proofs.OutcomeLaws.{outcome-settled}
 use borrow.Author.Needs.{needs}
 use Rattle.engine.proofs.receiving.receive.Statement.{statement}
 use Rattle.engine.proofs.receiving.receive.Tie as tie

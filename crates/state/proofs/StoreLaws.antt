@@ -1,0 +1,345 @@
+-- Moving data and entries between a state's bytes and flat arrays (`store`): the turns of its loops, and what the arrays hold of the bytes.
+-- The idea: `Column` says that a loop has filled the front of an array, and `Written` that it has stored elements of one size one behind the
+-- other; each has the laws `-none`, `-next` and `-done`. What stands in the arrays is then read off the equations that the contracts give.
+-- No contract cites this file. Assumes nothing.
+use Prim.Native.Nat.{ℕ, zero, suc, _+_, _*_, _-_, _≤_, _<_}
+use mathlib.Core.Path.{_≡_, refl, ap, _∙_}
+use mathlib.Core.Bool.{Bool, true, false}
+use mathlib.Core.List.{List, [], _∷_, _++_, append-assoc, append-nil}
+use mathlib.Core.Logic.{⊎-elim}
+use native.Mathlib.Nat.{zero-add, mul-le-mul-right, suc-mul, eq-or-lt-of-le}
+use native.Mathlib.Numerals.{add-one}
+use native.Mathlib.Omega.{arith}
+use native.Mathlib.Decide.{decLt}
+use lib.Dec.{T, leb→le, eqb, eqb→eq, eqb-refl}
+use lib.ListN.{length, getD, take, drop, set, length-append, length-take, length-drop, length-set, length-replicate, List·getD-append}
+use lib.Seq.{take-append-le, getD-append-add, getD-drop}
+use Rattle.numbers.specs.Numbers.{num, put, tab}
+use Rattle.numbers.proofs.NumberLaws.{length-put, put-then, put-front, length-tab, getD-tab, tab-next}
+use Rattle.predicates.specs.Lists.{all, keep}
+use Rattle.predicates.proofs.ListLaws.{both-l, both-r}
+use Rattle.state.specs.Layout.{datumPlace, entryPlace, heldCount, entryCount, zeros, joined, datumBytes, entryBytes, masksAt, rowAt, datumAt, entryAt, storeOf}
+use Rattle.state.specs.Form.{inForm, datumOk, termsFit}
+use Rattle.state.proofs.LayoutLaws.{all-tab, At, length-joined, at-joined, length-datum, length-entry}
+use Rattle.state.proofs.PutLaws.{joined-last}
+use Rattle.state.proofs.StateLaws.{datum-at-ok, length-datum-at, entry-at-ok, length-entry-at}
+use Rattle.state.specs.code.Tables.{Table, Columns, row, some, entriesIn, datum, datumIn}
+use Rattle.state.specs.code.Tables.{dataIn}
+use Rattle.numbers.proofs.NumberLaws.{tab-suc, tab-cong}
+use Rattle.predicates.proofs.ListLaws.{keep-append}
+use Rattle.state.proofs.RowLaws.{row-lent, row-empty}
+use Rattle.state.proofs.RowLaws.{row-full, table-room}
+
+-- ---- a loop that fills the front of an array
+
+-- the first i numbers of s are those of f; the others are as they were
+pub record Column (f : ℕ → ℕ) (i : ℕ) (s₀ s : List ℕ) : Type 0 where
+  pub long : length s ≡ length s₀
+  pub stored : s ≡ put 0 (tab i f) s₀
+
+pub column-none : (f : ℕ → ℕ) (s : List ℕ) → Column f 0 s s
+unfolding tab put
+column-none f s = record { long = refl; stored = refl }
+
+pub column-next : (f : ℕ → ℕ) (i v : ℕ) (s₀ s : List ℕ) → v ≡ f i → Column f i s₀ s → Column f (i + 1) s₀ (set s i v)
+column-next f i v s₀ s e w =
+    let place : i ≡ 0 + i = omega arith in
+    record { long = length-set s i v ∙ w .long; stored = tab-next f 0 i i v s₀ s place e (w .stored) }
+
+pub column-done : (f : ℕ → ℕ) (n i : ℕ) (s₀ s : List ℕ) → i ≤ n → n ≤ i → n ≤ length s₀ → Column f i s₀ s → s ≡ tab n f ++ drop n s₀
+column-done f n i s₀ s h k l w =
+    let done : i ≡ n = omega arith in
+    (rw done at (w .stored)) ∙ put-front n (tab n f) s₀ (length-tab n f) l
+
+-- ---- a loop that stores elements of one size
+
+-- the r elements xs stand in s from index at on; all else is as it was
+pub record Written {A : Type 0} (f : A → List ℕ) (size at : ℕ) (xs : List A) (r : ℕ) (s₀ s : List ℕ) : Type 0 where
+  pub counted : r ≡ length xs
+  pub sized : length (joined f xs) ≡ r * size
+  pub long : length s ≡ length s₀
+  pub stored : s ≡ put at (joined f xs) s₀
+
+module _ {A : Type 0} (f : A → List ℕ) where
+  module _ (size at : ℕ) where
+    pub written-none : (s : List ℕ) → Written f size at [] 0 s s
+    unfolding joined put
+    written-none s = record { counted = refl; sized = omega arith; long = refl; stored = refl }
+
+    pub written-next : (xs : List A) (x : A) (r k : ℕ) (s₀ s u : List ℕ) → length (f x) ≡ size → k ≡ at + r * size → u ≡ put k (f x) s
+        → Written f size at xs r s₀ s → Written f size at (xs ++ (x ∷ [])) (r + 1) s₀ u
+    written-next xs x r k s₀ s u e p q w =
+        record {
+          counted = omega (arith, w .counted, length-append xs (x ∷ []));
+          sized = rw (joined-last f xs x, add-one, suc-mul) (omega (arith, length-append (joined f xs) (f x), w .sized));
+          long = ap length q ∙ length-put k (f x) s ∙ w .long;
+          stored = rw (joined-last f xs x) (put-then (r * size) at k (joined f xs) (f x) s₀ s u (w .sized) p (w .stored) q);
+        }
+
+-- ---- the masks of rows, read
+
+-- the masks of the first i rows stand one row behind the other
+abbrev pub Masks : ℕ → (ℕ → ℕ) → List ℕ → ℕ → List ℕ → List ℕ → Type 0
+Masks width place s i m₀ m = Written (λ p. p) width 0 (tab i (λ k. masksAt width (place k) s)) i m₀ m
+
+length-masks : (width at : ℕ) (s : List ℕ) → length (masksAt width at s) ≡ width
+unfolding masksAt
+length-masks width at s = length-tab width (λ j. num (at + 4 + j * 4) 4 s)
+
+module _ (width : ℕ) (place : ℕ → ℕ) (s : List ℕ) where
+  pub masks-none : (m : List ℕ) → Masks width place s 0 m m
+  unfolding tab
+  masks-none m = written-none (λ p. p) width 0 m
+
+  pub masks-next : (i : ℕ) (m₀ m u : List ℕ) → u ≡ put (i * width) (masksAt width (place i) s) m → Masks width place s i m₀ m
+      → Masks width place s (i + 1) m₀ u
+  masks-next i m₀ m u q w =
+      rw (tab-suc i (λ k. masksAt width (place k) s))
+      (written-next (λ p. p) width 0 (tab i (λ k. masksAt width (place k) s)) (masksAt width (place i) s) i (i * width) m₀ m u
+      (length-masks width (place i) s) (omega arith) q w)
+
+  pub masks-done : (n i : ℕ) (m₀ m : List ℕ) → i ≤ n → n ≤ i → n * width ≤ length m₀ → Masks width place s i m₀ m
+      → m ≡ joined (λ p. p) (tab n (λ k. masksAt width (place k) s)) ++ drop (n * width) m₀
+  masks-done n i m₀ m h k l w =
+      let done : i ≡ n = omega arith in
+      let z : Masks width place s n m₀ m = rw done at w in
+      z .stored ∙ put-front (n * width) (joined (λ p. p) (tab n (λ k. masksAt width (place k) s))) m₀ (z .sized) l
+
+-- ---- the rows that have terms, written
+
+module _ {A : Type 0} (g : A → Bool) (r : ℕ → A) where
+  pub kept-next : (i : ℕ) → g (r i) ≡ true → keep g (tab (i + 1) r) ≡ keep g (tab i r) ++ (r i ∷ [])
+  kept-next i e = rw (tab-suc i r, keep-append g (tab i r) (r i ∷ []), e)
+
+  pub kept-skip : (i : ℕ) → g (r i) ≡ false → keep g (tab (i + 1) r) ≡ keep g (tab i r)
+  kept-skip i e = rw (tab-suc i r, keep-append g (tab i r) (r i ∷ []), e) (append-nil (keep g (tab i r)))
+
+  -- fewer rows, no more kept
+  pub kept-le : (n i : ℕ) → i ≤ n → length (keep g (tab i r)) ≤ length (keep g (tab n r))
+  unfolding tab
+  kept-le zero i h = let e : i ≡ 0 = omega arith in rw e (omega arith)
+  kept-le (suc n) i h =
+      let more = ap length (keep-append g (tab n r) (r n ∷ [])) ∙ length-append (keep g (tab n r)) (keep g (r n ∷ [])) in
+      ⊎-elim (λ (e : i ≡ suc n). rw e (omega arith)) (λ (k : i < suc n). omega (arith, more, kept-le n i (omega arith))) (eq-or-lt-of-le h)
+
+length-row-le : (w i : ℕ) (counts masks : List ℕ) → getD counts i 0 ≤ w → length (row w counts masks i) ≤ w
+unfolding row
+length-row-le w i counts masks h = omega (arith, length-take (getD counts i 0) (drop (i * w) masks))
+
+-- a row of the table, as the part of the array that is lent
+pub length-part-le : (w n i : ℕ) (counts masks : List ℕ) → Table w n counts masks
+    → length (take (i * w + getD counts i 0 - i * w) (drop (i * w) masks)) ≤ w
+length-part-le w n i counts masks t = rw (row-lent w i counts masks) (length-row-le w i counts masks (t .narrow i))
+
+-- a row of the table has terms, or it has been given up
+module _ (w n i : ℕ) (counts masks : List ℕ) (t : Table w n counts masks) (h : i < n) where
+  row-live : 0 < getD counts i 0 → some (row w counts masks i) ≡ true
+  row-live k = row-full w i counts masks (λ e. omega arith) (table-room w n counts masks t i h)
+
+  row-gone : getD counts i 0 ≤ 0 → some (row w counts masks i) ≡ false
+  row-gone k = row-empty w i counts masks (omega arith)
+
+-- a turn of the loop that writes entries
+module _ (n i : ℕ) (counts masks : List ℕ) (t : Table 16 n counts masks) (h : i < n) (r : ℕ) (s₀ s : List ℕ)
+    (w : Written entryBytes 68 856 (entriesIn i counts masks) r s₀ s) where
+  pub entries-next : (u : List ℕ) → 0 < getD counts i 0
+      → u ≡ put (entryPlace r) (entryBytes (take (i * 16 + getD counts i 0 - i * 16) (drop (i * 16) masks))) s
+      → Written entryBytes 68 856 (entriesIn (i + 1) counts masks) (r + 1) s₀ u
+  unfolding entriesIn
+  entries-next u k q =
+      rw (kept-next some (row 16 counts masks) i (row-live 16 n i counts masks t h k))
+      (written-next entryBytes 68 856 (entriesIn i counts masks) (row 16 counts masks i) r (entryPlace r) s₀ s u
+      (length-entry (row 16 counts masks i) (length-row-le 16 i counts masks (t .narrow i))) refl (rw (row-lent 16 i counts masks) at q) w)
+
+  pub entries-skip : getD counts i 0 ≤ 0 → Written entryBytes 68 856 (entriesIn (i + 1) counts masks) r s₀ s
+  unfolding entriesIn
+  entries-skip k = rw (kept-skip some (row 16 counts masks) i (row-gone 16 n i counts masks t h k)) w
+
+  -- there is room for one more
+  pub entries-room : (m : ℕ) → 0 < getD counts i 0 → length (entriesIn n counts masks) ≤ m → r < m
+  unfolding entriesIn
+  entries-room m k l =
+      omega (
+        arith,
+        l,
+        w .counted,
+        kept-le some (row 16 counts masks) n (i + 1) (omega arith),
+        ap length (kept-next some (row 16 counts masks) i (row-live 16 n i counts masks t h k)),
+        length-append (keep some (tab i (row 16 counts masks))) (row 16 counts masks i ∷ []),
+      )
+
+-- a turn of the loop that writes data
+module _ (n i : ℕ) (lefts rights counts masks : List ℕ) (t : Columns n lefts rights counts masks) (h : i < n) (r : ℕ) (s₀ s : List ℕ)
+    (w : Written datumBytes 52 24 (dataIn i lefts rights counts masks) r s₀ s) where
+  pub data-next : (u : List ℕ) → 0 < getD counts i 0
+      → u ≡ put (datumPlace r) (datumBytes (datum (getD lefts i 0) (getD rights i 0) (take (i * 8 + getD counts i 0 - i * 8) (drop (i * 8) masks)))) s
+      → Written datumBytes 52 24 (dataIn (i + 1) lefts rights counts masks) (r + 1) s₀ u
+  unfolding dataIn datumIn
+  data-next u k q =
+      rw (kept-next (λ d. some (d .terms)) (datumIn lefts rights counts masks) i (row-live 8 n i counts masks (t .table) h k))
+      (written-next datumBytes 52 24 (dataIn i lefts rights counts masks) (datumIn lefts rights counts masks i) r (datumPlace r) s₀ s u
+      (length-datum (datumIn lefts rights counts masks i) (length-row-le 8 i counts masks (t .table .narrow i))) refl
+      (rw (row-lent 8 i counts masks) at q) w)
+
+  pub data-skip : getD counts i 0 ≤ 0 → Written datumBytes 52 24 (dataIn (i + 1) lefts rights counts masks) r s₀ s
+  unfolding dataIn datumIn
+  data-skip k = rw (kept-skip (λ d. some (d .terms)) (datumIn lefts rights counts masks) i (row-gone 8 n i counts masks (t .table) h k)) w
+
+-- ---- what the arrays hold of the bytes
+
+-- the part of an array that was filled, and the rest
+pub column-front : (f : ℕ → ℕ) (n i : ℕ) (s₀ s : List ℕ) → s ≡ tab n f ++ drop n s₀ → i < n → getD s i 0 ≡ f i
+column-front f n i s₀ s e h =
+    ap (λ l. getD l i 0) e ∙ List·getD-append (tab n f) (drop n s₀) 0 i (omega (arith, length-tab n f)) ∙ getD-tab n i f 0 h
+
+column-rest : (f : ℕ → ℕ) (n i : ℕ) (s₀ s : List ℕ) → s ≡ tab n f ++ drop n s₀ → n ≤ i → getD s i 0 ≡ getD s₀ i 0
+column-rest f n i s₀ s e h =
+    let place : i ≡ length (tab n f) + (i - n) = omega (arith, length-tab n f) in
+    let back : n + (i - n) ≡ i = omega arith in
+    ap (λ l. getD l i 0) e ∙ ap (λ (k : ℕ). getD (tab n f ++ drop n s₀) k 0) place ∙ getD-append-add (tab n f) (drop n s₀) (i - n) 0
+    ∙ getD-drop n s₀ (i - n) 0 ∙ ap (λ (k : ℕ). getD s₀ k 0) back
+
+pub length-column : (f : ℕ → ℕ) (n : ℕ) (s₀ s : List ℕ) → s ≡ tab n f ++ drop n s₀ → n ≤ length s₀ → length s ≡ length s₀
+length-column f n s₀ s e h = ap length e ∙ rw (length-append, length-tab, length-drop) (omega arith)
+
+-- n rows that were read, of at most `width` terms
+module _ (width n : ℕ) (place : ℕ → ℕ) (s c₀ m₀ c m : List ℕ) (p : c ≡ tab n (λ i. num (place i) 4 s) ++ drop n c₀)
+    (q : m ≡ joined (λ l. l) (tab n (λ i. masksAt width (place i) s)) ++ drop (n * width) m₀)
+    (few : (i : ℕ) → i < n → num (place i) 4 s ≤ width) where
+  masks-wide : T (all (λ l. eqb (length l) width) (tab n (λ i. masksAt width (place i) s)))
+  masks-wide =
+      all-tab (λ l. eqb (length l) width) n (λ i. masksAt width (place i) s) (λ i h. rw (length-masks width (place i) s) (eqb-refl width))
+
+  pub rows-read : (i : ℕ) → i < n → row width c m i ≡ rowAt width (place i) s
+  unfolding row rowAt
+  rows-read i h =
+      let f : ℕ → List ℕ = λ k. masksAt width (place k) s in
+      let there : At (i * width) (getD (tab n f) i []) m =
+      rw zero-add at (at-joined (λ l. l) (λ l. eqb (length l) width) width (λ l t. eqb→eq (length l) width t) [] 0 i (tab n f) m masks-wide
+      (omega (arith, length-tab n f)) (drop (n * width) m₀, q)) in
+      rw (column-front (λ k. num (place k) 4 s) n i c₀ c p h, there .1, getD-tab n i f [] h)
+      (take-append-le (num (place i) 4 s) (f i) (there .0) (omega (arith, few i h, length-masks width (place i) s)))
+
+  -- the array is as long as it was
+  pub length-read : n * width ≤ length m₀ → length m ≡ length m₀
+  length-read h =
+      let front : length (joined (λ l. l) (tab n (λ i. masksAt width (place i) s))) ≡ n * width =
+      length-joined (λ l. l) (λ l. eqb (length l) width) width (λ l t. eqb→eq (length l) width t) _ masks-wide ∙ rw length-tab in
+      ap length q ∙ rw (length-append, length-drop) (omega arith)
+
+  -- the table that was lent is one still
+  pub table-read : (k : ℕ) → n ≤ k → Table width k c₀ m₀ → Table width k c m
+  table-read k h t =
+      record {
+        counted = omega (arith, t .counted, length-column (λ i. num (place i) 4 s) n c₀ c p (omega (arith, t .counted)));
+        long = omega (arith, t .long, length-read (omega (arith, mul-le-mul-right width h, t .long)));
+        narrow = λ i. small i (decLt i n);
+      }
+    where
+      small : (i : ℕ) → Dec (i < n) → getD c i 0 ≤ width
+      small i (yes l) = omega (arith, column-front (λ j. num (place j) 4 s) n i c₀ c p l, few i l)
+      small i (no l) = omega (arith, column-rest (λ j. num (place j) 4 s) n i c₀ c p (omega arith), t .narrow i)
+
+-- n data that were read
+module _ (n : ℕ) (s l₀ r₀ c₀ m₀ l r c m : List ℕ) (e : l ≡ tab n (λ i. num (datumPlace i) 8 s) ++ drop n l₀)
+    (f : r ≡ tab n (λ i. num (datumPlace i + 8) 8 s) ++ drop n r₀) (p : c ≡ tab n (λ i. num (datumPlace i + 16) 4 s) ++ drop n c₀)
+    (q : m ≡ joined (λ x. x) (tab n (λ i. masksAt 8 (datumPlace i + 16) s)) ++ drop (n * 8) m₀)
+    (few : (i : ℕ) → i < n → num (datumPlace i + 16) 4 s ≤ 8) where
+  pub data-read : tab n (datumIn l r c m) ≡ tab n (datumAt s)
+  unfolding datumIn datumAt
+  data-read =
+      tab-cong n (datumIn l r c m) (datumAt s)
+      (λ i h. rw (
+        column-front (λ k. num (datumPlace k) 8 s) n i l₀ l e h,
+        column-front (λ k. num (datumPlace k + 8) 8 s) n i r₀ r f h,
+        rows-read 8 n (λ k. datumPlace k + 16) s c₀ m₀ c m p q few i h,
+      ))
+
+  pub columns-read : (k : ℕ) → n ≤ k → Columns k l₀ r₀ c₀ m₀ → Columns k l r c m
+  columns-read k h t =
+      record {
+        table = table-read 8 n (λ i. datumPlace i + 16) s c₀ m₀ c m p q few k h (t .table);
+        lefts-long = omega (arith, t .lefts-long, length-column (λ i. num (datumPlace i) 8 s) n l₀ l e (omega (arith, t .lefts-long)));
+        rights-long = omega (arith, t .rights-long, length-column (λ i. num (datumPlace i + 8) 8 s) n r₀ r f (omega (arith, t .rights-long)));
+      }
+
+-- ---- fresh arrays
+
+zero-at : (n i : ℕ) → getD (zeros n) i 0 ≡ 0
+zero-at zero i = refl
+zero-at (suc n) zero = refl
+zero-at (suc n) (suc i) = zero-at n i
+
+length-zeros : (n : ℕ) → length (zeros n) ≡ n
+length-zeros n = length-replicate n 0
+
+pub table-fresh : (w n j k : ℕ) → n ≤ j → n * w ≤ k → Table w n (zeros j) (zeros k)
+table-fresh w n j k g h =
+    record { counted = omega (arith, length-zeros j); long = omega (arith, length-zeros k); narrow = λ i. omega (arith, zero-at j i) }
+
+pub columns-fresh : (n a b j k : ℕ) → n ≤ a → n ≤ b → n ≤ j → n * 8 ≤ k → Columns n (zeros a) (zeros b) (zeros j) (zeros k)
+columns-fresh n a b j k e f g h =
+    record { table = table-fresh 8 n j k g h; lefts-long = omega (arith, length-zeros a); rights-long = omega (arith, length-zeros b) }
+
+-- ---- a state in form
+
+module _ {A : Type 0} where
+  keep-all : (f : A → Bool) (xs : List A) → T (all f xs) → keep f xs ≡ xs
+  keep-all f [] t = refl
+  keep-all f (x ∷ xs) t = rw (true-of (f x) (both-l (f x) (all f xs) t), keep-all f xs (both-r (f x) (all f xs) t))
+    where
+      true-of : (b : Bool) → T b → b ≡ true
+      true-of true t = refl
+
+-- a predicate that fits has terms
+fits-some : (own width : ℕ) (p : List ℕ) → T (termsFit own width p) → T (some p)
+unfolding termsFit some
+fits-some own width [] t = t
+fits-some own width (x ∷ p) t = tt
+
+module _ (n : ℕ) (s : List ℕ) (t : T (inForm s)) (a : n ≡ entryCount s) (c₀ m₀ c m : List ℕ)
+    (p : c ≡ tab n (λ i. num (entryPlace i) 4 s) ++ drop n c₀) (q : m ≡ joined (λ x. x) (tab n (λ i. masksAt 16 (entryPlace i) s)) ++ drop (n * 16) m₀) where
+  entries-few : (i : ℕ) → i < n → num (entryPlace i) 4 s ≤ 16
+  unfolding termsFit
+  entries-few i h =
+      let k : i < entryCount s = omega arith in
+      let ok = entry-at-ok s t i k in
+      omega (arith, leb→le (length (entryAt s i)) 16 (search (both-l, both-r) depth 9), length-entry-at s t i k)
+
+  -- the entries that were read are those of the state
+  pub entries-form : entriesIn n c m ≡ storeOf s .entries
+  unfolding entriesIn storeOf entryAt
+  entries-form =
+      let read : tab n (row 16 c m) ≡ tab n (entryAt s) =
+      tab-cong n (row 16 c m) (entryAt s) (rows-read 16 n entryPlace s c₀ m₀ c m p q entries-few) in
+      rw (read, a)
+      (keep-all some (tab (entryCount s) (entryAt s)) (all-tab some (entryCount s) (entryAt s) (λ i h. fits-some (num 0 4 s) 16 (entryAt s i) (entry-at-ok s t i h))))
+
+  pub entries-table : (k : ℕ) → n ≤ k → Table 16 k c₀ m₀ → Table 16 k c m
+  entries-table = table-read 16 n entryPlace s c₀ m₀ c m p q entries-few
+
+module _ (n : ℕ) (s : List ℕ) (t : T (inForm s)) (a : n ≡ heldCount s) (l₀ r₀ c₀ m₀ l r c m : List ℕ)
+    (e : l ≡ tab n (λ i. num (datumPlace i) 8 s) ++ drop n l₀) (f : r ≡ tab n (λ i. num (datumPlace i + 8) 8 s) ++ drop n r₀)
+    (p : c ≡ tab n (λ i. num (datumPlace i + 16) 4 s) ++ drop n c₀)
+    (q : m ≡ joined (λ x. x) (tab n (λ i. masksAt 8 (datumPlace i + 16) s)) ++ drop (n * 8) m₀) where
+  data-few : (i : ℕ) → i < n → num (datumPlace i + 16) 4 s ≤ 8
+  unfolding datumOk termsFit
+  data-few i h =
+      let k : i < heldCount s = omega arith in
+      let ok = datum-at-ok s t i k in
+      omega (arith, leb→le (length (datumAt s i .terms)) 8 (search (both-l, both-r) depth 9), length-datum-at s t i k)
+
+  -- the rows are the held data, and none has been given up
+  pub data-rows : tab n (datumIn l r c m) ≡ storeOf s .held
+  unfolding storeOf
+  data-rows = rw (data-read n s l₀ r₀ c₀ m₀ l r c m e f p q data-few, a)
+
+  pub data-form : dataIn n l r c m ≡ storeOf s .held
+  unfolding dataIn storeOf datumOk
+  data-form =
+      let some-terms : (i : ℕ) → i < heldCount s → T (some (datumAt s i .terms)) =
+      λ i h. let ok = datum-at-ok s t i h in fits-some (num 0 4 s) 8 (datumAt s i .terms) (search (both-l, both-r) depth 9) in
+      rw data-rows (keep-all (λ d. some (d .terms)) (tab (heldCount s) (datumAt s)) (all-tab (λ d. some (d .terms)) (heldCount s) (datumAt s) some-terms))
+
+  pub data-columns : (k : ℕ) → n ≤ k → Columns k l₀ r₀ c₀ m₀ → Columns k l r c m
+  data-columns = columns-read n s l₀ r₀ c₀ m₀ l r c m e f p q data-few

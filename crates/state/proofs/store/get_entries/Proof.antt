@@ -1,0 +1,51 @@
+-- `engine::store::get_entries` meets its contract: turn i stores the count and the masks of entry i.
+-- Invariant: both arrays are what they were, with what the first i entries have stored at their fronts. Measure: the entries still to read.
+use Prim.Native.Nat.{_-_, _≤_}
+use Rattle.numbers.specs.Numbers.{num}
+use Rattle.state.specs.Layout.{entryPlace}
+use Rattle.state.proofs.StoreLaws.{Column, column-none, column-next, column-done, Masks, masks-none, masks-next, masks-done}
+use borrow.Author.Needs.{needs}
+use Rattle.state.proofs.store.get_entries.Statement.{statement}
+use Rattle.state.proofs.store.get_entries.Tie as tie
+
+abbrev Inv-loop : tie.InvT-loop
+Inv-loop s n counts₀ masks₀ i₀ counts masks i = (i ≤ n) × Column (λ k. num (entryPlace k) 4 s) i counts₀ counts × Masks 16 entryPlace s i masks₀ masks
+
+abbrev μ-loop : tie.MeasureT-loop
+μ-loop s n counts₀ masks₀ i₀ counts masks i = n - i
+
+loop-holds : tie.Need-loop-holds Inv-loop μ-loop
+loop-holds c = (search needs, column-none _ _, masks-none _ _ _ _)
+
+loop-again : tie.Need-loop-again Inv-loop μ-loop
+loop-again c =
+    let at-masks = c .before .before in
+    let at-count = at-masks .before .before in
+    let head = at-count .before .before .loop in
+    (search needs, column-next _ _ _ _ _ (at-count .get32 .ensures .0) (head .inv .1), masks-next 16 entryPlace _ (head .i) _ _ _ (at-masks .get-masks .ensures) (head .inv .2))
+
+returns : tie.Need-returns Inv-loop μ-loop
+returns c =
+    let head = c .before .loop in
+    (column-done _ _ _ _ _ (head .inv .0) (c .loop-test .left) (search needs) (head .inv .1), masks-done 16 entryPlace _ _ _ _ _ (head .inv .0) (c .loop-test .left) (search needs) (head .inv .2))
+
+pub get-entries-spec : {M : Type 1} → statement M
+get-entries-spec =
+    tie.close
+    (tie.spec
+    Inv-loop
+    μ-loop
+    loop-holds
+    (λ c. search needs)
+    (λ c. search needs)
+    (λ c κs. search needs)
+    (λ c. search needs)
+    (λ c. search needs)
+    (λ c. search needs)
+    (λ c κs. search needs)
+    (λ c. search needs)
+    (λ c. search needs)
+    loop-again
+    (λ c. search needs)
+    (λ c. search needs)
+    returns)

@@ -1,0 +1,323 @@
+-- Tables of predicates in flat arrays: what the loops over them find, give up and put last, as facts on the lists that they hold.
+-- The idea: a row that is given up is passed over and no other row moves, so a table holds the list of the rows that have terms, and the mark of
+-- a row stays right until the row is gone. No contract cites this file. Assumes nothing.
+use Prim.Native.Nat.{ℕ, zero, suc, _+_, _*_, _-_, _^_, _≤_, _<_}
+use mathlib.Core.Path.{_≡_, refl, sym, ap, ap₂, subst, _∙_}
+use mathlib.Core.Bool.{Bool, true, false, _&&_, _||_, not, cond, and-false, or-assoc, or-false, or-true}
+use mathlib.Core.List.{List, [], _∷_, _++_, append-assoc}
+use native.Mathlib.Nat.{mul-le-mul-right, suc-mul}
+use native.Mathlib.Numerals.{add-one}
+use native.Mathlib.Omega.{arith}
+use native.Mathlib.Decide.{ℕ-discrete, decLt}
+use lib.ListN.{length, getD, take, drop, set, length-append, length-drop, length-set, List·getD-append}
+use lib.Seq.{sets, sets-eq, length-sets, take-at, drop-at, take-append-le, drop-append-le, length-take-le, getD-drop, getD-append-add, set-at, getD-set-same, getD-set-other, drop-cons}
+use Rattle.names.specs.Sets.{subset}
+use Rattle.numbers.specs.Numbers.{tab}
+use Rattle.numbers.proofs.NumberLaws.{length-tab, getD-tab, tab-cong, tab-suc}
+use Rattle.predicates.specs.Lists.{any, keep}
+use Rattle.predicates.specs.Predicates.{holds, implies, markOf}
+use Rattle.predicates.proofs.MaskLaws.{implies-not}
+use Rattle.steps.specs.Steps.{explained, learn}
+use Rattle.state.specs.code.Tables.{Table, row, some, entriesIn}
+use Rattle.steps.specs.code.Rows.{Marked, givenUp}
+use Rattle.predicates.proofs.ListLaws.{keep-append, any-append}
+use Rattle.state.proofs.RowLaws.{row-empty}
+
+-- ---- a loop that looks for a row
+
+-- some row below n passes
+unfoldable pub anyBelow : ℕ → (ℕ → Bool) → Bool
+anyBelow zero f = false
+anyBelow (suc n) f = anyBelow n f || f n
+
+pub any-below-next : (n : ℕ) (f : ℕ → Bool) → anyBelow n f ≡ false → f n ≡ false → anyBelow (n + 1) f ≡ false
+unfolding anyBelow
+any-below-next n f e h = rw (add-one, e, h)
+
+pub any-below-none : (n : ℕ) (f : ℕ → Bool) → ((i : ℕ) → i < n → f i ≡ false) → anyBelow n f ≡ false
+unfolding anyBelow
+any-below-none zero f h = refl
+any-below-none (suc n) f h = rw (any-below-none n f (λ i p. h i (omega arith)), h n (omega arith))
+
+pub any-below-here : (n i : ℕ) (f : ℕ → Bool) → i < n → f i ≡ true → anyBelow n f ≡ true
+unfolding anyBelow
+any-below-here zero i f h e = absurd (omega arith)
+any-below-here (suc n) i f h e = go (λ p. any-below-here n i f p e) (ℕ-discrete i n)
+  where
+    go : (i < n → anyBelow n f ≡ true) → Dec (i ≡ n) → anyBelow n f || f n ≡ true
+    go rest (yes p) = ap (λ (b : Bool). anyBelow n f || b) (ap f (sym p) ∙ e) ∙ or-true (anyBelow n f)
+    go rest (no p) = ap (λ (b : Bool). b || f n) (rest (omega arith))
+
+-- a test of the rows in use, row by row
+pub any-kept : {A : Type 0} (g f : A → Bool) (n : ℕ) (r : ℕ → A) → any f (keep g (tab n r)) ≡ anyBelow n (λ i. g (r i) && f (r i))
+unfolding tab anyBelow
+any-kept g f zero r = refl
+any-kept g f (suc n) r =
+    ap (λ l. any f l) (keep-append g (tab n r) (r n ∷ [])) ∙ any-append f (keep g (tab n r)) (keep g (r n ∷ []))
+    ∙ ap₂ (λ (a b : Bool). a || b) (any-kept g f n r) (last (g (r n)))
+  where
+    last : (b : Bool) → any f (cond b (r n ∷ []) []) ≡ b && f (r n)
+    last true = or-false (f (r n))
+    last false = refl
+
+-- ---- a loop that gives rows up
+
+module _ (test : ℕ → Bool) (counts : List ℕ) where
+  pub given-up-none : givenUp 0 test counts ≡ counts
+  unfolding givenUp tab
+  given-up-none = refl
+
+  -- a row that has not been reached is as it was
+  pub given-up-at : (i : ℕ) → getD (givenUp i test counts) i 0 ≡ getD counts i 0
+  unfolding givenUp
+  given-up-at i =
+      let f : ℕ → ℕ = λ k. cond (test k) 0 (getD counts k 0) in
+      let e : i ≡ length (tab i f) + 0 = omega (arith, length-tab i f) in
+      let z : i + 0 ≡ i = omega arith in
+      ap (λ (k : ℕ). getD (tab i f ++ drop i counts) k 0) e ∙ getD-append-add (tab i f) (drop i counts) 0 0
+      ∙ getD-drop i counts 0 0 ∙ ap (λ (k : ℕ). getD counts k 0) z
+
+  pub length-given-up : (i : ℕ) → i ≤ length counts → length (givenUp i test counts) ≡ length counts
+  unfolding givenUp
+  length-given-up i h =
+      let f : ℕ → ℕ = λ k. cond (test k) 0 (getD counts k 0) in
+      omega (arith, length-append (tab i f) (drop i counts), length-tab i f, length-drop i counts)
+
+  -- the next row stays, or is given up
+  pub given-up-next : (i : ℕ) → i < length counts → givenUp (i + 1) test counts ≡ cond (test i) (set (givenUp i test counts) i 0) (givenUp i test counts)
+  unfolding givenUp
+  given-up-next i h = go (test i) refl
+    where
+      f : ℕ → ℕ
+      f k = cond (test k) 0 (getD counts k 0)
+
+      opened : tab (i + 1) f ++ drop (i + 1) counts ≡ tab i f ++ (f i ∷ drop (i + 1) counts)
+      opened = ap (λ (l : List ℕ). l ++ drop (i + 1) counts) (tab-suc i f) ∙ append-assoc (tab i f) (f i ∷ []) (drop (i + 1) counts)
+
+      front : tab i f ++ drop i counts ≡ tab i f ++ (getD counts i 0 ∷ drop (i + 1) counts)
+      front = ap (λ (l : List ℕ). tab i f ++ l) (drop-cons counts i 0 h ∙ ap (λ (k : ℕ). getD counts i 0 ∷ drop k counts) (sym (add-one i)))
+
+      go : (b : Bool) → test i ≡ b → tab (i + 1) f ++ drop (i + 1) counts ≡ cond b (set (tab i f ++ drop i counts) i 0) (tab i f ++ drop i counts)
+      go true e =
+          opened ∙ ap (λ (x : ℕ). tab i f ++ (x ∷ drop (i + 1) counts)) (ap (λ (b : Bool). cond b 0 (getD counts i 0)) e)
+          ∙ sym (ap (λ (l : List ℕ). set l i 0) front ∙ set-at (tab i f) (getD counts i 0) (drop (i + 1) counts) 0 i (length-tab i f))
+      go false e = opened ∙ ap (λ (x : ℕ). tab i f ++ (x ∷ drop (i + 1) counts)) (ap (λ (b : Bool). cond b 0 (getD counts i 0)) e) ∙ sym front
+
+  -- the count of a row afterwards
+  pub given-up-count : (n i : ℕ) → i < n → getD (givenUp n test counts) i 0 ≡ cond (test i) 0 (getD counts i 0)
+  unfolding givenUp
+  given-up-count n i h =
+      let f : ℕ → ℕ = λ k. cond (test k) 0 (getD counts k 0) in
+      List·getD-append (tab n f) (drop n counts) 0 i (omega (arith, length-tab n f)) ∙ getD-tab n i f 0 h
+
+-- ---- rows in use
+
+-- an empty predicate in place of each that passes the test: those that pass are gone
+pub keep-emptied : (t : List ℕ → Bool) (n : ℕ) (r : ℕ → List ℕ) → keep some (tab n (λ i. cond (t (r i)) [] (r i))) ≡ keep (λ p. not (t p)) (keep some (tab n r))
+unfolding tab some
+keep-emptied t zero r = refl
+keep-emptied t (suc n) r =
+    keep-append some (tab n (λ i. cond (t (r i)) [] (r i))) (cond (t (r n)) [] (r n) ∷ [])
+    ∙ ap₂ (λ (a b : List (List ℕ)). a ++ b) (keep-emptied t n r) (last (r n) (t (r n)) refl)
+    ∙ sym (ap (λ l. keep (λ p. not (t p)) l) (keep-append some (tab n r) (r n ∷ [])) ∙ keep-append (λ p. not (t p)) (keep some (tab n r)) (keep some (r n ∷ [])))
+  where
+    last : (p : List ℕ) (b : Bool) → t p ≡ b → keep some (cond b [] p ∷ []) ≡ keep (λ q. not (t q)) (keep some (p ∷ []))
+    last [] true e = refl
+    last [] false e = refl
+    last (u ∷ p) true e = rw e
+    last (u ∷ p) false e = rw e
+
+-- the row of a count that is zero or as it was
+row-cond : (w : ℕ) (b : Bool) (counts c masks : List ℕ) (i : ℕ) → getD c i 0 ≡ cond b 0 (getD counts i 0) → row w c masks i ≡ cond b [] (row w counts masks i)
+unfolding row
+row-cond w true counts c masks i e = rw e
+row-cond w false counts c masks i e = rw e
+
+-- the rows given up are those that pass
+pub rows-given-up : (w n : ℕ) (t : List ℕ → Bool) (counts masks : List ℕ) →
+    keep some (tab n (row w (givenUp n (λ i. t (row w counts masks i)) counts) masks)) ≡ keep (λ p. not (t p)) (keep some (tab n (row w counts masks)))
+rows-given-up w n t counts masks =
+    ap (λ l. keep some l)
+    (tab-cong n (row w (givenUp n (λ i. t (row w counts masks i)) counts) masks) (λ i. cond (t (row w counts masks i)) [] (row w counts masks i))
+    (λ i h. row-cond w (t (row w counts masks i)) counts (givenUp n (λ k. t (row w counts masks k)) counts) masks i (given-up-count (λ k. t (row w counts masks k)) counts n i h)))
+    ∙ keep-emptied t n (row w counts masks)
+
+-- a row that is put behind the others
+module _ (w n : ℕ) (counts masks e : List ℕ) (t : Table w n counts masks) (k : n < length counts) (l : n * w + length e ≤ length masks) where
+  rows-before : (i : ℕ) → i < n → row w (set counts n (length e)) (sets masks (n * w) e) i ≡ row w counts masks i
+  unfolding row
+  rows-before i h =
+      let c = getD counts i 0 in
+      let same : getD (set counts n (length e)) i 0 ≡ c = getD-set-other counts n i (length e) 0 (λ p. omega arith) in
+      let small = t .narrow i in
+      let near : i * w + w ≤ n * w = omega (arith, mul-le-mul-right w h, suc-mul i w) in
+      let parts : sets masks (n * w) e ≡ take (n * w) masks ++ (e ++ drop (n * w + length e) masks) =
+      sets-eq e masks (n * w) l ∙ append-assoc (take (n * w) masks) e (drop (n * w + length e) masks) in
+      let m : length (take (n * w) masks) ≡ n * w = length-take-le (n * w) masks (omega arith) in
+      let front : take c (drop (i * w) (sets masks (n * w) e)) ≡ take c (drop (i * w) (take (n * w) masks)) =
+      ap (λ (x : List ℕ). take c (drop (i * w) x)) parts
+      ∙ ap (λ (x : List ℕ). take c x) (drop-append-le (i * w) (take (n * w) masks) (e ++ drop (n * w + length e) masks) (omega arith))
+      ∙ take-append-le c (drop (i * w) (take (n * w) masks)) (e ++ drop (n * w + length e) masks) (omega (arith, length-drop (i * w) (take (n * w) masks))) in
+      let back : take c (drop (i * w) masks) ≡ take c (drop (i * w) (take (n * w) masks)) =
+      ap (λ (x : List ℕ). take c (drop (i * w) x)) (sym (lib.ListN.take-append-drop (n * w) masks))
+      ∙ ap (λ (x : List ℕ). take c x) (drop-append-le (i * w) (take (n * w) masks) (drop (n * w) masks) (omega arith))
+      ∙ take-append-le c (drop (i * w) (take (n * w) masks)) (drop (n * w) masks) (omega (arith, length-drop (i * w) (take (n * w) masks))) in
+      rw same (front ∙ sym back)
+
+  row-last : row w (set counts n (length e)) (sets masks (n * w) e) n ≡ e
+  unfolding row
+  row-last =
+      let same : getD (set counts n (length e)) n 0 ≡ length e = getD-set-same counts n (length e) 0 k in
+      let m : length (take (n * w) masks) ≡ n * w = length-take-le (n * w) masks (omega arith) in
+      let parts : sets masks (n * w) e ≡ take (n * w) masks ++ (e ++ drop (n * w + length e) masks) =
+      sets-eq e masks (n * w) l ∙ append-assoc (take (n * w) masks) e (drop (n * w + length e) masks) in
+      rw (same, parts, drop-at (take (n * w) masks) (e ++ drop (n * w + length e) masks) (n * w) m) (take-at e (drop (n * w + length e) masks) (length e) refl)
+
+  pub rows-appended : tab (n + 1) (row w (set counts n (length e)) (sets masks (n * w) e)) ≡ tab n (row w counts masks) ++ (e ∷ [])
+  rows-appended =
+      tab-suc n (row w (set counts n (length e)) (sets masks (n * w) e))
+      ∙ ap₂ (λ (a : List (List ℕ)) (b : List ℕ). a ++ (b ∷ [])) (tab-cong n _ (row w counts masks) rows-before) row-last
+
+-- ---- what the functions are handed and leave
+
+-- a predicate that has terms implies none that has been given up
+pub implies-none : (e : List ℕ) (w i : ℕ) (counts masks : List ℕ) → 0 < length e → getD counts i 0 ≡ 0 → implies e (row w counts masks i) ≡ false
+unfolding row implies holds
+implies-none [] w i counts masks h z = absurd (omega arith)
+implies-none (t ∷ e) w i counts masks h z = rw z
+
+-- a is the mark of row i, where it is still there
+module _ (i : ℕ) (counts masks p : List ℕ) (a b : ℕ) (f : (getD counts i 0 ≡ 0 → ⊥) → a ≡ markOf (row 16 counts masks i)) (g : b ≡ markOf p) where
+  pub row-apart : a < 2 ^ 32 → subset a b ≡ false → some (row 16 counts masks i) && implies (row 16 counts masks i) p ≡ false
+  row-apart l h = go (ℕ-discrete (getD counts i 0) 0)
+    where
+      go : Dec (getD counts i 0 ≡ 0) → some (row 16 counts masks i) && implies (row 16 counts masks i) p ≡ false
+      go (yes z) = rw (row-empty 16 i counts masks z)
+      go (no n) = rw (implies-not (row 16 counts masks i) p a b (f n) g l h) (and-false (some (row 16 counts masks i)))
+
+  pub apart-row : 0 < length p → b < 2 ^ 32 → subset b a ≡ false → implies p (row 16 counts masks i) ≡ false
+  apart-row s l h = go (ℕ-discrete (getD counts i 0) 0)
+    where
+      go : Dec (getD counts i 0 ≡ 0) → implies p (row 16 counts masks i) ≡ false
+      go (yes z) = implies-none p 16 i counts masks s z
+      go (no n) = implies-not p (row 16 counts masks i) b a g (f n) l h
+
+pub explained-rows : (n : ℕ) (counts masks p : List ℕ) →
+    explained (entriesIn n counts masks) p ≡ anyBelow n (λ i. some (row 16 counts masks i) && implies (row 16 counts masks i) p)
+unfolding explained entriesIn
+explained-rows n counts masks p = any-kept some (λ e. implies e p) n (row 16 counts masks)
+
+-- a table with rows given up, and with one put last
+pub table-less : (w n m : ℕ) (counts masks : List ℕ) → Table w n counts masks → m ≤ n → Table w m counts masks
+table-less w n m counts masks t h =
+    record { counted = omega (arith, t .counted); long = omega (arith, t .long, mul-le-mul-right w h); narrow = t .narrow }
+
+given-up-behind : (m i : ℕ) (test : ℕ → Bool) (counts : List ℕ) → m ≤ i → getD (givenUp m test counts) i 0 ≡ getD counts i 0
+unfolding givenUp
+given-up-behind m i test counts h =
+    let f : ℕ → ℕ = λ k. cond (test k) 0 (getD counts k 0) in
+    let e : i ≡ length (tab m f) + (i - m) = omega (arith, length-tab m f) in
+    let z : m + (i - m) ≡ i = omega arith in
+    ap (λ (k : ℕ). getD (tab m f ++ drop m counts) k 0) e ∙ getD-append-add (tab m f) (drop m counts) (i - m) 0
+    ∙ getD-drop m counts (i - m) 0 ∙ ap (λ (k : ℕ). getD counts k 0) z
+
+pub table-given-up : (w n m : ℕ) (test : ℕ → Bool) (counts masks : List ℕ) → Table w n counts masks → m ≤ n → Table w n (givenUp m test counts) masks
+table-given-up w n m test counts masks t h =
+    record { counted = omega (arith, t .counted, length-given-up test counts m (omega (arith, t .counted))); long = t .long; narrow = small }
+  where
+    bound : (b : Bool) (x : ℕ) → x ≤ w → cond b 0 x ≤ w
+    bound true x p = omega arith
+    bound false x p = p
+
+    below : (i : ℕ) → Dec (i < m) → getD (givenUp m test counts) i 0 ≤ w
+    below i (yes p) = subst (λ (x : ℕ). x ≤ w) (sym (given-up-count test counts m i p)) (bound (test i) (getD counts i 0) (t .narrow i))
+    below i (no p) = subst (λ (x : ℕ). x ≤ w) (sym (given-up-behind m i test counts (omega arith))) (t .narrow i)
+
+    small : (i : ℕ) → getD (givenUp m test counts) i 0 ≤ w
+    small i = below i (decLt i m)
+
+pub table-appended : (w n : ℕ) (counts masks e : List ℕ) → Table w (n + 1) counts masks → length e ≤ w → Table w (n + 1) (set counts n (length e)) (sets masks (n * w) e)
+table-appended w n counts masks e t h =
+    record { counted = omega (arith, t .counted, length-set counts n (length e)); long = omega (arith, t .long, length-sets masks (n * w) e); narrow = small }
+  where
+    at : (i : ℕ) → Dec (i ≡ n) → getD (set counts n (length e)) i 0 ≤ w
+    at i (yes p) = subst (λ (k : ℕ). getD (set counts n (length e)) k 0 ≤ w) (sym p) (omega (arith, getD-set-same counts n (length e) 0 (omega (arith, t .counted))))
+    at i (no p) = omega (arith, getD-set-other counts n i (length e) 0 p, t .narrow i)
+
+    small : (i : ℕ) → getD (set counts n (length e)) i 0 ≤ w
+    small i = at i (ℕ-discrete i n)
+
+-- a row depends on its own count alone
+pub row-count : (w i : ℕ) (counts c masks : List ℕ) → getD c i 0 ≡ getD counts i 0 → row w c masks i ≡ row w counts masks i
+unfolding row
+row-count w i counts c masks e = rw e
+
+-- a turn of the loop that gives rows up, with the test's result b
+pub given-up-turn : (test : ℕ → Bool) (counts c d : List ℕ) (i : ℕ) (b : Bool) → i < length counts → c ≡ givenUp i test counts → b ≡ test i
+    → d ≡ cond b (set c i 0) c → d ≡ givenUp (i + 1) test counts
+given-up-turn test counts c d i b h p q r = r ∙ rw (q, p) (sym (given-up-next test counts i h))
+
+-- ---- marks
+
+pub marked-none : (counts masks marks : List ℕ) → Marked 0 counts masks marks
+marked-none counts masks marks = record { reach = omega arith; mark = λ i h. absurd (omega arith) }
+
+pub marked-less : (n m : ℕ) (counts masks marks : List ℕ) → Marked n counts masks marks → m ≤ n → Marked m counts masks marks
+marked-less n m counts masks marks k h = record { reach = omega (arith, k .reach); mark = λ i l. k .mark i (omega arith) }
+
+-- the next row has its mark
+pub marked-next : (i v : ℕ) (counts masks marks : List ℕ) → v ≡ markOf (row 16 counts masks i) → i < length marks → Marked i counts masks marks
+    → Marked (i + 1) counts masks (set marks i v)
+marked-next i v counts masks marks e h k = record { reach = omega (arith, length-set marks i v); mark = λ j l f. at j l f (ℕ-discrete j i) }
+  where
+    at : (j : ℕ) → j < i + 1 → (getD counts j 0 ≡ 0 → ⊥) → Dec (j ≡ i) → getD (set marks i v) j 0 ≡ markOf (row 16 counts masks j)
+    at j l f (yes p) =
+        subst (λ (x : ℕ). getD (set marks i v) x 0 ≡ markOf (row 16 counts masks x)) (sym p) (getD-set-same marks i v 0 h ∙ e)
+    at j l f (no p) = getD-set-other marks i j v 0 p ∙ k .mark j (omega arith) f
+
+-- a row that is still there has kept its mark
+marked-given-up : (n : ℕ) (test : ℕ → Bool) (counts masks marks : List ℕ) → Marked n counts masks marks → Marked n (givenUp n test counts) masks marks
+marked-given-up n test counts masks marks k = record { reach = k .reach; mark = λ i h. go i h (test i) (given-up-count test counts n i h) }
+  where
+    go : (i : ℕ) → i < n → (b : Bool) → getD (givenUp n test counts) i 0 ≡ cond b 0 (getD counts i 0) → (getD (givenUp n test counts) i 0 ≡ 0 → ⊥)
+        → getD marks i 0 ≡ markOf (row 16 (givenUp n test counts) masks i)
+    go i h true e f = absurd (f e)
+    go i h false e f = k .mark i h (λ z. f (e ∙ z)) ∙ ap markOf (sym (row-count 16 i counts (givenUp n test counts) masks e))
+
+-- an entry is learnt: those that it implies are given up, and it is put last
+module _ (n : ℕ) (counts masks e : List ℕ) (t : Table 16 (n + 1) counts masks) (few : length e ≤ 16) (a b m : List ℕ)
+    (p : a ≡ givenUp n (λ i. implies e (row 16 counts masks i)) counts) (q : b ≡ set a n (length e)) (r : m ≡ sets masks (n * 16) e) where
+  gone : Table 16 (n + 1) a masks
+  gone = rw p (table-given-up 16 (n + 1) n (λ i. implies e (row 16 counts masks i)) counts masks t (omega arith))
+
+  pub learn-table : Table 16 (n + 1) b m
+  learn-table = rw (q, r) (table-appended 16 n a masks e gone few)
+
+  pub learn-marked : (marks k : List ℕ) (mark : ℕ) → Marked n counts masks marks → n < length marks → mark ≡ markOf e → k ≡ set marks n mark → Marked (n + 1) b m k
+  learn-marked marks k mark g h d f =
+      let near : n < length a = omega (arith, gone .counted) in
+      let room : n * 16 + length e ≤ length masks = omega (arith, gone .long, suc-mul n 16) in
+      let less = table-less 16 (n + 1) n a masks gone (omega arith) in
+      let kept : Marked n a masks marks = rw p (marked-given-up n (λ i. implies e (row 16 counts masks i)) counts masks marks g) in
+      let put : Marked n (set a n (length e)) (sets masks (n * 16) e) marks =
+      record {
+        reach = kept .reach;
+        mark = λ i l c. kept .mark i l (λ z. c (getD-set-other a n i (length e) 0 (λ x. omega arith) ∙ z))
+            ∙ ap markOf (sym (rows-before 16 n a masks e less near room i l));
+      } in
+      rw (q, r, f) (marked-next n mark (set a n (length e)) (sets masks (n * 16) e) marks (d ∙ ap markOf (sym (row-last 16 n a masks e less near room))) h put)
+
+  pub learn-rows : 0 < length e → explained (entriesIn n counts masks) e ≡ false → entriesIn (n + 1) b m ≡ learn e (entriesIn n counts masks)
+  unfolding learn entriesIn some
+  learn-rows h f =
+      let kept : keep some (tab n (row 16 a masks)) ≡ keep (λ x. not (implies e x)) (keep some (tab n (row 16 counts masks))) =
+      rw p (rows-given-up 16 n (λ x. implies e x) counts masks) in
+      rw (q, r, f) (
+      ap (λ l. keep some l) (rows-appended 16 n a masks e (table-less 16 (n + 1) n a masks gone (omega arith)) (omega (arith, gone .counted)) (omega (arith, gone .long, suc-mul n 16)))
+      ∙ keep-append some (tab n (row 16 a masks)) (e ∷ [])
+      ∙ ap₂ (λ (x y : List (List ℕ)). x ++ y) kept (last e h)
+      )
+    where
+      last : (e : List ℕ) → 0 < length e → keep some (e ∷ []) ≡ e ∷ []
+      last [] h = absurd (omega arith)
+      last (x ∷ l) h = refl

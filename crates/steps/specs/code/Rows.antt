@@ -1,0 +1,42 @@
+-- Definitions that serve the code alone: no statement of document 01 cites this file.
+-- Rows of predicates in flat arrays, as a receipt works on them: their marks, the rows given up, and what a receipt leaves.
+-- Assumes nothing: these are definitions.
+use Prim.Native.Nat.{ℕ, zero, suc, _+_, _≤_, _<_}
+use mathlib.Core.Path.{_≡_}
+use lib.Dec.{eqb}
+use mathlib.Core.Bool.{Bool, true, false, cond}
+use mathlib.Core.List.{List, [], _∷_, _++_}
+use lib.ListN.{length, getD, drop}
+use Rattle.numbers.specs.Numbers.{tab}
+use Rattle.predicates.specs.Predicates.{markOf}
+use Rattle.state.specs.Model.{Datum, Store}
+use Rattle.state.specs.code.Tables.{row, entriesIn, dataIn}
+
+-- each of the first n rows of 16 that has not been given up has its mark: the names that make it true alone
+pub record Marked (n : ℕ) (counts masks marks : List ℕ) : Type 0 where
+  pub reach : n ≤ length marks
+  pub mark : (i : ℕ) → i < n → (getD counts i 0 ≡ 0 → ⊥) → getD marks i 0 ≡ markOf (row 16 counts masks i)
+
+-- the counts when the rows that pass the test have been given up
+unfoldable pub givenUp : ℕ → (ℕ → Bool) → List ℕ → List ℕ
+givenUp n test counts = tab n (λ i. cond (test i) 0 (getD counts i 0)) ++ drop n counts
+
+-- r is the first row below n that passes the test, or n
+pub record First (n : ℕ) (test : ℕ → Bool) (r : ℕ) : Type 0 where
+  pub within : r ≤ n
+  pub before : (i : ℕ) → i < r → test i ≡ false
+  pub found : r < n → test r ≡ true
+
+-- how many of the first n rows have terms
+unfoldable pub liveBelow : ℕ → List ℕ → ℕ
+liveBelow zero counts = 0
+liveBelow (suc n) counts = liveBelow n counts + cond (eqb (getD counts n 0) 0) 0 1
+
+-- the new datum behind the others, where it is stored
+unfoldable pub newly : Bool → Datum → List Datum
+newly b d = cond b (d ∷ []) []
+
+-- the store that a receipt leaves in the columns and the table
+unfoldable pub outcomeStore : ℕ → List ℕ → List ℕ → List ℕ → List ℕ → Bool → Datum → ℕ → List ℕ → List ℕ → Store
+outcomeStore h lefts rights held terms stored d n counts masks =
+    record { held = dataIn h lefts rights held terms ++ newly stored d; entries = entriesIn n counts masks }

@@ -1,0 +1,145 @@
+// Predicates in flat arrays, as a receipt works on them: row i has its count at i and its terms from i * width on; a row without terms has been
+// given up. The names that make a row true alone are its mark, at i.
+ghost use mathlib.Core.Path.{_≡_};
+ghost use mathlib.Core.Bool.{_&&_};
+ghost use Prim.Native.Nat.{_+_, _*_, _≤_, _<_};
+ghost use lib.ListN.{length, getD, set};
+ghost use lib.Seq.{sets};
+ghost use Rattle.predicates.specs.Predicates.{implies, markOf};
+ghost use Rattle.state.specs.code.Tables.{Table, row, some, entriesIn};
+ghost use Rattle.steps.specs.code.Rows.{Marked, givenUp};
+ghost use Rattle.steps.specs.Steps.{explained as Receiving·explained, learn as Receiving·learn};
+
+// Whether row i of 16 has terms and implies p; p's mark is given.
+fn row_implies(
+    counts: &[u32],
+    masks: &[u32],
+    marks: &[u32],
+    i: usize,
+    p: &[u32],
+    bound: u32,
+) -> bool
+    requires { ⌜ (i < length (now counts)) × (i * 16 + getD (now counts) i 0 ≤ length (now masks)) × (i < length (now marks)) ⌝ }
+    requires { ⌜ (bound ≡ markOf (now p)) × ((getD (now counts) i 0 ≡ 0 → ⊥) → getD (now marks) i 0 ≡ markOf (row 16 (now counts) (now masks) i)) ⌝ }
+    ensures { λ r. ⌜ r ≡ some (row 16 (now (counts .entry)) (now (masks .entry)) i) && implies (row 16 (now (counts .entry)) (now (masks .entry)) i) (now (p .entry)) ⌝ }
+{
+    if !predicates::masks::may_imply(marks[i], bound) {
+        return false;
+    }
+    let count = counts[i] as usize;
+    if count == 0 {
+        return false;
+    }
+    let from = i * 16;
+    let to = from + count;
+    predicates::masks::implies(&masks[from..to], p, bound)
+}
+
+// Whether an entry of the table implies p. All of them are held against p, so its mark is made once, and for a table of no rows not at all.
+pub fn explained(counts: &[u32], masks: &[u32], marks: &[u32], n: usize, p: &[u32]) -> bool
+    requires { ⌜ Table 16 n (now counts) (now masks) × Marked n (now counts) (now masks) (now marks) ⌝ }
+    ensures { λ r. ⌜ r ≡ Receiving·explained (entriesIn n (now (counts .entry)) (now (masks .entry))) (now (p .entry)) ⌝ }
+{
+    if n == 0 {
+        return false;
+    }
+    let bound = predicates::masks::mark_of(p);
+    let mut i: usize = 0;
+    while i < n {
+        if row_implies(counts, masks, marks, i, p, bound) {
+            return true;
+        }
+        i += 1;
+    }
+    false
+}
+
+// Whether e, which has terms, implies the predicate in row i of 16; e's mark is given. No predicate of any terms implies one of none.
+fn implies_row(e: &[u32], mark: u32, counts: &[u32], masks: &[u32], marks: &[u32], i: usize) -> bool
+    requires { ⌜ (i < length (now counts)) × (i * 16 + getD (now counts) i 0 ≤ length (now masks)) × (i < length (now marks)) ⌝ }
+    requires { ⌜ (mark ≡ markOf (now e)) × ((getD (now counts) i 0 ≡ 0 → ⊥) → getD (now marks) i 0 ≡ markOf (row 16 (now counts) (now masks) i)) × (0 < length (now e)) ⌝ }
+    ensures { λ r. ⌜ r ≡ implies (now (e .entry)) (row 16 (now (counts .entry)) (now (masks .entry)) i) ⌝ }
+{
+    if !predicates::masks::may_imply(mark, marks[i]) {
+        return false;
+    }
+    let count = counts[i] as usize;
+    if count == 0 {
+        return false;
+    }
+    let from = i * 16;
+    let to = from + count;
+    predicates::masks::implies(e, &masks[from..to], marks[i])
+}
+
+// Gives up the entries that e, which has terms, implies; e's mark is given.
+fn forget(counts: &mut [u32], masks: &[u32], marks: &[u32], n: usize, e: &[u32], mark: u32)
+    requires { ⌜ Table 16 n (now counts) (now masks) × Marked n (now counts) (now masks) (now marks) ⌝ }
+    requires { ⌜ (mark ≡ markOf (now e)) × (0 < length (now e)) ⌝ }
+    ensures { λ _. ⌜ now (counts .exit) ≡ givenUp n (λ i. implies (now (e .entry)) (row 16 (now (counts .entry)) (now (masks .entry)) i)) (now (counts .entry)) ⌝ }
+{
+    let mut i: usize = 0;
+    while i < n {
+        if implies_row(e, mark, counts, masks, marks, i) {
+            counts[i] = 0;
+        }
+        i += 1;
+    }
+}
+
+// Puts e, whose mark is given, last, into row n.
+fn append(counts: &mut [u32], masks: &mut [u32], marks: &mut [u32], n: usize, e: &[u32], mark: u32)
+    requires { ⌜ (n < length (now counts)) × (n * 16 + length (now e) ≤ length (now masks)) × (length (now e) ≤ 16) × (n < length (now marks)) ⌝ }
+    ensures { λ _. ⌜ now (counts .exit) ≡ set (now (counts .entry)) n (length (now (e .entry))) ⌝ }
+    ensures { λ _. ⌜ now (masks .exit) ≡ sets (now (masks .entry)) (n * 16) (now (e .entry)) ⌝ }
+    ensures { λ _. ⌜ now (marks .exit) ≡ set (now (marks .entry)) n mark ⌝ }
+{
+    let count = e.len();
+    let from = n * 16;
+    counts[n] = count as u32;
+    marks[n] = mark;
+    let mut j: usize = 0;
+    while j < count {
+        masks[from + j] = e[j];
+        j += 1;
+    }
+}
+
+// Places an entry: not added where an entry implies it; else those that it implies go, and it stands last. Answers how many rows there are now.
+pub fn learn(counts: &mut [u32], masks: &mut [u32], marks: &mut [u32], n: usize, e: &[u32]) -> usize
+    requires { ⌜ Table 16 (n + 1) (now counts) (now masks) ⌝ }
+    requires { ⌜ (0 < length (now e)) × (length (now e) ≤ 16) × (n < length (now marks)) × Marked n (now counts) (now masks) (now marks) ⌝ }
+    ensures { λ r. ⌜ (n ≤ r) × (r ≤ n + 1) × Table 16 r (now (counts .exit)) (now (masks .exit)) × Marked r (now (counts .exit)) (now (masks .exit)) (now (marks .exit)) ⌝ }
+    ensures { λ r. ⌜ entriesIn r (now (counts .exit)) (now (masks .exit)) ≡ Receiving·learn (now (e .entry)) (entriesIn n (now (counts .entry)) (now (masks .entry))) ⌝ }
+{
+    if explained(counts, masks, marks, n, e) {
+        return n;
+    }
+    let mark = predicates::masks::mark_of(e);
+    forget(counts, masks, marks, n, e, mark);
+    append(counts, masks, marks, n, e, mark);
+    n + 1
+}
+
+// The mark of row i of 16.
+fn row_mark(counts: &[u32], masks: &[u32], i: usize) -> u32
+    requires { ⌜ (i < length (now counts)) × (i * 16 + getD (now counts) i 0 ≤ length (now masks)) ⌝ }
+    ensures { λ r. ⌜ r ≡ markOf (row 16 (now (counts .entry)) (now (masks .entry)) i) ⌝ }
+{
+    let from = i * 16;
+    let to = from + counts[i] as usize;
+    predicates::masks::mark_of(&masks[from..to])
+}
+
+// Makes the marks of the first n rows.
+pub fn mark_rows(counts: &[u32], masks: &[u32], n: usize, marks: &mut [u32])
+    requires { ⌜ Table 16 n (now counts) (now masks) ⌝ }
+    requires { ⌜ n ≤ length (now marks) ⌝ }
+    ensures { λ _. ⌜ Marked n (now (counts .entry)) (now (masks .entry)) (now (marks .exit)) ⌝ }
+{
+    let mut i: usize = 0;
+    while i < n {
+        marks[i] = row_mark(counts, masks, i);
+        i += 1;
+    }
+}
