@@ -7,15 +7,65 @@ use Rattle.numbers.specs.Numbers.{num, bytes, bytesOf, tab}
 use Rattle.predicates.specs.Lists.{padded}
 use Rattle.state.specs.Model.{Datum, Head, Store, State}
 
+-- how many bytes a state has
 abbrev pub stateSize : ℕ
 stateSize = 3032
 
--- where datum i and entry i stand: "16 data of 52", "32 entries of 68"
+-- where the numbers of the head stand: "own name (4 bytes), drift (4), reading (8), held count (4), entry count (4)"
+abbrev pub ownAt : ℕ
+ownAt = 0
+
+abbrev pub driftAt : ℕ
+driftAt = 4
+
+abbrev pub readingAt : ℕ
+readingAt = 8
+
+abbrev pub heldAt : ℕ
+heldAt = 16
+
+abbrev pub knownAt : ℕ
+knownAt = 20
+
+-- "16 data of 52": where they begin, how many there are, how long one is, and how many masks it has
+abbrev pub dataAt : ℕ
+dataAt = 24
+
+abbrev pub dataMost : ℕ
+dataMost = 16
+
+abbrev pub datumSize : ℕ
+datumSize = 52
+
+abbrev pub datumTerms : ℕ
+datumTerms = 8
+
+-- in a datum: the right end behind the left one, and the row of its term count and masks behind both
+abbrev pub rightIn : ℕ
+rightIn = 8
+
+abbrev pub rowIn : ℕ
+rowIn = 16
+
+-- "32 entries of 68"
+abbrev pub entriesAt : ℕ
+entriesAt = 856
+
+abbrev pub entriesMost : ℕ
+entriesMost = 32
+
+abbrev pub entrySize : ℕ
+entrySize = 68
+
+abbrev pub entryTerms : ℕ
+entryTerms = 16
+
+-- where datum i and entry i stand
 abbrev pub datumPlace : ℕ → ℕ
-datumPlace i = 24 + i * 52
+datumPlace i = dataAt + i * datumSize
 
 abbrev pub entryPlace : ℕ → ℕ
-entryPlace i = 856 + i * 68
+entryPlace i = entriesAt + i * entrySize
 
 -- ---- writing
 

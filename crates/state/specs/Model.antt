@@ -24,6 +24,13 @@ pub record State : Type 0 where
   pub head : Head
   pub store : Store
 
+-- "A name is 0 to 28.", and the greatest drift in parts per million
+abbrev pub nameMost : ℕ
+nameMost = 28
+
+abbrev pub driftMost : ℕ
+driftMost = 1000
+
 -- the first end that cannot be stored: "Stored ends lie from 0 to 2^58 − 1"
 abbrev pub endLimit : ℕ
 endLimit = 2 ^ 58
