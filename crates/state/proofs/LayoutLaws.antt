@@ -1,4 +1,4 @@
--- Laws of the layout (`specs.Layout`): how long each part is, that all are bytes, and what stands at which place.
+-- Laws of the layout (`specs.Layout`): how long each part is, and what stands at which place.
 -- The idea: `At at a s` says that the bytes a stand in s from index at on. What is written is taken apart by `at-first` and `at-then`, and
 -- a list of elements of one size by `at-joined`; the way back goes by `part at n s`, the n bytes that stand there.
 -- No contract cites this file. Assumes nothing.
@@ -16,8 +16,8 @@ use Rattle.numbers.specs.Numbers.{num, bytes, tab, Bytes, bytesOf}
 use Rattle.numbers.proofs.NumberLaws.{num-bytes, length-bytes, length-bytesOf}
 use Rattle.predicates.specs.Lists.{all, allBelow, padded}
 use Rattle.predicates.proofs.ListLaws.{both, both-l, both-r}
-use Rattle.state.specs.Model.{Datum, State}
-use Rattle.state.specs.Layout.{zeros, joined, rowBytes, datumBytes, entryBytes, headBytes, dataBytes, entriesBytes, stateBytes}
+use Rattle.state.specs.Model.{Datum}
+use Rattle.state.specs.Layout.{zeros, joined, rowBytes, datumBytes, entryBytes}
 
 -- ---- tests over all elements
 
@@ -166,55 +166,3 @@ length-datum d h = simp (length-append, length-bytes, length-row 8 (d .terms) h)
 pub length-entry : (e : List ℕ) → length e ≤ 16 → length (entryBytes e) ≡ 68
 unfolding entryBytes
 length-entry e h = length-row 16 e h
-
-pub length-head : (st : State) → length (headBytes st) ≡ 24
-unfolding headBytes
-length-head st = simp (length-append, length-bytes)
-
--- ---- all are bytes
-
-bytes-append : (a b : List ℕ) → Bytes a → Bytes b → Bytes (a ++ b)
-unfolding Bytes
-bytes-append [] b f g i = g i
-bytes-append (x ∷ a) b f g zero = f 0
-bytes-append (x ∷ a) b f g (suc i) = bytes-append a b (λ k. f (suc k)) g i
-
-bytes-zeros : (n : ℕ) → Bytes (zeros n)
-unfolding Bytes
-bytes-zeros zero i = omega arith
-bytes-zeros (suc n) zero = omega arith
-bytes-zeros (suc n) (suc i) = bytes-zeros n i
-
-bytes-bytes : (n x : ℕ) → Bytes (bytes n x)
-unfolding Bytes bytes
-bytes-bytes zero x i = omega arith
-bytes-bytes (suc n) x zero = omega arith
-bytes-bytes (suc n) x (suc i) = bytes-bytes n (x / 256) i
-
-bytes-joined : {A : Type 0} (f : A → List ℕ) → ((x : A) → Bytes (f x)) → (xs : List A) → Bytes (joined f xs)
-unfolding joined
-bytes-joined f h [] = bytes-zeros 0
-bytes-joined f h (x ∷ xs) = bytes-append (f x) (joined f xs) (h x) (bytes-joined f h xs)
-
-bytes-row : (width : ℕ) (p : List ℕ) → Bytes (rowBytes width p)
-unfolding rowBytes
-bytes-row width p = rw bytesOf-joined (bytes-append _ _ (bytes-bytes 4 _) (bytes-joined (bytes 4) (bytes-bytes 4) _))
-
-bytes-datum : (d : Datum) → Bytes (datumBytes d)
-unfolding datumBytes
-bytes-datum d = bytes-append _ _ (bytes-bytes 8 _) (bytes-append _ _ (bytes-bytes 8 _) (bytes-row 8 _))
-
-bytes-head : (st : State) → Bytes (headBytes st)
-unfolding headBytes
-bytes-head st =
-    bytes-append _ _ (bytes-bytes 4 _) (bytes-append _ _ (bytes-bytes 4 _)
-    (bytes-append _ _ (bytes-bytes 8 _) (bytes-append _ _ (bytes-bytes 4 _) (bytes-bytes 4 _))))
-
-pub bytes-state : (st : State) → Bytes (stateBytes st)
-unfolding stateBytes dataBytes entriesBytes entryBytes
-bytes-state st =
-    let ds = st .store .held in
-    let es = st .store .entries in
-    bytes-append (headBytes st) _ (bytes-head st) (bytes-append (dataBytes ds) (entriesBytes es)
-    (bytes-append (joined datumBytes ds) _ (bytes-joined datumBytes bytes-datum ds) (bytes-zeros ((16 - length ds) * 52)))
-    (bytes-append (joined entryBytes es) _ (bytes-joined entryBytes (bytes-row 16) es) (bytes-zeros ((32 - length es) * 68))))

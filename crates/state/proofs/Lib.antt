@@ -1,11 +1,12 @@
 -- The laws of the state's bytes: their layout, their form, and what the loops over them leave.
 pub mod LayoutLaws
 pub mod FormLaws
+pub mod PutLaws
+pub mod PartLaws
 pub mod StateLaws
 pub mod TermLaws
 pub mod FormLoops
 pub mod RowLoops
-pub mod PutLaws
 pub mod HeldLaws
 pub mod KnowledgeLaws
 pub mod RowLaws

@@ -36,7 +36,7 @@ drop-put at b [] s h = refl
 drop-put at b (v ∷ vs) s h = drop-put at (suc b) vs (set s b v) (omega arith) ∙ drop-set-lt at s b v (omega arith)
 
 -- two stores, the first one in front
-set-put : (at b x : ℕ) (vs s : List ℕ) → at < b → set (put b vs s) at x ≡ put b vs (set s at x)
+pub set-put : (at b x : ℕ) (vs s : List ℕ) → at < b → set (put b vs s) at x ≡ put b vs (set s at x)
 unfolding put
 set-put at b x [] s h = refl
 set-put at b x (v ∷ vs) s h =

@@ -1,23 +1,24 @@
 -- Laws of the whole state: a right state (`stateOk`) is written in form and read back, and bytes in form hold a right state and are the bytes
 -- of that state. So bytes in form and right states are one and the same, and a call that changes bytes is compared by their state.
--- The idea: the state is taken apart into head, data and entries; the laws of the parts are those of `proofs.FormLaws`.
+-- The idea: the state is taken apart into its parts (`proofs.PartLaws`); the laws of data and entries are those of `proofs.FormLaws`.
 -- No contract cites this file. Assumes nothing.
-use Prim.Native.Nat.{ℕ, _+_, _≤_, _<_}
+use Prim.Native.Nat.{ℕ, _+_, _*_, _≤_, _<_}
 use mathlib.Core.Path.{_≡_, refl, sym, _∙_}
 use mathlib.Core.Bool.{_&&_}
 use mathlib.Core.List.{List, [], _++_}
 use native.Mathlib.Omega.{arith}
 use lib.Dec.{T, leb→le, ltb→lt}
-use lib.ListN.{length, take, drop, length-append, take-append-drop}
+use lib.ListN.{length, getD, take, drop, take-append-drop}
 use Rattle.numbers.specs.Numbers.{num, bytes, put, tab, Bytes}
 use Rattle.numbers.proofs.NumberLaws.{bytes-num, put-front, length-bytes, length-tab}
 use Rattle.predicates.specs.Lists.{all, allBelow}
 use Rattle.predicates.proofs.ListLaws.{both, both-l, both-r}
-use Rattle.names.proofs.SetLaws.{test-ext}
 use Rattle.state.specs.Model.{State, readingLimit}
-use Rattle.state.specs.Layout.{datumBytes, entryBytes, headBytes, dataBytes, entriesBytes, stateBytes, datumAt, entryAt, datumPlace, entryPlace, heldCount, entryCount, headOf, storeOf, stateOf}
+use Rattle.state.specs.Layout.{stateSize, ownAt, driftAt, readingAt, heldAt, knownAt, dataAt, dataMost, datumSize, entriesAt, entriesMost, entrySize, entryTerms}
+use Rattle.state.specs.Layout.{datumBytes, entryBytes, dataBytes, entriesBytes, parts, stateBytes, datumAt, entryAt, datumPlace, entryPlace, heldCount, entryCount, headOf, storeOf, stateOf}
 use Rattle.state.specs.Form.{termsFit, isZero, rowFits, datumFits, entryFits, headFits, dataFit, entriesFit, inForm, headOk, datumOk, storeOk, countsOk, stateOk}
-use Rattle.state.proofs.LayoutLaws.{all-tab, below-out, part, part-add, At, at-first, at-then, num-at, length-head}
+use Rattle.state.proofs.LayoutLaws.{all-tab, below-out, part, At, num-at}
+use Rattle.state.proofs.PartLaws.{Sized, placeIn, partSizes, cutFrom, cut-together, length-together, at-part-in, Begins}
 use Rattle.state.proofs.FormLaws.{length-filled, filled-part, places-in, row-out, row-part, length-row-at, datum-size, entry-size, datum-in, entry-in, datum-row, datum-out, datum-part}
 
 -- ---- from a right state to its bytes
@@ -57,55 +58,52 @@ module _ (st : State) (t : T (stateOk st)) where
   ok : OkState st
   ok = state-out st t
 
-  length-data-bytes : length (dataBytes (st .store .held)) ≡ 832
-  unfolding dataBytes
-  length-data-bytes = length-filled datumBytes 52 16 24 (datumOk _) (datum-size _) (st .store .held) (ok .held) (ok .held-le)
+  -- its parts have their sizes
+  pub parts-sized : Sized partSizes (parts st)
+  unfolding parts dataBytes entriesBytes
+  parts-sized = (
+    length-bytes 4 _,
+    (length-bytes 4 _, (length-bytes 8 _, (length-bytes 4 _, (length-bytes 4 _, (
+    length-filled datumBytes datumSize dataMost dataAt (datumOk _) (datum-size _) (st .store .held) (ok .held) (ok .held-le),
+    (length-filled entryBytes entrySize entriesMost entriesAt (termsFit _ entryTerms) (entry-size _) (st .store .entries) (ok .entries) (ok .entries-le), tt)))))),
+  )
 
-  length-entries-bytes : length (entriesBytes (st .store .entries)) ≡ 2176
-  unfolding entriesBytes
-  length-entries-bytes = length-filled entryBytes 68 32 856 (termsFit _ 16) (entry-size _) (st .store .entries) (ok .entries) (ok .entries-le)
-
-  pub length-state : length (stateBytes st) ≡ 3032
+  pub length-state : length (stateBytes st) ≡ stateSize
   unfolding stateBytes
-  length-state = simp (length-append, length-head, length-data-bytes, length-entries-bytes)
+  length-state = length-together partSizes (parts st) parts-sized
 
   -- a state that stands at the front of s is read, and in form
   module _ (s : List ℕ) (h : At 0 (stateBytes st) s) where
+    -- part k stands at its place
+    stands : (k : ℕ) → k < 7 → At (0 + placeIn partSizes k) (getD (parts st) k []) s
+    unfolding stateBytes parts
+    stands k l = at-part-in partSizes (parts st) k 0 s parts-sized l h
+
     head-read : HeadRead st s
-    unfolding stateBytes headBytes
+    unfolding parts
     head-read =
         let o = ok in
-        let ds = st .store .held in
-        let h₀ = at-first 0 (headBytes st) _ s h in
-        let h₄ = at-then 4 0 (bytes 4 (st .head .own)) _ s (length-bytes 4 _) h₀ in
-        let h₈ = at-then 4 4 (bytes 4 (st .head .drift)) _ s (length-bytes 4 _) h₄ in
-        let h₁₆ = at-then 8 8 (bytes 8 (st .head .reading)) _ s (length-bytes 8 _) h₈ in
-        let h₂₀ = at-then 4 16 (bytes 4 (length ds)) _ s (length-bytes 4 _) h₁₆ in
         record {
-          own = num-at 4 0 _ s (omega arith) (at-first 0 (bytes 4 (st .head .own)) _ s h₀);
-          drift = num-at 4 4 _ s (omega arith) (at-first 4 (bytes 4 (st .head .drift)) _ s h₄);
-          reading = num-at 8 8 _ s (omega arith) (at-first 8 (bytes 8 (st .head .reading)) _ s h₈);
-          held = num-at 4 16 _ s (omega arith) (at-first 16 (bytes 4 (length ds)) _ s h₁₆);
-          entries = num-at 4 20 _ s (omega arith) h₂₀;
+          own = num-at 4 ownAt _ s (omega arith) (stands 0 (omega arith));
+          drift = num-at 4 driftAt _ s (omega arith) (stands 1 (omega arith));
+          reading = num-at 8 readingAt _ s (omega arith) (stands 2 (omega arith));
+          held = num-at 4 heldAt _ s (omega arith) (stands 3 (omega arith));
+          entries = num-at 4 knownAt _ s (omega arith) (stands 4 (omega arith));
         }
 
-    behind : At 24 (dataBytes (st .store .held) ++ entriesBytes (st .store .entries)) s
-    unfolding stateBytes
-    behind = at-then 24 0 (headBytes st) _ s (length-head st) h
-
     data-in : (tab (length (st .store .held)) (datumAt s) ≡ st .store .held)
-        × T (allBelow (length (st .store .held)) (datumFits (st .head .own) s) && isZero (datumPlace (length (st .store .held))) (datumPlace 16) s)
-    unfolding dataBytes
+        × T (allBelow (length (st .store .held)) (datumFits (st .head .own) s) && isZero (datumPlace (length (st .store .held))) (datumPlace dataMost) s)
+    unfolding parts dataBytes
     data-in =
-        places-in datumBytes 52 16 24 (datumOk _) (datum-size _) (st .store .held) (ok .held) (ok .held-le)
-        (datumAt s) (datumFits _ s) s (datum-in _ s) (record { left = 0; right = 0; terms = [] }) (at-first 24 (dataBytes (st .store .held)) _ s behind)
+        places-in datumBytes datumSize dataMost dataAt (datumOk _) (datum-size _) (st .store .held) (ok .held) (ok .held-le)
+        (datumAt s) (datumFits _ s) s (datum-in _ s) (record { left = 0; right = 0; terms = [] }) (stands 5 (omega arith))
 
     entries-in : (tab (length (st .store .entries)) (entryAt s) ≡ st .store .entries)
-        × T (allBelow (length (st .store .entries)) (entryFits (st .head .own) s) && isZero (entryPlace (length (st .store .entries))) (entryPlace 32) s)
-    unfolding entriesBytes
+        × T (allBelow (length (st .store .entries)) (entryFits (st .head .own) s) && isZero (entryPlace (length (st .store .entries))) (entryPlace entriesMost) s)
+    unfolding parts entriesBytes
     entries-in =
-        places-in entryBytes 68 32 856 (termsFit _ 16) (entry-size _) (st .store .entries) (ok .entries) (ok .entries-le)
-        (entryAt s) (entryFits _ s) s (entry-in _ s) [] (at-then 832 24 (dataBytes (st .store .held)) _ s length-data-bytes behind)
+        places-in entryBytes entrySize entriesMost entriesAt (termsFit _ entryTerms) (entry-size _) (st .store .entries) (ok .entries) (ok .entries-le)
+        (entryAt s) (entryFits _ s) s (entry-in _ s) [] (stands 6 (omega arith))
 
     pub state-read : stateOf s ≡ st
     unfolding stateOf headOf storeOf
@@ -178,62 +176,61 @@ module _ (s : List ℕ) (t : T (inForm s)) where
       rw (length-held s, length-entries s) (search (both, both-l, both-r) depth 12)
 
   -- bytes in form are those of the state that they hold
-  module _ (b : Bytes s) (h : 3032 ≤ length s) where
-    head-part : headBytes (stateOf s) ≡ part 0 24 s
-    unfolding headBytes stateOf headOf storeOf
-    head-part =
-        rw (
-          length-held s,
-          length-entries s,
-          bytes-num 4 0 s b (omega arith),
-          bytes-num 4 4 s b (omega arith),
-          bytes-num 8 8 s b (omega arith),
-          bytes-num 4 16 s b (omega arith),
-          bytes-num 4 20 s b (omega arith),
-        ) (sym (part-add 0 4 20 s ∙ rw (part-add 4 4 16 s, part-add 8 8 8 s, part-add 16 4 4 s)))
-
-    data-part : dataBytes (storeOf s .held) ≡ part 24 832 s
+  module _ (b : Bytes s) (h : stateSize ≤ length s) where
+    data-part : dataBytes (storeOf s .held) ≡ part dataAt (dataMost * datumSize) s
     unfolding dataBytes storeOf inForm dataFit
     data-part =
         let c = held-count-le in
-        rw length-tab (filled-part datumBytes 52 16 24 (heldCount s) (datumAt s) s c (omega arith)
-        (λ i k. datum-part (num 0 4 s) s i (form-datum i k) b (omega arith)) (search (both-l, both-r) depth 9))
+        rw length-tab (filled-part datumBytes datumSize dataMost dataAt (heldCount s) (datumAt s) s c (omega arith)
+        (λ i k. datum-part (num ownAt 4 s) s i (form-datum i k) b (omega arith)) (search (both-l, both-r) depth 9))
 
-    entries-part : entriesBytes (storeOf s .entries) ≡ part 856 2176 s
+    entries-part : entriesBytes (storeOf s .entries) ≡ part entriesAt (entriesMost * entrySize) s
     unfolding entriesBytes entryBytes entryAt storeOf inForm entriesFit
     entries-part =
         let c = entry-count-le in
-        rw length-tab (filled-part entryBytes 68 32 856 (entryCount s) (entryAt s) s c (omega arith)
-        (λ i k. row-part (num 0 4 s) 16 (entryPlace i) s (form-entry i k) b (omega arith)) (search (both-l, both-r) depth 9))
+        rw length-tab (filled-part entryBytes entrySize entriesMost entriesAt (entryCount s) (entryAt s) s c (omega arith)
+        (λ i k. row-part (num ownAt 4 s) entryTerms (entryPlace i) s (form-entry i k) b (omega arith)) (search (both-l, both-r) depth 9))
 
-    pub encode-decode : stateBytes (stateOf s) ≡ take 3032 s
-    unfolding stateBytes stateOf
-    encode-decode = rw (head-part, data-part, entries-part) (sym (part-add 0 24 3008 s ∙ rw (part-add 24 832 2176 s)))
+    -- part by part
+    parts-are : parts (stateOf s) ≡ cutFrom 0 partSizes s
+    unfolding parts cutFrom stateOf headOf
+    parts-are =
+        rw (
+          length-held s,
+          length-entries s,
+          bytes-num 4 ownAt s b (omega arith),
+          bytes-num 4 driftAt s b (omega arith),
+          bytes-num 8 readingAt s b (omega arith),
+          bytes-num 4 heldAt s b (omega arith),
+          bytes-num 4 knownAt s b (omega arith),
+          data-part,
+          entries-part,
+        )
+
+    pub encode-decode : stateBytes (stateOf s) ≡ take stateSize s
+    unfolding stateBytes
+    encode-decode = rw parts-are (cut-together 0 partSizes s)
 
     -- s, as its state and what lies beyond it
-    pub form-split : s ≡ stateBytes (stateOf s) ++ drop 3032 s
-    form-split = rw encode-decode (sym (take-append-drop 3032 s))
+    pub form-split : s ≡ stateBytes (stateOf s) ++ drop stateSize s
+    form-split = rw encode-decode (sym (take-append-drop stateSize s))
 
     -- storing the state that is there changes nothing
     pub put-state-same : put 0 (stateBytes (stateOf s)) s ≡ s
-    put-state-same = put-front 3032 (stateBytes (stateOf s)) s (length-state (stateOf s) form-ok) h ∙ sym form-split
+    put-state-same = put-front stateSize (stateBytes (stateOf s)) s (length-state (stateOf s) form-ok) h ∙ sym form-split
 
-    -- other bytes with the same 3,032 in front
-    module _ (u : List ℕ) (e : take 3032 u ≡ take 3032 s) where
+    -- they begin with its parts, so that a call may exchange one (`part-stored`)
+    pub begins-form : Begins (parts (stateOf s)) s s
+    unfolding stateBytes
+    begins-form = record { sized = parts-sized (stateOf s) form-ok; stored = sym put-state-same }
+
+    -- other bytes with the same bytes of a state in front
+    module _ (u : List ℕ) (e : take stateSize u ≡ take stateSize s) where
       front : At 0 (stateBytes (stateOf s)) u
-      front = (drop 3032 u, sym (take-append-drop 3032 u) ∙ rw (encode-decode, e))
+      front = (drop stateSize u, sym (take-append-drop stateSize u) ∙ rw (encode-decode, e))
 
       pub state-cong : stateOf u ≡ stateOf s
       state-cong = state-read (stateOf s) form-ok u front
 
       pub form-cong : T (inForm u)
       form-cong = state-form (stateOf s) form-ok u front
-
--- the form is that of the first 3,032 bytes
-pub form-same : (s u : List ℕ) → Bytes s → Bytes u → 3032 ≤ length s → 3032 ≤ length u → take 3032 u ≡ take 3032 s → inForm u ≡ inForm s
-form-same s u b c h k e = test-ext (inForm u) (inForm s) (λ t. form-cong u t c k s (sym e)) (λ t. form-cong s t b h u e)
-
--- bytes in form are equal where their states are, and what lies beyond
-pub state-ext : (s u : List ℕ) → T (inForm s) → T (inForm u) → Bytes s → Bytes u → 3032 ≤ length s → 3032 ≤ length u
-    → stateOf s ≡ stateOf u → drop 3032 s ≡ drop 3032 u → s ≡ u
-state-ext s u t v b c h k e f = form-split s t b h ∙ rw (e, f) (sym (form-split u v c k))

@@ -78,31 +78,38 @@ rowBytes width terms = bytes 4 (length terms) ++ bytesOf (padded width terms)
 
 -- "left 8, right 8, term count 4, eight masks of 4"
 unfoldable pub datumBytes : Datum → List ℕ
-datumBytes d = bytes 8 (d .left) ++ (bytes 8 (d .right) ++ rowBytes 8 (d .terms))
+datumBytes d = bytes 8 (d .left) ++ (bytes 8 (d .right) ++ rowBytes datumTerms (d .terms))
 
 unfoldable pub entryBytes : List ℕ → List ℕ
-entryBytes e = rowBytes 16 e
+entryBytes e = rowBytes entryTerms e
 
 -- one after the other
 unfoldable pub joined : {A : Type 0} → (A → List ℕ) → List A → List ℕ
 joined f [] = []
 joined f (x ∷ xs) = f x ++ joined f xs
 
--- "own name (4 bytes), drift (4), reading (8), held count (4), entry count (4)"
-unfoldable pub headBytes : State → List ℕ
-headBytes st =
-    bytes 4 (st .head .own) ++ (bytes 4 (st .head .drift) ++ (bytes 8 (st .head .reading)
-    ++ (bytes 4 (length (st .store .held)) ++ bytes 4 (length (st .store .entries)))))
-
 -- "Data and entries fill their places from the front, oldest first; unused places and masks are zero."
 unfoldable pub dataBytes : List Datum → List ℕ
-dataBytes ds = joined datumBytes ds ++ zeros ((16 - length ds) * 52)
+dataBytes ds = joined datumBytes ds ++ zeros ((dataMost - length ds) * datumSize)
 
 unfoldable pub entriesBytes : List (List ℕ) → List ℕ
-entriesBytes es = joined entryBytes es ++ zeros ((32 - length es) * 68)
+entriesBytes es = joined entryBytes es ++ zeros ((entriesMost - length es) * entrySize)
+
+-- the parts of a state in their order, "own name (4 bytes), drift (4), reading (8), held count (4), entry count (4)", the data, the entries; a
+-- later part stands last
+unfoldable pub parts : State → List (List ℕ)
+parts st =
+    bytes 4 (st .head .own)
+    ∷ bytes 4 (st .head .drift)
+    ∷ bytes 8 (st .head .reading)
+    ∷ bytes 4 (length (st .store .held))
+    ∷ bytes 4 (length (st .store .entries))
+    ∷ dataBytes (st .store .held)
+    ∷ entriesBytes (st .store .entries)
+    ∷ []
 
 unfoldable pub stateBytes : State → List ℕ
-stateBytes st = headBytes st ++ (dataBytes (st .store .held) ++ entriesBytes (st .store .entries))
+stateBytes st = joined (λ p. p) (parts st)
 
 -- ---- reading
 
@@ -115,20 +122,25 @@ unfoldable pub rowAt : ℕ → ℕ → List ℕ → List ℕ
 rowAt width at s = take (num at 4 s) (masksAt width at s)
 
 unfoldable pub datumAt : List ℕ → ℕ → Datum
-datumAt s i = record { left = num (datumPlace i) 8 s; right = num (datumPlace i + 8) 8 s; terms = rowAt 8 (datumPlace i + 16) s }
+datumAt s i =
+    record {
+      left = num (datumPlace i) 8 s;
+      right = num (datumPlace i + rightIn) 8 s;
+      terms = rowAt datumTerms (datumPlace i + rowIn) s;
+    }
 
 unfoldable pub entryAt : List ℕ → ℕ → List ℕ
-entryAt s i = rowAt 16 (entryPlace i) s
+entryAt s i = rowAt entryTerms (entryPlace i) s
 
 -- the counts in the head
 abbrev pub heldCount : List ℕ → ℕ
-heldCount s = num 16 4 s
+heldCount s = num heldAt 4 s
 
 abbrev pub entryCount : List ℕ → ℕ
-entryCount s = num 20 4 s
+entryCount s = num knownAt 4 s
 
 unfoldable pub headOf : List ℕ → Head
-headOf s = record { own = num 0 4 s; drift = num 4 4 s; reading = num 8 8 s }
+headOf s = record { own = num ownAt 4 s; drift = num driftAt 4 s; reading = num readingAt 8 s }
 
 unfoldable pub storeOf : List ℕ → Store
 storeOf s = record { held = tab (heldCount s) (datumAt s); entries = tab (entryCount s) (entryAt s) }
