@@ -16,9 +16,6 @@ use Rattle.numbers.proofs.NumberLaws.{put-then, put-num-same, length-put, lengt
 use Rattle.state.specs.Model.{Datum, Store}
 use Rattle.state.specs.Layout.{joined, zeros, datumBytes, entryBytes, dataBytes, entriesBytes, headBytes, stateBytes, headOf}
 use Rattle.state.proofs.LayoutLaws.{all-append, all-tab, length-joined, length-datum}
-use Rattle.state.specs.code.Tables.{Table, Columns, row, some, datum, datumIn, entriesIn}
-use Rattle.steps.specs.code.Rows.{liveBelow, newly, outcomeStore}
-use Rattle.state.specs.code.Tables.{dataIn}
 use Rattle.steps.specs.Steps.{learnt, heldAfter, settled}
 use Rattle.steps.specs.Steps.{tooMany}
 use Rattle.state.proofs.RowLaws.{row-empty}

@@ -9,8 +9,7 @@ ghost use lib.ListN.{length};
 ghost use Rattle.numbers.specs.Numbers.{put};
 ghost use Rattle.state.specs.Layout.{dataBytes, entriesBytes, stateBytes, headOf, storeOf};
 ghost use Rattle.state.specs.Form.{inForm};
-ghost use Rattle.state.specs.code.Tables.{Table, Columns, entriesIn, datum};
-ghost use Rattle.state.specs.code.Tables.{dataIn};
+ghost use Rattle.state.specs.code.Tables.{table, columns, TableFits, ColumnsFit, entriesIn, datum, dataIn};
 ghost use Rattle.steps.specs.code.Rows.{newly, outcomeStore};
 ghost use Rattle.steps.specs.Steps.{settled};
 ghost use Rattle.steps.specs.Steps.{tooMany};
@@ -29,9 +28,9 @@ fn put_held(
     right: u64,
     p: &[u32],
 )
-    requires { ⌜ Columns h (now lefts) (now rights) (now held) (now terms) ⌝ }
-    requires { ⌜ (h ≤ 16) × (3032 ≤ length (now state)) × (length (now p) ≤ 8) × (length (dataIn h (now lefts) (now rights) (now held) (now terms) ++ newly stored (datum left right (now p))) ≤ 16) ⌝ }
-    ensures { λ _. ⌜ now (state .exit) ≡ put 24 (dataBytes (dataIn h (now (lefts .entry)) (now (rights .entry)) (now (held .entry)) (now (terms .entry)) ++ newly stored (datum left right (now (p .entry))))) (now (state .entry)) ⌝ }
+    requires { ⌜ ColumnsFit h (columns (now lefts) (now rights) (now held) (now terms)) ⌝ }
+    requires { ⌜ (h ≤ 16) × (3032 ≤ length (now state)) × (length (now p) ≤ 8) × (length (dataIn h (columns (now lefts) (now rights) (now held) (now terms)) ++ newly stored (datum left right (now p))) ≤ 16) ⌝ }
+    ensures { λ _. ⌜ now (state .exit) ≡ put 24 (dataBytes (dataIn h (columns (now (lefts .entry)) (now (rights .entry)) (now (held .entry)) (now (terms .entry))) ++ newly stored (datum left right (now (p .entry))))) (now (state .entry)) ⌝ }
 {
     let places = state::store::put_data(state, lefts, rights, held, terms, h);
     if stored {
@@ -44,9 +43,9 @@ fn put_held(
 
 // Writes the entries that have terms, and zeros into the places left over.
 fn put_known(state: &mut [u8], counts: &[u32], masks: &[u32], n: usize)
-    requires { ⌜ Table 16 n (now counts) (now masks) ⌝ }
-    requires { ⌜ (n ≤ 48) × (3032 ≤ length (now state)) × (length (entriesIn n (now counts) (now masks)) ≤ 32) ⌝ }
-    ensures { λ _. ⌜ now (state .exit) ≡ put 856 (entriesBytes (entriesIn n (now (counts .entry)) (now (masks .entry)))) (now (state .entry)) ⌝ }
+    requires { ⌜ TableFits 16 n (table (now counts) (now masks)) ⌝ }
+    requires { ⌜ (n ≤ 48) × (3032 ≤ length (now state)) × (length (entriesIn n (table (now counts) (now masks))) ≤ 32) ⌝ }
+    ensures { λ _. ⌜ now (state .exit) ≡ put 856 (entriesBytes (entriesIn n (table (now (counts .entry)) (now (masks .entry))))) (now (state .entry)) ⌝ }
 {
     let places = state::store::put_entries(state, counts, masks, n);
     state::rows::clear(state, 856 + places * 68, 3032);
@@ -76,7 +75,7 @@ fn put_outcome(
     masks: &[u32],
     done: Outcome,
 ) -> u32
-    requires { ⌜ Columns h (now lefts) (now rights) (now held) (now terms) × Table 16 (done .known) (now counts) (now masks) ⌝ }
+    requires { ⌜ ColumnsFit h (columns (now lefts) (now rights) (now held) (now terms)) × TableFits 16 (done .known) (table (now counts) (now masks)) ⌝ }
     requires { ⌜ (h ≤ 16) × (done .known ≤ 48) × (3032 ≤ length (now state)) × (length (now p) ≤ 8) ⌝ }
     ensures { λ r. ⌜ r ≡ cond (tooMany (outcomeStore h (now (lefts .entry)) (now (rights .entry)) (now (held .entry)) (now (terms .entry)) (done .placed .stored) (datum (done .placed .left) (done .placed .right) (now (p .entry))) (done .known) (now (counts .entry)) (now (masks .entry)))) 32 0 ⌝ }
     ensures { λ _. ⌜ now (state .exit) ≡ cond (tooMany (outcomeStore h (now (lefts .entry)) (now (rights .entry)) (now (held .entry)) (now (terms .entry)) (done .placed .stored) (datum (done .placed .left) (done .placed .right) (now (p .entry))) (done .known) (now (counts .entry)) (now (masks .entry)))) (now (state .entry)) (put 0 (stateBytes (record { head = headOf (now (state .entry)); store = outcomeStore h (now (lefts .entry)) (now (rights .entry)) (now (held .entry)) (now (terms .entry)) (done .placed .stored) (datum (done .placed .left) (done .placed .right) (now (p .entry))) (done .known) (now (counts .entry)) (now (masks .entry)) })) (now (state .entry))) ⌝ }

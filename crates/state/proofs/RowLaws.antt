@@ -8,31 +8,31 @@ use native.Mathlib.Nat.{mul-le-mul-right, suc-mul}
 use native.Mathlib.Omega.{arith}
 use lib.ListN.{length, getD, take, drop, length-drop}
 use lib.Seq.{length-take-le}
-use Rattle.state.specs.code.Tables.{Table, row, some}
+use Rattle.state.specs.code.Tables.{table, TableFits, rowOf, hasTerms}
 
 -- a row lies within its array
-pub table-room : (w n : ℕ) (counts masks : List ℕ) → Table w n counts masks → (i : ℕ) → i < n → i * w + getD counts i 0 ≤ length masks
+pub table-room : (w n : ℕ) (counts masks : List ℕ) → TableFits w n (table counts masks) → (i : ℕ) → i < n → i * w + getD counts i 0 ≤ length masks
 table-room w n counts masks t i h = omega (arith, t .long, t .narrow i, mul-le-mul-right w h, suc-mul i w)
 
 -- the part of the array that is row i
-pub row-lent : (w i : ℕ) (counts masks : List ℕ) → take (i * w + getD counts i 0 - i * w) (drop (i * w) masks) ≡ row w counts masks i
-unfolding row
+pub row-lent : (w i : ℕ) (counts masks : List ℕ) → take (i * w + getD counts i 0 - i * w) (drop (i * w) masks) ≡ rowOf w (table counts masks) i
+unfolding rowOf
 row-lent w i counts masks = let e : i * w + getD counts i 0 - i * w ≡ getD counts i 0 = omega arith in rw e
 
-pub row-empty : (w i : ℕ) (counts masks : List ℕ) → getD counts i 0 ≡ 0 → some (row w counts masks i) ≡ false
-unfolding row some
+pub row-empty : (w i : ℕ) (counts masks : List ℕ) → getD counts i 0 ≡ 0 → hasTerms (rowOf w (table counts masks) i) ≡ false
+unfolding rowOf hasTerms
 row-empty w i counts masks e = rw e
 
-pub row-full : (w i : ℕ) (counts masks : List ℕ) → (getD counts i 0 ≡ 0 → ⊥) → i * w + getD counts i 0 ≤ length masks → some (row w counts masks i) ≡ true
-unfolding row some
+pub row-full : (w i : ℕ) (counts masks : List ℕ) → (getD counts i 0 ≡ 0 → ⊥) → i * w + getD counts i 0 ≤ length masks → hasTerms (rowOf w (table counts masks) i) ≡ true
+unfolding rowOf hasTerms
 row-full w i counts masks f h =
     nonempty (take (getD counts i 0) (drop (i * w) masks))
     (omega (arith, length-take-le (getD counts i 0) (drop (i * w) masks) (omega (arith, length-drop (i * w) masks)), f))
   where
-    nonempty : (l : List ℕ) → 0 < length l → some l ≡ true
+    nonempty : (l : List ℕ) → 0 < length l → hasTerms l ≡ true
     nonempty [] h = absurd (omega arith)
     nonempty (x ∷ l) h = refl
 
-pub row-length : (w i : ℕ) (counts masks : List ℕ) → i * w + getD counts i 0 ≤ length masks → length (row w counts masks i) ≡ getD counts i 0
-unfolding row
+pub row-length : (w i : ℕ) (counts masks : List ℕ) → i * w + getD counts i 0 ≤ length masks → length (rowOf w (table counts masks) i) ≡ getD counts i 0
+unfolding rowOf
 row-length w i counts masks h = length-take-le (getD counts i 0) (drop (i * w) masks) (omega (arith, length-drop (i * w) masks))

@@ -23,8 +23,7 @@ use Rattle.state.specs.Form.{inForm, datumOk, termsFit}
 use Rattle.state.proofs.LayoutLaws.{all-tab, At, length-joined, at-joined, length-datum, length-entry}
 use Rattle.state.proofs.PutLaws.{joined-last}
 use Rattle.state.proofs.StateLaws.{datum-at-ok, length-datum-at, entry-at-ok, length-entry-at}
-use Rattle.state.specs.code.Tables.{Table, Columns, row, some, entriesIn, datum, datumIn}
-use Rattle.state.specs.code.Tables.{dataIn}
+use Rattle.state.specs.code.Tables.{table, columns, TableFits, ColumnsFit, rowOf, hasTerms, entriesIn, datum, datumIn, dataIn}
 use Rattle.numbers.proofs.NumberLaws.{tab-suc, tab-cong}
 use Rattle.predicates.proofs.ListLaws.{keep-append}
 use Rattle.state.proofs.RowLaws.{row-lent, row-empty}
@@ -122,68 +121,68 @@ module _ {A : Type 0} (g : A → Bool) (r : ℕ → A) where
       let more = ap length (keep-append g (tab n r) (r n ∷ [])) ∙ length-append (keep g (tab n r)) (keep g (r n ∷ [])) in
       ⊎-elim (λ (e : i ≡ suc n). rw e (omega arith)) (λ (k : i < suc n). omega (arith, more, kept-le n i (omega arith))) (eq-or-lt-of-le h)
 
-length-row-le : (w i : ℕ) (counts masks : List ℕ) → getD counts i 0 ≤ w → length (row w counts masks i) ≤ w
-unfolding row
+length-row-le : (w i : ℕ) (counts masks : List ℕ) → getD counts i 0 ≤ w → length (rowOf w (table counts masks) i) ≤ w
+unfolding rowOf
 length-row-le w i counts masks h = omega (arith, length-take (getD counts i 0) (drop (i * w) masks))
 
 -- a row of the table, as the part of the array that is lent
-pub length-part-le : (w n i : ℕ) (counts masks : List ℕ) → Table w n counts masks
+pub length-part-le : (w n i : ℕ) (counts masks : List ℕ) → TableFits w n (table counts masks)
     → length (take (i * w + getD counts i 0 - i * w) (drop (i * w) masks)) ≤ w
 length-part-le w n i counts masks t = rw (row-lent w i counts masks) (length-row-le w i counts masks (t .narrow i))
 
 -- a row of the table has terms, or it has been given up
-module _ (w n i : ℕ) (counts masks : List ℕ) (t : Table w n counts masks) (h : i < n) where
-  row-live : 0 < getD counts i 0 → some (row w counts masks i) ≡ true
+module _ (w n i : ℕ) (counts masks : List ℕ) (t : TableFits w n (table counts masks)) (h : i < n) where
+  row-live : 0 < getD counts i 0 → hasTerms (rowOf w (table counts masks) i) ≡ true
   row-live k = row-full w i counts masks (λ e. omega arith) (table-room w n counts masks t i h)
 
-  row-gone : getD counts i 0 ≤ 0 → some (row w counts masks i) ≡ false
+  row-gone : getD counts i 0 ≤ 0 → hasTerms (rowOf w (table counts masks) i) ≡ false
   row-gone k = row-empty w i counts masks (omega arith)
 
 -- a turn of the loop that writes entries
-module _ (n i : ℕ) (counts masks : List ℕ) (t : Table 16 n counts masks) (h : i < n) (r : ℕ) (s₀ s : List ℕ)
-    (w : Written entryBytes 68 856 (entriesIn i counts masks) r s₀ s) where
+module _ (n i : ℕ) (counts masks : List ℕ) (t : TableFits 16 n (table counts masks)) (h : i < n) (r : ℕ) (s₀ s : List ℕ)
+    (w : Written entryBytes 68 856 (entriesIn i (table counts masks)) r s₀ s) where
   pub entries-next : (u : List ℕ) → 0 < getD counts i 0
       → u ≡ put (entryPlace r) (entryBytes (take (i * 16 + getD counts i 0 - i * 16) (drop (i * 16) masks))) s
-      → Written entryBytes 68 856 (entriesIn (i + 1) counts masks) (r + 1) s₀ u
+      → Written entryBytes 68 856 (entriesIn (i + 1) (table counts masks)) (r + 1) s₀ u
   unfolding entriesIn
   entries-next u k q =
-      rw (kept-next some (row 16 counts masks) i (row-live 16 n i counts masks t h k))
-      (written-next entryBytes 68 856 (entriesIn i counts masks) (row 16 counts masks i) r (entryPlace r) s₀ s u
-      (length-entry (row 16 counts masks i) (length-row-le 16 i counts masks (t .narrow i))) refl (rw (row-lent 16 i counts masks) at q) w)
+      rw (kept-next hasTerms (rowOf 16 (table counts masks)) i (row-live 16 n i counts masks t h k))
+      (written-next entryBytes 68 856 (entriesIn i (table counts masks)) (rowOf 16 (table counts masks) i) r (entryPlace r) s₀ s u
+      (length-entry (rowOf 16 (table counts masks) i) (length-row-le 16 i counts masks (t .narrow i))) refl (rw (row-lent 16 i counts masks) at q) w)
 
-  pub entries-skip : getD counts i 0 ≤ 0 → Written entryBytes 68 856 (entriesIn (i + 1) counts masks) r s₀ s
+  pub entries-skip : getD counts i 0 ≤ 0 → Written entryBytes 68 856 (entriesIn (i + 1) (table counts masks)) r s₀ s
   unfolding entriesIn
-  entries-skip k = rw (kept-skip some (row 16 counts masks) i (row-gone 16 n i counts masks t h k)) w
+  entries-skip k = rw (kept-skip hasTerms (rowOf 16 (table counts masks)) i (row-gone 16 n i counts masks t h k)) w
 
   -- there is room for one more
-  pub entries-room : (m : ℕ) → 0 < getD counts i 0 → length (entriesIn n counts masks) ≤ m → r < m
+  pub entries-room : (m : ℕ) → 0 < getD counts i 0 → length (entriesIn n (table counts masks)) ≤ m → r < m
   unfolding entriesIn
   entries-room m k l =
       omega (
         arith,
         l,
         w .counted,
-        kept-le some (row 16 counts masks) n (i + 1) (omega arith),
-        ap length (kept-next some (row 16 counts masks) i (row-live 16 n i counts masks t h k)),
-        length-append (keep some (tab i (row 16 counts masks))) (row 16 counts masks i ∷ []),
+        kept-le hasTerms (rowOf 16 (table counts masks)) n (i + 1) (omega arith),
+        ap length (kept-next hasTerms (rowOf 16 (table counts masks)) i (row-live 16 n i counts masks t h k)),
+        length-append (keep hasTerms (tab i (rowOf 16 (table counts masks)))) (rowOf 16 (table counts masks) i ∷ []),
       )
 
 -- a turn of the loop that writes data
-module _ (n i : ℕ) (lefts rights counts masks : List ℕ) (t : Columns n lefts rights counts masks) (h : i < n) (r : ℕ) (s₀ s : List ℕ)
-    (w : Written datumBytes 52 24 (dataIn i lefts rights counts masks) r s₀ s) where
+module _ (n i : ℕ) (lefts rights counts masks : List ℕ) (t : ColumnsFit n (columns lefts rights counts masks)) (h : i < n) (r : ℕ) (s₀ s : List ℕ)
+    (w : Written datumBytes 52 24 (dataIn i (columns lefts rights counts masks)) r s₀ s) where
   pub data-next : (u : List ℕ) → 0 < getD counts i 0
       → u ≡ put (datumPlace r) (datumBytes (datum (getD lefts i 0) (getD rights i 0) (take (i * 8 + getD counts i 0 - i * 8) (drop (i * 8) masks)))) s
-      → Written datumBytes 52 24 (dataIn (i + 1) lefts rights counts masks) (r + 1) s₀ u
+      → Written datumBytes 52 24 (dataIn (i + 1) (columns lefts rights counts masks)) (r + 1) s₀ u
   unfolding dataIn datumIn
   data-next u k q =
-      rw (kept-next (λ d. some (d .terms)) (datumIn lefts rights counts masks) i (row-live 8 n i counts masks (t .table) h k))
-      (written-next datumBytes 52 24 (dataIn i lefts rights counts masks) (datumIn lefts rights counts masks i) r (datumPlace r) s₀ s u
-      (length-datum (datumIn lefts rights counts masks i) (length-row-le 8 i counts masks (t .table .narrow i))) refl
+      rw (kept-next (λ d. hasTerms (d .terms)) (datumIn (columns lefts rights counts masks)) i (row-live 8 n i counts masks (t .table) h k))
+      (written-next datumBytes 52 24 (dataIn i (columns lefts rights counts masks)) (datumIn (columns lefts rights counts masks) i) r (datumPlace r) s₀ s u
+      (length-datum (datumIn (columns lefts rights counts masks) i) (length-row-le 8 i counts masks (t .table .narrow i))) refl
       (rw (row-lent 8 i counts masks) at q) w)
 
-  pub data-skip : getD counts i 0 ≤ 0 → Written datumBytes 52 24 (dataIn (i + 1) lefts rights counts masks) r s₀ s
+  pub data-skip : getD counts i 0 ≤ 0 → Written datumBytes 52 24 (dataIn (i + 1) (columns lefts rights counts masks)) r s₀ s
   unfolding dataIn datumIn
-  data-skip k = rw (kept-skip (λ d. some (d .terms)) (datumIn lefts rights counts masks) i (row-gone 8 n i counts masks (t .table) h k)) w
+  data-skip k = rw (kept-skip (λ d. hasTerms (d .terms)) (datumIn (columns lefts rights counts masks)) i (row-gone 8 n i counts masks (t .table) h k)) w
 
 -- ---- what the arrays hold of the bytes
 
@@ -210,8 +209,8 @@ module _ (width n : ℕ) (place : ℕ → ℕ) (s c₀ m₀ c m : List ℕ) (p :
   masks-wide =
       all-tab (λ l. eqb (length l) width) n (λ i. masksAt width (place i) s) (λ i h. rw (length-masks width (place i) s) (eqb-refl width))
 
-  pub rows-read : (i : ℕ) → i < n → row width c m i ≡ rowAt width (place i) s
-  unfolding row rowAt
+  pub rows-read : (i : ℕ) → i < n → rowOf width (table c m) i ≡ rowAt width (place i) s
+  unfolding rowOf rowAt
   rows-read i h =
       let f : ℕ → List ℕ = λ k. masksAt width (place k) s in
       let there : At (i * width) (getD (tab n f) i []) m =
@@ -228,7 +227,7 @@ module _ (width n : ℕ) (place : ℕ → ℕ) (s c₀ m₀ c m : List ℕ) (p :
       ap length q ∙ rw (length-append, length-drop) (omega arith)
 
   -- the table that was lent is one still
-  pub table-read : (k : ℕ) → n ≤ k → Table width k c₀ m₀ → Table width k c m
+  pub table-read : (k : ℕ) → n ≤ k → TableFits width k (table c₀ m₀) → TableFits width k (table c m)
   table-read k h t =
       record {
         counted = omega (arith, t .counted, length-column (λ i. num (place i) 4 s) n c₀ c p (omega (arith, t .counted)));
@@ -245,17 +244,17 @@ module _ (n : ℕ) (s l₀ r₀ c₀ m₀ l r c m : List ℕ) (e : l ≡ tab n (
     (f : r ≡ tab n (λ i. num (datumPlace i + 8) 8 s) ++ drop n r₀) (p : c ≡ tab n (λ i. num (datumPlace i + 16) 4 s) ++ drop n c₀)
     (q : m ≡ joined (λ x. x) (tab n (λ i. masksAt 8 (datumPlace i + 16) s)) ++ drop (n * 8) m₀)
     (few : (i : ℕ) → i < n → num (datumPlace i + 16) 4 s ≤ 8) where
-  pub data-read : tab n (datumIn l r c m) ≡ tab n (datumAt s)
+  pub data-read : tab n (datumIn (columns l r c m)) ≡ tab n (datumAt s)
   unfolding datumIn datumAt
   data-read =
-      tab-cong n (datumIn l r c m) (datumAt s)
+      tab-cong n (datumIn (columns l r c m)) (datumAt s)
       (λ i h. rw (
         column-front (λ k. num (datumPlace k) 8 s) n i l₀ l e h,
         column-front (λ k. num (datumPlace k + 8) 8 s) n i r₀ r f h,
         rows-read 8 n (λ k. datumPlace k + 16) s c₀ m₀ c m p q few i h,
       ))
 
-  pub columns-read : (k : ℕ) → n ≤ k → Columns k l₀ r₀ c₀ m₀ → Columns k l r c m
+  pub columns-read : (k : ℕ) → n ≤ k → ColumnsFit k (columns l₀ r₀ c₀ m₀) → ColumnsFit k (columns l r c m)
   columns-read k h t =
       record {
         table = table-read 8 n (λ i. datumPlace i + 16) s c₀ m₀ c m p q few k h (t .table);
@@ -273,11 +272,11 @@ zero-at (suc n) (suc i) = zero-at n i
 length-zeros : (n : ℕ) → length (zeros n) ≡ n
 length-zeros n = length-replicate n 0
 
-pub table-fresh : (w n j k : ℕ) → n ≤ j → n * w ≤ k → Table w n (zeros j) (zeros k)
+pub table-fresh : (w n j k : ℕ) → n ≤ j → n * w ≤ k → TableFits w n (table (zeros j) (zeros k))
 table-fresh w n j k g h =
     record { counted = omega (arith, length-zeros j); long = omega (arith, length-zeros k); narrow = λ i. omega (arith, zero-at j i) }
 
-pub columns-fresh : (n a b j k : ℕ) → n ≤ a → n ≤ b → n ≤ j → n * 8 ≤ k → Columns n (zeros a) (zeros b) (zeros j) (zeros k)
+pub columns-fresh : (n a b j k : ℕ) → n ≤ a → n ≤ b → n ≤ j → n * 8 ≤ k → ColumnsFit n (columns (zeros a) (zeros b) (zeros j) (zeros k))
 columns-fresh n a b j k e f g h =
     record { table = table-fresh 8 n j k g h; lefts-long = omega (arith, length-zeros a); rights-long = omega (arith, length-zeros b) }
 
@@ -292,8 +291,8 @@ module _ {A : Type 0} where
       true-of true t = refl
 
 -- a predicate that fits has terms
-fits-some : (own width : ℕ) (p : List ℕ) → T (termsFit own width p) → T (some p)
-unfolding termsFit some
+fits-some : (own width : ℕ) (p : List ℕ) → T (termsFit own width p) → T (hasTerms p)
+unfolding termsFit hasTerms
 fits-some own width [] t = t
 fits-some own width (x ∷ p) t = tt
 
@@ -307,15 +306,15 @@ module _ (n : ℕ) (s : List ℕ) (t : T (inForm s)) (a : n ≡ entryCount s) (c
       omega (arith, leb→le (length (entryAt s i)) 16 (search (both-l, both-r) depth 9), length-entry-at s t i k)
 
   -- the entries that were read are those of the state
-  pub entries-form : entriesIn n c m ≡ storeOf s .entries
+  pub entries-form : entriesIn n (table c m) ≡ storeOf s .entries
   unfolding entriesIn storeOf entryAt
   entries-form =
-      let read : tab n (row 16 c m) ≡ tab n (entryAt s) =
-      tab-cong n (row 16 c m) (entryAt s) (rows-read 16 n entryPlace s c₀ m₀ c m p q entries-few) in
+      let read : tab n (rowOf 16 (table c m)) ≡ tab n (entryAt s) =
+      tab-cong n (rowOf 16 (table c m)) (entryAt s) (rows-read 16 n entryPlace s c₀ m₀ c m p q entries-few) in
       rw (read, a)
-      (keep-all some (tab (entryCount s) (entryAt s)) (all-tab some (entryCount s) (entryAt s) (λ i h. fits-some (num 0 4 s) 16 (entryAt s i) (entry-at-ok s t i h))))
+      (keep-all hasTerms (tab (entryCount s) (entryAt s)) (all-tab hasTerms (entryCount s) (entryAt s) (λ i h. fits-some (num 0 4 s) 16 (entryAt s i) (entry-at-ok s t i h))))
 
-  pub entries-table : (k : ℕ) → n ≤ k → Table 16 k c₀ m₀ → Table 16 k c m
+  pub entries-table : (k : ℕ) → n ≤ k → TableFits 16 k (table c₀ m₀) → TableFits 16 k (table c m)
   entries-table = table-read 16 n entryPlace s c₀ m₀ c m p q entries-few
 
 module _ (n : ℕ) (s : List ℕ) (t : T (inForm s)) (a : n ≡ heldCount s) (l₀ r₀ c₀ m₀ l r c m : List ℕ)
@@ -330,16 +329,16 @@ module _ (n : ℕ) (s : List ℕ) (t : T (inForm s)) (a : n ≡ heldCount s) (l�
       omega (arith, leb→le (length (datumAt s i .terms)) 8 (search (both-l, both-r) depth 9), length-datum-at s t i k)
 
   -- the rows are the held data, and none has been given up
-  pub data-rows : tab n (datumIn l r c m) ≡ storeOf s .held
+  pub data-rows : tab n (datumIn (columns l r c m)) ≡ storeOf s .held
   unfolding storeOf
   data-rows = rw (data-read n s l₀ r₀ c₀ m₀ l r c m e f p q data-few, a)
 
-  pub data-form : dataIn n l r c m ≡ storeOf s .held
+  pub data-form : dataIn n (columns l r c m) ≡ storeOf s .held
   unfolding dataIn storeOf datumOk
   data-form =
-      let some-terms : (i : ℕ) → i < heldCount s → T (some (datumAt s i .terms)) =
+      let some-terms : (i : ℕ) → i < heldCount s → T (hasTerms (datumAt s i .terms)) =
       λ i h. let ok = datum-at-ok s t i h in fits-some (num 0 4 s) 8 (datumAt s i .terms) (search (both-l, both-r) depth 9) in
-      rw data-rows (keep-all (λ d. some (d .terms)) (tab (heldCount s) (datumAt s)) (all-tab (λ d. some (d .terms)) (heldCount s) (datumAt s) some-terms))
+      rw data-rows (keep-all (λ d. hasTerms (d .terms)) (tab (heldCount s) (datumAt s)) (all-tab (λ d. hasTerms (d .terms)) (heldCount s) (datumAt s) some-terms))
 
-  pub data-columns : (k : ℕ) → n ≤ k → Columns k l₀ r₀ c₀ m₀ → Columns k l r c m
+  pub data-columns : (k : ℕ) → n ≤ k → ColumnsFit k (columns l₀ r₀ c₀ m₀) → ColumnsFit k (columns l r c m)
   data-columns = columns-read n s l₀ r₀ c₀ m₀ l r c m e f p q data-few

@@ -6,8 +6,7 @@ ghost use Prim.Native.Nat.{_+_, _*_, _≤_, _<_};
 ghost use lib.ListN.{length, drop};
 ghost use Rattle.numbers.specs.Numbers.{num, put, tab};
 ghost use Rattle.state.specs.Layout.{datumPlace, entryPlace, masksAt, datumBytes, entryBytes, joined};
-ghost use Rattle.state.specs.code.Tables.{Table, Columns, entriesIn};
-ghost use Rattle.state.specs.code.Tables.{dataIn};
+ghost use Rattle.state.specs.code.Tables.{table, columns, TableFits, ColumnsFit, entriesIn, dataIn};
 
 // Reads the masks of the row at `at`, used or not, into the places from `from` on.
 pub fn get_masks(s: &[u8], at: usize, width: usize, masks: &mut [u32], from: usize)
@@ -72,10 +71,10 @@ pub fn put_data(
     masks: &[u32],
     n: usize,
 ) -> usize
-    requires { ⌜ Columns n (now lefts) (now rights) (now counts) (now masks) ⌝ }
+    requires { ⌜ ColumnsFit n (columns (now lefts) (now rights) (now counts) (now masks)) ⌝ }
     requires { ⌜ (n ≤ 16) × (3032 ≤ length (now s)) ⌝ }
-    ensures { λ r. ⌜ (r ≤ n) × (r ≡ length (dataIn n (now (lefts .entry)) (now (rights .entry)) (now (counts .entry)) (now (masks .entry)))) × (length (joined datumBytes (dataIn n (now (lefts .entry)) (now (rights .entry)) (now (counts .entry)) (now (masks .entry)))) ≡ r * 52) ⌝ }
-    ensures { λ _. ⌜ now (s .exit) ≡ put 24 (joined datumBytes (dataIn n (now (lefts .entry)) (now (rights .entry)) (now (counts .entry)) (now (masks .entry)))) (now (s .entry)) ⌝ }
+    ensures { λ r. ⌜ (r ≤ n) × (r ≡ length (dataIn n (columns (now (lefts .entry)) (now (rights .entry)) (now (counts .entry)) (now (masks .entry))))) × (length (joined datumBytes (dataIn n (columns (now (lefts .entry)) (now (rights .entry)) (now (counts .entry)) (now (masks .entry))))) ≡ r * 52) ⌝ }
+    ensures { λ _. ⌜ now (s .exit) ≡ put 24 (joined datumBytes (dataIn n (columns (now (lefts .entry)) (now (rights .entry)) (now (counts .entry)) (now (masks .entry))))) (now (s .entry)) ⌝ }
 {
     let mut r: usize = 0;
     let mut i: usize = 0;
@@ -94,10 +93,10 @@ pub fn put_data(
 
 // Writes the entries that have terms into the places from the front, in order. Answers how many there are.
 pub fn put_entries(s: &mut [u8], counts: &[u32], masks: &[u32], n: usize) -> usize
-    requires { ⌜ Table 16 n (now counts) (now masks) ⌝ }
-    requires { ⌜ (n ≤ 48) × (length (entriesIn n (now counts) (now masks)) ≤ 32) × (3032 ≤ length (now s)) ⌝ }
-    ensures { λ r. ⌜ (r ≡ length (entriesIn n (now (counts .entry)) (now (masks .entry)))) × (length (joined entryBytes (entriesIn n (now (counts .entry)) (now (masks .entry)))) ≡ r * 68) ⌝ }
-    ensures { λ _. ⌜ now (s .exit) ≡ put 856 (joined entryBytes (entriesIn n (now (counts .entry)) (now (masks .entry)))) (now (s .entry)) ⌝ }
+    requires { ⌜ TableFits 16 n (table (now counts) (now masks)) ⌝ }
+    requires { ⌜ (n ≤ 48) × (length (entriesIn n (table (now counts) (now masks))) ≤ 32) × (3032 ≤ length (now s)) ⌝ }
+    ensures { λ r. ⌜ (r ≡ length (entriesIn n (table (now (counts .entry)) (now (masks .entry))))) × (length (joined entryBytes (entriesIn n (table (now (counts .entry)) (now (masks .entry))))) ≡ r * 68) ⌝ }
+    ensures { λ _. ⌜ now (s .exit) ≡ put 856 (joined entryBytes (entriesIn n (table (now (counts .entry)) (now (masks .entry))))) (now (s .entry)) ⌝ }
 {
     let mut r: usize = 0;
     let mut i: usize = 0;

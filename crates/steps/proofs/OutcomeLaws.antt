@@ -16,9 +16,8 @@ use Rattle.numbers.proofs.NumberLaws.{length-put}
 use Rattle.state.specs.Model.{Datum, Store}
 use Rattle.state.specs.Layout.{joined, zeros, datumBytes, dataBytes}
 use Rattle.state.proofs.LayoutLaws.{all-append, all-tab, length-joined, length-datum}
-use Rattle.state.specs.code.Tables.{Table, Columns, row, some, datum, datumIn, entriesIn}
+use Rattle.state.specs.code.Tables.{table, columns, TableFits, ColumnsFit, rowOf, hasTerms, entriesIn, datum, datumIn, dataIn}
 use Rattle.steps.specs.code.Rows.{liveBelow, newly, outcomeStore}
-use Rattle.state.specs.code.Tables.{dataIn}
 use Rattle.steps.specs.Steps.{learnt, heldAfter, settled, tooMany}
 use Rattle.state.proofs.RowLaws.{row-empty}
 use Rattle.state.proofs.RowLaws.{row-full, table-room}
@@ -30,16 +29,16 @@ use Rattle.steps.proofs.StepLaws.{length-live}
 narrow : Datum → Bool
 narrow d = leb (length (d .terms)) 8
 
-module _ (h : ℕ) (lefts rights counts masks p : List ℕ) (t : Table 8 h counts masks) (few : length p ≤ 8) (b : Bool) (left right : ℕ) where
+module _ (h : ℕ) (lefts rights counts masks p : List ℕ) (t : TableFits 8 h (table counts masks)) (few : length p ≤ 8) (b : Bool) (left right : ℕ) where
   abbrev pub outcome : List Datum
-  outcome = dataIn h lefts rights counts masks ++ newly b (datum left right p)
+  outcome = dataIn h (columns lefts rights counts masks) ++ newly b (datum left right p)
 
   outcome-narrow : T (all narrow outcome)
-  unfolding dataIn narrow datumIn row newly
+  unfolding dataIn narrow datumIn rowOf newly
   outcome-narrow =
-      all-append narrow (dataIn h lefts rights counts masks) (newly b (datum left right p))
-      (all-keep narrow (λ d. some (d .terms)) (tab h (datumIn lefts rights counts masks))
-      (all-tab narrow h (datumIn lefts rights counts masks)
+      all-append narrow (dataIn h (columns lefts rights counts masks)) (newly b (datum left right p))
+      (all-keep narrow (λ d. hasTerms (d .terms)) (tab h (datumIn (columns lefts rights counts masks)))
+      (all-tab narrow h (datumIn (columns lefts rights counts masks))
       (λ i k. le→leb (length (take (getD counts i 0) (drop (i * 8) masks))) 8 (omega (arith, length-take (getD counts i 0) (drop (i * 8) masks), t .narrow i))))) (last b)
     where
       last : (b : Bool) → T (all narrow (cond b (datum left right p ∷ []) []))
@@ -65,25 +64,25 @@ count-new ds false d = length-append ds []
 -- ---- the counts that are tested
 
 -- a row has terms where its count is not zero
-live-row : (w i : ℕ) (counts masks : List ℕ) → i * w + getD counts i 0 ≤ length masks → some (row w counts masks i) ≡ not (eqb (getD counts i 0) 0)
+live-row : (w i : ℕ) (counts masks : List ℕ) → i * w + getD counts i 0 ≤ length masks → hasTerms (rowOf w (table counts masks) i) ≡ not (eqb (getD counts i 0) 0)
 live-row w i counts masks h = go (ℕ-discrete (getD counts i 0) 0)
   where
-    go : Dec (getD counts i 0 ≡ 0) → some (row w counts masks i) ≡ not (eqb (getD counts i 0) 0)
+    go : Dec (getD counts i 0 ≡ 0) → hasTerms (rowOf w (table counts masks) i) ≡ not (eqb (getD counts i 0) 0)
     go (yes e) = row-empty w i counts masks e ∙ sym (rw (eq-eqb _ _ e))
     go (no f) = row-full w i counts masks f h ∙ sym (rw (ne-eqb _ _ f))
 
-module _ (h n : ℕ) (lefts rights held terms counts masks : List ℕ) (c : Columns h lefts rights held terms) (t : Table 16 n counts masks) where
-  rows-live : length (dataIn h lefts rights held terms) ≡ liveBelow h held
+module _ (h n : ℕ) (lefts rights held terms counts masks : List ℕ) (c : ColumnsFit h (columns lefts rights held terms)) (t : TableFits 16 n (table counts masks)) where
+  rows-live : length (dataIn h (columns lefts rights held terms)) ≡ liveBelow h held
   unfolding dataIn datumIn
-  rows-live = length-live (λ d. some (d .terms)) h (datumIn lefts rights held terms) held (λ i k. live-row 8 i held terms (table-room 8 h held terms (c .table) i k))
+  rows-live = length-live (λ d. hasTerms (d .terms)) h (datumIn (columns lefts rights held terms)) held (λ i k. live-row 8 i held terms (table-room 8 h held terms (c .table) i k))
 
-  pub entries-live : length (entriesIn n counts masks) ≡ liveBelow n counts
+  pub entries-live : length (entriesIn n (table counts masks)) ≡ liveBelow n counts
   unfolding entriesIn
-  entries-live = length-live some n (row 16 counts masks) counts (λ i k. live-row 16 i counts masks (table-room 16 n counts masks t i k))
+  entries-live = length-live hasTerms n (rowOf 16 (table counts masks)) counts (λ i k. live-row 16 i counts masks (table-room 16 n counts masks t i k))
 
   -- the rows with terms, and one more where the new datum is stored
-  pub held-live : (b : Bool) (d : Datum) (r : ℕ) → r ≡ liveBelow h held + cond b 1 0 → length (dataIn h lefts rights held terms ++ newly b d) ≡ r
-  held-live b d r e = count-new (dataIn h lefts rights held terms) b d ∙ omega (arith, rows-live)
+  pub held-live : (b : Bool) (d : Datum) (r : ℕ) → r ≡ liveBelow h held + cond b 1 0 → length (dataIn h (columns lefts rights held terms) ++ newly b d) ≡ r
+  held-live b d r e = count-new (dataIn h (columns lefts rights held terms)) b d ∙ omega (arith, rows-live)
 
   -- the test for 32, on the counts
   pub many-counts : (b : Bool) (d : Datum) (rows entries : ℕ) → rows ≡ liveBelow h held + cond b 1 0 → entries ≡ liveBelow n counts

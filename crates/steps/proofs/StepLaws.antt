@@ -18,9 +18,8 @@ use Rattle.predicates.specs.Predicates.{normal}
 use Rattle.predicates.proofs.LoopLaws.{drop-next}
 use Rattle.state.specs.Model.{Datum}
 use Rattle.steps.specs.Steps.{disjoint, explained, learn, learnt, unexplained, same, meet, met, without, betters, stored, heldAfter}
-use Rattle.state.specs.code.Tables.{Table, row, some, datum, datumIn}
-use Rattle.steps.specs.code.Rows.{First, liveBelow, givenUp, newly}
-use Rattle.state.specs.code.Tables.{dataIn}
+use Rattle.state.specs.code.Tables.{table, columns, TableFits, rowOf, hasTerms, datum, datumIn, dataIn}
+use Rattle.steps.specs.code.Rows.{givenUp, FirstRow, liveBelow, newly}
 use Rattle.numbers.proofs.NumberLaws.{tab-suc, tab-cong}
 use Rattle.predicates.proofs.ListLaws.{keep-append}
 use Rattle.steps.proofs.TableLaws.{given-up-count, anyBelow, any-below-none, any-kept}
@@ -91,50 +90,50 @@ same-eq (t ∷ p) (u ∷ q) e = go (eqb t u) refl e (λ f. same-eq p q f)
 module _ (h : ℕ) (lefts rights counts masks : List ℕ) where
   -- the datum of a row whose count is zero or as it was
   datum-cond : (b : Bool) (c : List ℕ) (i : ℕ) → getD c i 0 ≡ cond b 0 (getD counts i 0) →
-      datumIn lefts rights c masks i ≡ cond b (datum (getD lefts i 0) (getD rights i 0) []) (datumIn lefts rights counts masks i)
-  unfolding datumIn row
+      datumIn (columns lefts rights c masks) i ≡ cond b (datum (getD lefts i 0) (getD rights i 0) []) (datumIn (columns lefts rights counts masks) i)
+  unfolding datumIn rowOf
   datum-cond true c i e = rw e
   datum-cond false c i e = rw e
 
   kept-cond : (t : Datum → Bool) (n : ℕ) (d : ℕ → Datum) (l r : ℕ → ℕ) →
-      keep (λ x. some (x .terms)) (tab n (λ i. cond (t (d i)) (datum (l i) (r i) []) (d i))) ≡ keep (λ x. not (t x)) (keep (λ x. some (x .terms)) (tab n d))
-  unfolding tab some
+      keep (λ x. hasTerms (x .terms)) (tab n (λ i. cond (t (d i)) (datum (l i) (r i) []) (d i))) ≡ keep (λ x. not (t x)) (keep (λ x. hasTerms (x .terms)) (tab n d))
+  unfolding tab hasTerms
   kept-cond t zero d l r = refl
   kept-cond t (suc n) d l r =
-      keep-append (λ x. some (x .terms)) (tab n (λ i. cond (t (d i)) (datum (l i) (r i) []) (d i))) (cond (t (d n)) (datum (l n) (r n) []) (d n) ∷ [])
-      ∙ ap₂ (λ (a b : List Datum). a ++ b) (kept-cond t n d l r) (last (t (d n)) (some (d n .terms)) refl refl)
-      ∙ sym (ap (λ x. keep (λ y. not (t y)) x) (keep-append (λ x. some (x .terms)) (tab n d) (d n ∷ []))
-      ∙ keep-append (λ y. not (t y)) (keep (λ x. some (x .terms)) (tab n d)) (keep (λ x. some (x .terms)) (d n ∷ [])))
+      keep-append (λ x. hasTerms (x .terms)) (tab n (λ i. cond (t (d i)) (datum (l i) (r i) []) (d i))) (cond (t (d n)) (datum (l n) (r n) []) (d n) ∷ [])
+      ∙ ap₂ (λ (a b : List Datum). a ++ b) (kept-cond t n d l r) (last (t (d n)) (hasTerms (d n .terms)) refl refl)
+      ∙ sym (ap (λ x. keep (λ y. not (t y)) x) (keep-append (λ x. hasTerms (x .terms)) (tab n d) (d n ∷ []))
+      ∙ keep-append (λ y. not (t y)) (keep (λ x. hasTerms (x .terms)) (tab n d)) (keep (λ x. hasTerms (x .terms)) (d n ∷ [])))
     where
-      last : (a b : Bool) → t (d n) ≡ a → some (d n .terms) ≡ b
-          → keep (λ x. some (x .terms)) (cond a (datum (l n) (r n) []) (d n) ∷ []) ≡ keep (λ y. not (t y)) (keep (λ x. some (x .terms)) (d n ∷ []))
+      last : (a b : Bool) → t (d n) ≡ a → hasTerms (d n .terms) ≡ b
+          → keep (λ x. hasTerms (x .terms)) (cond a (datum (l n) (r n) []) (d n) ∷ []) ≡ keep (λ y. not (t y)) (keep (λ x. hasTerms (x .terms)) (d n ∷ []))
       last true true e f = rw (f, e)
       last true false e f = rw f
       last false true e f = rw (f, e)
       last false false e f = rw f
 
   pub data-given-up : (t : Datum → Bool) →
-      dataIn h lefts rights (givenUp h (λ i. t (datumIn lefts rights counts masks i)) counts) masks ≡ keep (λ d. not (t d)) (dataIn h lefts rights counts masks)
+      dataIn h (columns lefts rights (givenUp h (λ i. t (datumIn (columns lefts rights counts masks) i)) counts) masks) ≡ keep (λ d. not (t d)) (dataIn h (columns lefts rights counts masks))
   unfolding dataIn
   data-given-up t =
-      ap (λ l. keep (λ x. some (x .terms)) l)
-      (tab-cong h (datumIn lefts rights (givenUp h (λ i. t (datumIn lefts rights counts masks i)) counts) masks)
-      (λ i. cond (t (datumIn lefts rights counts masks i)) (datum (getD lefts i 0) (getD rights i 0) []) (datumIn lefts rights counts masks i))
-      (λ i p. datum-cond (t (datumIn lefts rights counts masks i)) (givenUp h (λ k. t (datumIn lefts rights counts masks k)) counts) i
-      (given-up-count (λ k. t (datumIn lefts rights counts masks k)) counts h i p)))
-      ∙ kept-cond t h (datumIn lefts rights counts masks) (λ i. getD lefts i 0) (λ i. getD rights i 0)
+      ap (λ l. keep (λ x. hasTerms (x .terms)) l)
+      (tab-cong h (datumIn (columns lefts rights (givenUp h (λ i. t (datumIn (columns lefts rights counts masks) i)) counts) masks))
+      (λ i. cond (t (datumIn (columns lefts rights counts masks) i)) (datum (getD lefts i 0) (getD rights i 0) []) (datumIn (columns lefts rights counts masks) i))
+      (λ i p. datum-cond (t (datumIn (columns lefts rights counts masks) i)) (givenUp h (λ k. t (datumIn (columns lefts rights counts masks) k)) counts) i
+      (given-up-count (λ k. t (datumIn (columns lefts rights counts masks) k)) counts h i p)))
+      ∙ kept-cond t h (datumIn (columns lefts rights counts masks)) (λ i. getD lefts i 0) (λ i. getD rights i 0)
 
 -- ---- single rows
 
 -- a datum depends on its own count alone
-pub datum-count : (lefts rights counts c masks : List ℕ) (i : ℕ) → getD c i 0 ≡ getD counts i 0 → datumIn lefts rights c masks i ≡ datumIn lefts rights counts masks i
-unfolding datumIn row
+pub datum-count : (lefts rights counts c masks : List ℕ) (i : ℕ) → getD c i 0 ≡ getD counts i 0 → datumIn (columns lefts rights c masks) i ≡ datumIn (columns lefts rights counts masks) i
+unfolding datumIn rowOf
 datum-count lefts rights counts c masks i e = rw e
 
 pub bettered-rows : (h : ℕ) (lefts rights counts masks : List ℕ) (n : Datum) →
-    any (λ d. betters d n) (dataIn h lefts rights counts masks) ≡ anyBelow h (λ i. some (row 8 counts masks i) && betters (datumIn lefts rights counts masks i) n)
+    any (λ d. betters d n) (dataIn h (columns lefts rights counts masks)) ≡ anyBelow h (λ i. hasTerms (rowOf 8 (table counts masks) i) && betters (datumIn (columns lefts rights counts masks) i) n)
 unfolding dataIn datumIn
-bettered-rows h lefts rights counts masks n = any-kept (λ d. some (d .terms)) (λ d. betters d n) h (datumIn lefts rights counts masks)
+bettered-rows h lefts rights counts masks n = any-kept (λ d. hasTerms (d .terms)) (λ d. betters d n) h (datumIn (columns lefts rights counts masks))
 
 -- ---- step 3: the first row with the predicate
 
@@ -174,27 +173,27 @@ tab-add m zero f = rw (add-zero m, append-nil)
 tab-add m (suc n) f =
     rw (add-suc m n) (ap (λ l. l ++ (f (m + n) ∷ [])) (tab-add m n f) ∙ append-assoc (tab m f) (tab n (λ j. f (m + j))) (f (m + n) ∷ []))
 
-module _ (h : ℕ) (lefts rights counts masks : List ℕ) (n : Datum) (r : ℕ) (f : First h (λ i. same (row 8 counts masks i) (n .terms)) r) where
+module _ (h : ℕ) (lefts rights counts masks : List ℕ) (n : Datum) (r : ℕ) (f : FirstRow h (λ i. same (rowOf 8 (table counts masks) i) (n .terms)) r) where
   data-before : List Datum
-  data-before = keep (λ d. some (d .terms)) (tab r (datumIn lefts rights counts masks))
+  data-before = keep (λ d. hasTerms (d .terms)) (tab r (datumIn (columns lefts rights counts masks)))
 
   none-before : any (λ d. same (d .terms) (n .terms)) data-before ≡ false
   unfolding data-before datumIn
   none-before =
-      any-kept (λ d. some (d .terms)) (λ d. same (d .terms) (n .terms)) r (datumIn lefts rights counts masks)
-      ∙ any-below-none r (λ i. some (row 8 counts masks i) && same (row 8 counts masks i) (n .terms))
-      (λ i p. and-no (some (row 8 counts masks i)) (f .before i p))
+      any-kept (λ d. hasTerms (d .terms)) (λ d. same (d .terms) (n .terms)) r (datumIn (columns lefts rights counts masks))
+      ∙ any-below-none r (λ i. hasTerms (rowOf 8 (table counts masks) i) && same (rowOf 8 (table counts masks) i) (n .terms))
+      (λ i p. and-no (hasTerms (rowOf 8 (table counts masks) i)) (f .earlier i p))
     where
       and-no : (b : Bool) {c : Bool} → c ≡ false → b && c ≡ false
       and-no true e = e
       and-no false e = refl
 
   -- no row has the predicate
-  pub meet-none : r ≡ h → (met n (dataIn h lefts rights counts masks) ≡ n) × (without (n .terms) (dataIn h lefts rights counts masks) ≡ dataIn h lefts rights counts masks)
+  pub meet-none : r ≡ h → (met n (dataIn h (columns lefts rights counts masks)) ≡ n) × (without (n .terms) (dataIn h (columns lefts rights counts masks)) ≡ dataIn h (columns lefts rights counts masks))
   unfolding dataIn met without data-before
   meet-none e =
-      let whole : dataIn h lefts rights counts masks ≡ data-before ++ [] =
-      ap (λ (k : ℕ). keep (λ d. some (d .terms)) (tab k (datumIn lefts rights counts masks))) (sym e) ∙ sym (append-nil data-before) in (
+      let whole : dataIn h (columns lefts rights counts masks) ≡ data-before ++ [] =
+      ap (λ (k : ℕ). keep (λ d. hasTerms (d .terms)) (tab k (datumIn (columns lefts rights counts masks)))) (sym e) ∙ sym (append-nil data-before) in (
         ap (λ l. met n l) whole ∙ met-skip n data-before [] none-before,
         ap (λ l. without (n .terms) l) whole ∙ without-skip n data-before [] none-before ∙ sym whole,
       )
@@ -202,58 +201,58 @@ module _ (h : ℕ) (lefts rights counts masks : List ℕ) (n : Datum) (r : ℕ) 
   -- row r has it: what is behind it, and the data without it
   module _ (near : r < h) (c : r < length counts) (small : 0 < length (n .terms)) where
     data-behind : List ℕ → List Datum
-    data-behind counts = keep (λ d. some (d .terms)) (tab (h - (r + 1)) (λ j. datumIn lefts rights counts masks (r + 1 + j)))
+    data-behind counts = keep (λ d. hasTerms (d .terms)) (tab (h - (r + 1)) (λ j. datumIn (columns lefts rights counts masks) (r + 1 + j)))
 
-    split : (cs : List ℕ) → dataIn h lefts rights cs masks
-        ≡ keep (λ d. some (d .terms)) (tab r (datumIn lefts rights cs masks)) ++ (keep (λ d. some (d .terms)) (datumIn lefts rights cs masks r ∷ []) ++ data-behind cs)
+    split : (cs : List ℕ) → dataIn h (columns lefts rights cs masks)
+        ≡ keep (λ d. hasTerms (d .terms)) (tab r (datumIn (columns lefts rights cs masks))) ++ (keep (λ d. hasTerms (d .terms)) (datumIn (columns lefts rights cs masks) r ∷ []) ++ data-behind cs)
     unfolding dataIn data-behind tab
     split cs =
-        let d = datumIn lefts rights cs masks in
-        let g : Datum → Bool = λ x. some (x .terms) in
+        let d = datumIn (columns lefts rights cs masks) in
+        let g : Datum → Bool = λ x. hasTerms (x .terms) in
         let e : h ≡ r + 1 + (h - (r + 1)) = omega arith in
         ap (λ (k : ℕ). keep g (tab k d)) e ∙ ap (λ l. keep g l) (tab-add (r + 1) (h - (r + 1)) d ∙ ap (λ l. l ++ tab (h - (r + 1)) (λ j. d (r + 1 + j))) (tab-suc r d)
         ∙ append-assoc (tab r d) (d r ∷ []) (tab (h - (r + 1)) (λ j. d (r + 1 + j))))
         ∙ keep-append g (tab r d) ((d r ∷ []) ++ tab (h - (r + 1)) (λ j. d (r + 1 + j)))
         ∙ ap (λ l. keep g (tab r d) ++ l) (keep-append g (d r ∷ []) (tab (h - (r + 1)) (λ j. d (r + 1 + j))))
 
-    here-terms : row 8 counts masks r ≡ n .terms
-    here-terms = same-eq (row 8 counts masks r) (n .terms) (f .found near)
+    here-terms : rowOf 8 (table counts masks) r ≡ n .terms
+    here-terms = same-eq (rowOf 8 (table counts masks) r) (n .terms) (f .found near)
 
-    here-some : keep (λ d. some (d .terms)) (datumIn lefts rights counts masks r ∷ []) ≡ datumIn lefts rights counts masks r ∷ []
-    unfolding datumIn some
+    here-some : keep (λ d. hasTerms (d .terms)) (datumIn (columns lefts rights counts masks) r ∷ []) ≡ datumIn (columns lefts rights counts masks) r ∷ []
+    unfolding datumIn hasTerms
     here-some = rw here-terms (go (n .terms) small)
       where
-        go : (p : List ℕ) → 0 < length p → cond (some p) (datum (getD lefts r 0) (getD rights r 0) p ∷ []) [] ≡ datum (getD lefts r 0) (getD rights r 0) p ∷ []
+        go : (p : List ℕ) → 0 < length p → cond (hasTerms p) (datum (getD lefts r 0) (getD rights r 0) p ∷ []) [] ≡ datum (getD lefts r 0) (getD rights r 0) p ∷ []
         go [] k = absurd (omega arith)
         go (t ∷ p) k = refl
 
-    opened : dataIn h lefts rights counts masks ≡ data-before ++ (datumIn lefts rights counts masks r ∷ data-behind counts)
+    opened : dataIn h (columns lefts rights counts masks) ≡ data-before ++ (datumIn (columns lefts rights counts masks) r ∷ data-behind counts)
     unfolding data-before
     opened = split counts ∙ ap (λ l. data-before ++ (l ++ data-behind counts)) here-some
 
-    pub meet-met : met n (dataIn h lefts rights counts masks) ≡ meet (datumIn lefts rights counts masks r) n
+    pub meet-met : met n (dataIn h (columns lefts rights counts masks)) ≡ meet (datumIn (columns lefts rights counts masks) r) n
     unfolding datumIn
     meet-met =
-        ap (λ l. met n l) opened ∙ met-skip n data-before (datumIn lefts rights counts masks r ∷ data-behind counts) none-before
-        ∙ met-here n (datumIn lefts rights counts masks r) (data-behind counts) (f .found near)
+        ap (λ l. met n l) opened ∙ met-skip n data-before (datumIn (columns lefts rights counts masks) r ∷ data-behind counts) none-before
+        ∙ met-here n (datumIn (columns lefts rights counts masks) r) (data-behind counts) (f .found near)
 
     -- row r given up
-    gone : (i : ℕ) → (i ≡ r → ⊥) → datumIn lefts rights (set counts r 0) masks i ≡ datumIn lefts rights counts masks i
+    gone : (i : ℕ) → (i ≡ r → ⊥) → datumIn (columns lefts rights (set counts r 0) masks) i ≡ datumIn (columns lefts rights counts masks) i
     gone i p = datum-count lefts rights counts (set counts r 0) masks i (getD-set-other counts r i 0 0 p)
 
-    gone-here : keep (λ d. some (d .terms)) (datumIn lefts rights (set counts r 0) masks r ∷ []) ≡ []
-    unfolding datumIn row some
+    gone-here : keep (λ d. hasTerms (d .terms)) (datumIn (columns lefts rights (set counts r 0) masks) r ∷ []) ≡ []
+    unfolding datumIn rowOf hasTerms
     gone-here = rw (getD-set-same counts r 0 0 c)
 
-    pub meet-without : dataIn h lefts rights (set counts r 0) masks ≡ without (n .terms) (dataIn h lefts rights counts masks)
+    pub meet-without : dataIn h (columns lefts rights (set counts r 0) masks) ≡ without (n .terms) (dataIn h (columns lefts rights counts masks))
     unfolding data-before data-behind datumIn
     meet-without =
-        let g : Datum → Bool = λ x. some (x .terms) in
-        let front : tab r (datumIn lefts rights (set counts r 0) masks) ≡ tab r (datumIn lefts rights counts masks) = tab-cong r _ _ (λ i p. gone i (λ e. omega arith)) in
+        let g : Datum → Bool = λ x. hasTerms (x .terms) in
+        let front : tab r (datumIn (columns lefts rights (set counts r 0) masks)) ≡ tab r (datumIn (columns lefts rights counts masks)) = tab-cong r _ _ (λ i p. gone i (λ e. omega arith)) in
         let back : data-behind (set counts r 0) ≡ data-behind counts = ap (λ l. keep g l) (tab-cong (h - (r + 1)) _ _ (λ j p. gone (r + 1 + j) (λ e. omega arith))) in
         split (set counts r 0) ∙ rw (front, gone-here, back)
-        (sym (ap (λ l. without (n .terms) l) opened ∙ without-skip n data-before (datumIn lefts rights counts masks r ∷ data-behind counts) none-before
-        ∙ ap (λ l. data-before ++ l) (without-here n (datumIn lefts rights counts masks r) (data-behind counts) (f .found near))))
+        (sym (ap (λ l. without (n .terms) l) opened ∙ without-skip n data-before (datumIn (columns lefts rights counts masks) r ∷ data-behind counts) none-before
+        ∙ ap (λ l. data-before ++ l) (without-here n (datumIn (columns lefts rights counts masks) r) (data-behind counts) (f .found near))))
 
 -- ---- step 1
 
@@ -265,10 +264,10 @@ learnt-last n (x ∷ xs) d es = learnt-last n xs d (cond (disjoint x n) (learn (
 
 -- ---- tables
 
-pub table-more : (w n k : ℕ) (counts masks : List ℕ) → Table w n counts masks → k ≤ length counts → k * w ≤ length masks → Table w k counts masks
+pub table-more : (w n k : ℕ) (counts masks : List ℕ) → TableFits w n (table counts masks) → k ≤ length counts → k * w ≤ length masks → TableFits w k (table counts masks)
 table-more w n k counts masks t a b = record { counted = a; long = b; narrow = t .narrow }
 
-pub table-zero : (w n i : ℕ) (counts masks : List ℕ) → Table w n counts masks → Table w n (set counts i 0) masks
+pub table-zero : (w n i : ℕ) (counts masks : List ℕ) → TableFits w n (table counts masks) → TableFits w n (table (set counts i 0) masks)
 table-zero w n i counts masks t =
     record { counted = omega (arith, t .counted, length-set counts i 0); long = t .long; narrow = λ k. go k (ℕ-discrete k i) (decLt i (length counts)) }
   where
@@ -304,13 +303,13 @@ unfolding stored newly
 stored-new n ds e = rw e
 
 module _ (h : ℕ) (lefts rights counts c masks : List ℕ) where
-  pub data-unexplained : (es : List (List ℕ)) → c ≡ givenUp h (λ i. explained es (row 8 counts masks i)) counts
-      → dataIn h lefts rights c masks ≡ unexplained es (dataIn h lefts rights counts masks)
+  pub data-unexplained : (es : List (List ℕ)) → c ≡ givenUp h (λ i. explained es (rowOf 8 (table counts masks) i)) counts
+      → dataIn h (columns lefts rights c masks) ≡ unexplained es (dataIn h (columns lefts rights counts masks))
   unfolding unexplained datumIn
   data-unexplained es e = rw e (data-given-up h lefts rights counts masks (λ d. explained es (d .terms)))
 
-  pub data-bettered : (n : Datum) → c ≡ givenUp h (λ i. betters n (datumIn lefts rights counts masks i)) counts
-      → dataIn h lefts rights c masks ≡ keep (λ d. not (betters n d)) (dataIn h lefts rights counts masks)
+  pub data-bettered : (n : Datum) → c ≡ givenUp h (λ i. betters n (datumIn (columns lefts rights counts masks) i)) counts
+      → dataIn h (columns lefts rights c masks) ≡ keep (λ d. not (betters n d)) (dataIn h (columns lefts rights counts masks))
   data-bettered n e = rw e (data-given-up h lefts rights counts masks (λ d. betters n d))
 
 pub held-explained : (n : Datum) (ds : List Datum) (es : List (List ℕ)) (d : Datum) → explained es (n .terms) ≡ true

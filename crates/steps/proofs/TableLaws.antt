@@ -18,7 +18,7 @@ use Rattle.predicates.specs.Lists.{any, keep}
 use Rattle.predicates.specs.Predicates.{holds, implies, markOf}
 use Rattle.predicates.proofs.MaskLaws.{implies-not}
 use Rattle.steps.specs.Steps.{explained, learn}
-use Rattle.state.specs.code.Tables.{Table, row, some, entriesIn}
+use Rattle.state.specs.code.Tables.{table, TableFits, rowOf, hasTerms, entriesIn}
 use Rattle.steps.specs.code.Rows.{Marked, givenUp}
 use Rattle.predicates.proofs.ListLaws.{keep-append, any-append}
 use Rattle.state.proofs.RowLaws.{row-empty}
@@ -113,39 +113,39 @@ module _ (test : ℕ → Bool) (counts : List ℕ) where
 -- ---- rows in use
 
 -- an empty predicate in place of each that passes the test: those that pass are gone
-pub keep-emptied : (t : List ℕ → Bool) (n : ℕ) (r : ℕ → List ℕ) → keep some (tab n (λ i. cond (t (r i)) [] (r i))) ≡ keep (λ p. not (t p)) (keep some (tab n r))
-unfolding tab some
+pub keep-emptied : (t : List ℕ → Bool) (n : ℕ) (r : ℕ → List ℕ) → keep hasTerms (tab n (λ i. cond (t (r i)) [] (r i))) ≡ keep (λ p. not (t p)) (keep hasTerms (tab n r))
+unfolding tab hasTerms
 keep-emptied t zero r = refl
 keep-emptied t (suc n) r =
-    keep-append some (tab n (λ i. cond (t (r i)) [] (r i))) (cond (t (r n)) [] (r n) ∷ [])
+    keep-append hasTerms (tab n (λ i. cond (t (r i)) [] (r i))) (cond (t (r n)) [] (r n) ∷ [])
     ∙ ap₂ (λ (a b : List (List ℕ)). a ++ b) (keep-emptied t n r) (last (r n) (t (r n)) refl)
-    ∙ sym (ap (λ l. keep (λ p. not (t p)) l) (keep-append some (tab n r) (r n ∷ [])) ∙ keep-append (λ p. not (t p)) (keep some (tab n r)) (keep some (r n ∷ [])))
+    ∙ sym (ap (λ l. keep (λ p. not (t p)) l) (keep-append hasTerms (tab n r) (r n ∷ [])) ∙ keep-append (λ p. not (t p)) (keep hasTerms (tab n r)) (keep hasTerms (r n ∷ [])))
   where
-    last : (p : List ℕ) (b : Bool) → t p ≡ b → keep some (cond b [] p ∷ []) ≡ keep (λ q. not (t q)) (keep some (p ∷ []))
+    last : (p : List ℕ) (b : Bool) → t p ≡ b → keep hasTerms (cond b [] p ∷ []) ≡ keep (λ q. not (t q)) (keep hasTerms (p ∷ []))
     last [] true e = refl
     last [] false e = refl
     last (u ∷ p) true e = rw e
     last (u ∷ p) false e = rw e
 
 -- the row of a count that is zero or as it was
-row-cond : (w : ℕ) (b : Bool) (counts c masks : List ℕ) (i : ℕ) → getD c i 0 ≡ cond b 0 (getD counts i 0) → row w c masks i ≡ cond b [] (row w counts masks i)
-unfolding row
+row-cond : (w : ℕ) (b : Bool) (counts c masks : List ℕ) (i : ℕ) → getD c i 0 ≡ cond b 0 (getD counts i 0) → rowOf w (table c masks) i ≡ cond b [] (rowOf w (table counts masks) i)
+unfolding rowOf
 row-cond w true counts c masks i e = rw e
 row-cond w false counts c masks i e = rw e
 
 -- the rows given up are those that pass
 pub rows-given-up : (w n : ℕ) (t : List ℕ → Bool) (counts masks : List ℕ) →
-    keep some (tab n (row w (givenUp n (λ i. t (row w counts masks i)) counts) masks)) ≡ keep (λ p. not (t p)) (keep some (tab n (row w counts masks)))
+    keep hasTerms (tab n (rowOf w (table (givenUp n (λ i. t (rowOf w (table counts masks) i)) counts) masks))) ≡ keep (λ p. not (t p)) (keep hasTerms (tab n (rowOf w (table counts masks))))
 rows-given-up w n t counts masks =
-    ap (λ l. keep some l)
-    (tab-cong n (row w (givenUp n (λ i. t (row w counts masks i)) counts) masks) (λ i. cond (t (row w counts masks i)) [] (row w counts masks i))
-    (λ i h. row-cond w (t (row w counts masks i)) counts (givenUp n (λ k. t (row w counts masks k)) counts) masks i (given-up-count (λ k. t (row w counts masks k)) counts n i h)))
-    ∙ keep-emptied t n (row w counts masks)
+    ap (λ l. keep hasTerms l)
+    (tab-cong n (rowOf w (table (givenUp n (λ i. t (rowOf w (table counts masks) i)) counts) masks)) (λ i. cond (t (rowOf w (table counts masks) i)) [] (rowOf w (table counts masks) i))
+    (λ i h. row-cond w (t (rowOf w (table counts masks) i)) counts (givenUp n (λ k. t (rowOf w (table counts masks) k)) counts) masks i (given-up-count (λ k. t (rowOf w (table counts masks) k)) counts n i h)))
+    ∙ keep-emptied t n (rowOf w (table counts masks))
 
 -- a row that is put behind the others
-module _ (w n : ℕ) (counts masks e : List ℕ) (t : Table w n counts masks) (k : n < length counts) (l : n * w + length e ≤ length masks) where
-  rows-before : (i : ℕ) → i < n → row w (set counts n (length e)) (sets masks (n * w) e) i ≡ row w counts masks i
-  unfolding row
+module _ (w n : ℕ) (counts masks e : List ℕ) (t : TableFits w n (table counts masks)) (k : n < length counts) (l : n * w + length e ≤ length masks) where
+  rows-before : (i : ℕ) → i < n → rowOf w (table (set counts n (length e)) (sets masks (n * w) e)) i ≡ rowOf w (table counts masks) i
+  unfolding rowOf
   rows-before i h =
       let c = getD counts i 0 in
       let same : getD (set counts n (length e)) i 0 ≡ c = getD-set-other counts n i (length e) 0 (λ p. omega arith) in
@@ -164,8 +164,8 @@ module _ (w n : ℕ) (counts masks e : List ℕ) (t : Table w n counts masks) (k
       ∙ take-append-le c (drop (i * w) (take (n * w) masks)) (drop (n * w) masks) (omega (arith, length-drop (i * w) (take (n * w) masks))) in
       rw same (front ∙ sym back)
 
-  row-last : row w (set counts n (length e)) (sets masks (n * w) e) n ≡ e
-  unfolding row
+  row-last : rowOf w (table (set counts n (length e)) (sets masks (n * w) e)) n ≡ e
+  unfolding rowOf
   row-last =
       let same : getD (set counts n (length e)) n 0 ≡ length e = getD-set-same counts n (length e) 0 k in
       let m : length (take (n * w) masks) ≡ n * w = length-take-le (n * w) masks (omega arith) in
@@ -173,42 +173,42 @@ module _ (w n : ℕ) (counts masks e : List ℕ) (t : Table w n counts masks) (k
       sets-eq e masks (n * w) l ∙ append-assoc (take (n * w) masks) e (drop (n * w + length e) masks) in
       rw (same, parts, drop-at (take (n * w) masks) (e ++ drop (n * w + length e) masks) (n * w) m) (take-at e (drop (n * w + length e) masks) (length e) refl)
 
-  pub rows-appended : tab (n + 1) (row w (set counts n (length e)) (sets masks (n * w) e)) ≡ tab n (row w counts masks) ++ (e ∷ [])
+  pub rows-appended : tab (n + 1) (rowOf w (table (set counts n (length e)) (sets masks (n * w) e))) ≡ tab n (rowOf w (table counts masks)) ++ (e ∷ [])
   rows-appended =
-      tab-suc n (row w (set counts n (length e)) (sets masks (n * w) e))
-      ∙ ap₂ (λ (a : List (List ℕ)) (b : List ℕ). a ++ (b ∷ [])) (tab-cong n _ (row w counts masks) rows-before) row-last
+      tab-suc n (rowOf w (table (set counts n (length e)) (sets masks (n * w) e)))
+      ∙ ap₂ (λ (a : List (List ℕ)) (b : List ℕ). a ++ (b ∷ [])) (tab-cong n _ (rowOf w (table counts masks)) rows-before) row-last
 
 -- ---- what the functions are handed and leave
 
 -- a predicate that has terms implies none that has been given up
-pub implies-none : (e : List ℕ) (w i : ℕ) (counts masks : List ℕ) → 0 < length e → getD counts i 0 ≡ 0 → implies e (row w counts masks i) ≡ false
-unfolding row implies holds
+pub implies-none : (e : List ℕ) (w i : ℕ) (counts masks : List ℕ) → 0 < length e → getD counts i 0 ≡ 0 → implies e (rowOf w (table counts masks) i) ≡ false
+unfolding rowOf implies holds
 implies-none [] w i counts masks h z = absurd (omega arith)
 implies-none (t ∷ e) w i counts masks h z = rw z
 
 -- a is the mark of row i, where it is still there
-module _ (i : ℕ) (counts masks p : List ℕ) (a b : ℕ) (f : (getD counts i 0 ≡ 0 → ⊥) → a ≡ markOf (row 16 counts masks i)) (g : b ≡ markOf p) where
-  pub row-apart : a < 2 ^ 32 → subset a b ≡ false → some (row 16 counts masks i) && implies (row 16 counts masks i) p ≡ false
+module _ (i : ℕ) (counts masks p : List ℕ) (a b : ℕ) (f : (getD counts i 0 ≡ 0 → ⊥) → a ≡ markOf (rowOf 16 (table counts masks) i)) (g : b ≡ markOf p) where
+  pub row-apart : a < 2 ^ 32 → subset a b ≡ false → hasTerms (rowOf 16 (table counts masks) i) && implies (rowOf 16 (table counts masks) i) p ≡ false
   row-apart l h = go (ℕ-discrete (getD counts i 0) 0)
     where
-      go : Dec (getD counts i 0 ≡ 0) → some (row 16 counts masks i) && implies (row 16 counts masks i) p ≡ false
+      go : Dec (getD counts i 0 ≡ 0) → hasTerms (rowOf 16 (table counts masks) i) && implies (rowOf 16 (table counts masks) i) p ≡ false
       go (yes z) = rw (row-empty 16 i counts masks z)
-      go (no n) = rw (implies-not (row 16 counts masks i) p a b (f n) g l h) (and-false (some (row 16 counts masks i)))
+      go (no n) = rw (implies-not (rowOf 16 (table counts masks) i) p a b (f n) g l h) (and-false (hasTerms (rowOf 16 (table counts masks) i)))
 
-  pub apart-row : 0 < length p → b < 2 ^ 32 → subset b a ≡ false → implies p (row 16 counts masks i) ≡ false
+  pub apart-row : 0 < length p → b < 2 ^ 32 → subset b a ≡ false → implies p (rowOf 16 (table counts masks) i) ≡ false
   apart-row s l h = go (ℕ-discrete (getD counts i 0) 0)
     where
-      go : Dec (getD counts i 0 ≡ 0) → implies p (row 16 counts masks i) ≡ false
+      go : Dec (getD counts i 0 ≡ 0) → implies p (rowOf 16 (table counts masks) i) ≡ false
       go (yes z) = implies-none p 16 i counts masks s z
-      go (no n) = implies-not p (row 16 counts masks i) b a g (f n) l h
+      go (no n) = implies-not p (rowOf 16 (table counts masks) i) b a g (f n) l h
 
 pub explained-rows : (n : ℕ) (counts masks p : List ℕ) →
-    explained (entriesIn n counts masks) p ≡ anyBelow n (λ i. some (row 16 counts masks i) && implies (row 16 counts masks i) p)
+    explained (entriesIn n (table counts masks)) p ≡ anyBelow n (λ i. hasTerms (rowOf 16 (table counts masks) i) && implies (rowOf 16 (table counts masks) i) p)
 unfolding explained entriesIn
-explained-rows n counts masks p = any-kept some (λ e. implies e p) n (row 16 counts masks)
+explained-rows n counts masks p = any-kept hasTerms (λ e. implies e p) n (rowOf 16 (table counts masks))
 
 -- a table with rows given up, and with one put last
-pub table-less : (w n m : ℕ) (counts masks : List ℕ) → Table w n counts masks → m ≤ n → Table w m counts masks
+pub table-less : (w n m : ℕ) (counts masks : List ℕ) → TableFits w n (table counts masks) → m ≤ n → TableFits w m (table counts masks)
 table-less w n m counts masks t h =
     record { counted = omega (arith, t .counted); long = omega (arith, t .long, mul-le-mul-right w h); narrow = t .narrow }
 
@@ -221,7 +221,7 @@ given-up-behind m i test counts h =
     ap (λ (k : ℕ). getD (tab m f ++ drop m counts) k 0) e ∙ getD-append-add (tab m f) (drop m counts) (i - m) 0
     ∙ getD-drop m counts (i - m) 0 ∙ ap (λ (k : ℕ). getD counts k 0) z
 
-pub table-given-up : (w n m : ℕ) (test : ℕ → Bool) (counts masks : List ℕ) → Table w n counts masks → m ≤ n → Table w n (givenUp m test counts) masks
+pub table-given-up : (w n m : ℕ) (test : ℕ → Bool) (counts masks : List ℕ) → TableFits w n (table counts masks) → m ≤ n → TableFits w n (table (givenUp m test counts) masks)
 table-given-up w n m test counts masks t h =
     record { counted = omega (arith, t .counted, length-given-up test counts m (omega (arith, t .counted))); long = t .long; narrow = small }
   where
@@ -236,7 +236,7 @@ table-given-up w n m test counts masks t h =
     small : (i : ℕ) → getD (givenUp m test counts) i 0 ≤ w
     small i = below i (decLt i m)
 
-pub table-appended : (w n : ℕ) (counts masks e : List ℕ) → Table w (n + 1) counts masks → length e ≤ w → Table w (n + 1) (set counts n (length e)) (sets masks (n * w) e)
+pub table-appended : (w n : ℕ) (counts masks e : List ℕ) → TableFits w (n + 1) (table counts masks) → length e ≤ w → TableFits w (n + 1) (table (set counts n (length e)) (sets masks (n * w) e))
 table-appended w n counts masks e t h =
     record { counted = omega (arith, t .counted, length-set counts n (length e)); long = omega (arith, t .long, length-sets masks (n * w) e); narrow = small }
   where
@@ -248,8 +248,8 @@ table-appended w n counts masks e t h =
     small i = at i (ℕ-discrete i n)
 
 -- a row depends on its own count alone
-pub row-count : (w i : ℕ) (counts c masks : List ℕ) → getD c i 0 ≡ getD counts i 0 → row w c masks i ≡ row w counts masks i
-unfolding row
+pub row-count : (w i : ℕ) (counts c masks : List ℕ) → getD c i 0 ≡ getD counts i 0 → rowOf w (table c masks) i ≡ rowOf w (table counts masks) i
+unfolding rowOf
 row-count w i counts c masks e = rw e
 
 -- a turn of the loop that gives rows up, with the test's result b
@@ -259,47 +259,47 @@ given-up-turn test counts c d i b h p q r = r ∙ rw (q, p) (sym (given-up-next 
 
 -- ---- marks
 
-pub marked-none : (counts masks marks : List ℕ) → Marked 0 counts masks marks
+pub marked-none : (counts masks marks : List ℕ) → Marked 0 (table counts masks) marks
 marked-none counts masks marks = record { reach = omega arith; mark = λ i h. absurd (omega arith) }
 
-pub marked-less : (n m : ℕ) (counts masks marks : List ℕ) → Marked n counts masks marks → m ≤ n → Marked m counts masks marks
+pub marked-less : (n m : ℕ) (counts masks marks : List ℕ) → Marked n (table counts masks) marks → m ≤ n → Marked m (table counts masks) marks
 marked-less n m counts masks marks k h = record { reach = omega (arith, k .reach); mark = λ i l. k .mark i (omega arith) }
 
 -- the next row has its mark
-pub marked-next : (i v : ℕ) (counts masks marks : List ℕ) → v ≡ markOf (row 16 counts masks i) → i < length marks → Marked i counts masks marks
-    → Marked (i + 1) counts masks (set marks i v)
+pub marked-next : (i v : ℕ) (counts masks marks : List ℕ) → v ≡ markOf (rowOf 16 (table counts masks) i) → i < length marks → Marked i (table counts masks) marks
+    → Marked (i + 1) (table counts masks) (set marks i v)
 marked-next i v counts masks marks e h k = record { reach = omega (arith, length-set marks i v); mark = λ j l f. at j l f (ℕ-discrete j i) }
   where
-    at : (j : ℕ) → j < i + 1 → (getD counts j 0 ≡ 0 → ⊥) → Dec (j ≡ i) → getD (set marks i v) j 0 ≡ markOf (row 16 counts masks j)
+    at : (j : ℕ) → j < i + 1 → (getD counts j 0 ≡ 0 → ⊥) → Dec (j ≡ i) → getD (set marks i v) j 0 ≡ markOf (rowOf 16 (table counts masks) j)
     at j l f (yes p) =
-        subst (λ (x : ℕ). getD (set marks i v) x 0 ≡ markOf (row 16 counts masks x)) (sym p) (getD-set-same marks i v 0 h ∙ e)
+        subst (λ (x : ℕ). getD (set marks i v) x 0 ≡ markOf (rowOf 16 (table counts masks) x)) (sym p) (getD-set-same marks i v 0 h ∙ e)
     at j l f (no p) = getD-set-other marks i j v 0 p ∙ k .mark j (omega arith) f
 
 -- a row that is still there has kept its mark
-marked-given-up : (n : ℕ) (test : ℕ → Bool) (counts masks marks : List ℕ) → Marked n counts masks marks → Marked n (givenUp n test counts) masks marks
+marked-given-up : (n : ℕ) (test : ℕ → Bool) (counts masks marks : List ℕ) → Marked n (table counts masks) marks → Marked n (table (givenUp n test counts) masks) marks
 marked-given-up n test counts masks marks k = record { reach = k .reach; mark = λ i h. go i h (test i) (given-up-count test counts n i h) }
   where
     go : (i : ℕ) → i < n → (b : Bool) → getD (givenUp n test counts) i 0 ≡ cond b 0 (getD counts i 0) → (getD (givenUp n test counts) i 0 ≡ 0 → ⊥)
-        → getD marks i 0 ≡ markOf (row 16 (givenUp n test counts) masks i)
+        → getD marks i 0 ≡ markOf (rowOf 16 (table (givenUp n test counts) masks) i)
     go i h true e f = absurd (f e)
     go i h false e f = k .mark i h (λ z. f (e ∙ z)) ∙ ap markOf (sym (row-count 16 i counts (givenUp n test counts) masks e))
 
 -- an entry is learnt: those that it implies are given up, and it is put last
-module _ (n : ℕ) (counts masks e : List ℕ) (t : Table 16 (n + 1) counts masks) (few : length e ≤ 16) (a b m : List ℕ)
-    (p : a ≡ givenUp n (λ i. implies e (row 16 counts masks i)) counts) (q : b ≡ set a n (length e)) (r : m ≡ sets masks (n * 16) e) where
-  gone : Table 16 (n + 1) a masks
-  gone = rw p (table-given-up 16 (n + 1) n (λ i. implies e (row 16 counts masks i)) counts masks t (omega arith))
+module _ (n : ℕ) (counts masks e : List ℕ) (t : TableFits 16 (n + 1) (table counts masks)) (few : length e ≤ 16) (a b m : List ℕ)
+    (p : a ≡ givenUp n (λ i. implies e (rowOf 16 (table counts masks) i)) counts) (q : b ≡ set a n (length e)) (r : m ≡ sets masks (n * 16) e) where
+  gone : TableFits 16 (n + 1) (table a masks)
+  gone = rw p (table-given-up 16 (n + 1) n (λ i. implies e (rowOf 16 (table counts masks) i)) counts masks t (omega arith))
 
-  pub learn-table : Table 16 (n + 1) b m
+  pub learn-table : TableFits 16 (n + 1) (table b m)
   learn-table = rw (q, r) (table-appended 16 n a masks e gone few)
 
-  pub learn-marked : (marks k : List ℕ) (mark : ℕ) → Marked n counts masks marks → n < length marks → mark ≡ markOf e → k ≡ set marks n mark → Marked (n + 1) b m k
+  pub learn-marked : (marks k : List ℕ) (mark : ℕ) → Marked n (table counts masks) marks → n < length marks → mark ≡ markOf e → k ≡ set marks n mark → Marked (n + 1) (table b m) k
   learn-marked marks k mark g h d f =
       let near : n < length a = omega (arith, gone .counted) in
       let room : n * 16 + length e ≤ length masks = omega (arith, gone .long, suc-mul n 16) in
       let less = table-less 16 (n + 1) n a masks gone (omega arith) in
-      let kept : Marked n a masks marks = rw p (marked-given-up n (λ i. implies e (row 16 counts masks i)) counts masks marks g) in
-      let put : Marked n (set a n (length e)) (sets masks (n * 16) e) marks =
+      let kept : Marked n (table a masks) marks = rw p (marked-given-up n (λ i. implies e (rowOf 16 (table counts masks) i)) counts masks marks g) in
+      let put : Marked n (table (set a n (length e)) (sets masks (n * 16) e)) marks =
       record {
         reach = kept .reach;
         mark = λ i l c. kept .mark i l (λ z. c (getD-set-other a n i (length e) 0 (λ x. omega arith) ∙ z))
@@ -307,17 +307,17 @@ module _ (n : ℕ) (counts masks e : List ℕ) (t : Table 16 (n + 1) counts mask
       } in
       rw (q, r, f) (marked-next n mark (set a n (length e)) (sets masks (n * 16) e) marks (d ∙ ap markOf (sym (row-last 16 n a masks e less near room))) h put)
 
-  pub learn-rows : 0 < length e → explained (entriesIn n counts masks) e ≡ false → entriesIn (n + 1) b m ≡ learn e (entriesIn n counts masks)
-  unfolding learn entriesIn some
+  pub learn-rows : 0 < length e → explained (entriesIn n (table counts masks)) e ≡ false → entriesIn (n + 1) (table b m) ≡ learn e (entriesIn n (table counts masks))
+  unfolding learn entriesIn hasTerms
   learn-rows h f =
-      let kept : keep some (tab n (row 16 a masks)) ≡ keep (λ x. not (implies e x)) (keep some (tab n (row 16 counts masks))) =
+      let kept : keep hasTerms (tab n (rowOf 16 (table a masks))) ≡ keep (λ x. not (implies e x)) (keep hasTerms (tab n (rowOf 16 (table counts masks)))) =
       rw p (rows-given-up 16 n (λ x. implies e x) counts masks) in
       rw (q, r, f) (
-      ap (λ l. keep some l) (rows-appended 16 n a masks e (table-less 16 (n + 1) n a masks gone (omega arith)) (omega (arith, gone .counted)) (omega (arith, gone .long, suc-mul n 16)))
-      ∙ keep-append some (tab n (row 16 a masks)) (e ∷ [])
+      ap (λ l. keep hasTerms l) (rows-appended 16 n a masks e (table-less 16 (n + 1) n a masks gone (omega arith)) (omega (arith, gone .counted)) (omega (arith, gone .long, suc-mul n 16)))
+      ∙ keep-append hasTerms (tab n (rowOf 16 (table a masks))) (e ∷ [])
       ∙ ap₂ (λ (x y : List (List ℕ)). x ++ y) kept (last e h)
       )
     where
-      last : (e : List ℕ) → 0 < length e → keep some (e ∷ []) ≡ e ∷ []
+      last : (e : List ℕ) → 0 < length e → keep hasTerms (e ∷ []) ≡ e ∷ []
       last [] h = absurd (omega arith)
       last (x ∷ l) h = refl

@@ -14,7 +14,7 @@ use Rattle.state.specs.Model.{Datum, Store}
 unfoldable pub disjoint : Datum → Datum → Bool
 disjoint d e = ltb (d .right) (e .left) || ltb (e .right) (d .left)
 
--- some entry implies p
+-- hasTerms entry implies p
 unfoldable pub explained : List (List ℕ) → List ℕ → Bool
 explained es p = any (λ e. implies e p) es
 

@@ -4,8 +4,7 @@ ghost use mathlib.Core.List.{_++_};
 ghost use Prim.Native.Nat.{_+_, _≤_, _<_};
 ghost use lib.ListN.{length};
 ghost use Rattle.numbers.specs.Numbers.{tab};
-ghost use Rattle.state.specs.code.Tables.{Table, Columns, entriesIn, datum, datumIn};
-ghost use Rattle.state.specs.code.Tables.{dataIn};
+ghost use Rattle.state.specs.code.Tables.{table, columns, TableFits, ColumnsFit, entriesIn, datum, datumIn, dataIn};
 ghost use Rattle.steps.specs.code.Rows.{newly};
 ghost use Rattle.steps.specs.Steps.{learnt, heldAfter, met, without, stored};
 
@@ -33,10 +32,10 @@ fn place(
     right: u64,
     p: &[u32],
 ) -> Placed
-    requires { ⌜ Columns h (now lefts) (now rights) (now held) (now terms) ⌝ }
+    requires { ⌜ ColumnsFit h (columns (now lefts) (now rights) (now held) (now terms)) ⌝ }
     requires { ⌜ 0 < length (now p) ⌝ }
-    ensures { λ r. ⌜ dataIn h (now (lefts .entry)) (now (rights .entry)) (now (held .exit)) (now (terms .entry)) ++ newly (r .stored) (datum (r .left) (r .right) (now (p .entry))) ≡ stored (met (datum left right (now (p .entry))) (dataIn h (now (lefts .entry)) (now (rights .entry)) (now (held .entry)) (now (terms .entry)))) (without (now (p .entry)) (dataIn h (now (lefts .entry)) (now (rights .entry)) (now (held .entry)) (now (terms .entry)))) ⌝ }
-    ensures { λ _. ⌜ Table 8 h (now (held .exit)) (now (terms .entry)) ⌝ }
+    ensures { λ r. ⌜ dataIn h (columns (now (lefts .entry)) (now (rights .entry)) (now (held .exit)) (now (terms .entry))) ++ newly (r .stored) (datum (r .left) (r .right) (now (p .entry))) ≡ stored (met (datum left right (now (p .entry))) (dataIn h (columns (now (lefts .entry)) (now (rights .entry)) (now (held .entry)) (now (terms .entry))))) (without (now (p .entry)) (dataIn h (columns (now (lefts .entry)) (now (rights .entry)) (now (held .entry)) (now (terms .entry))))) ⌝ }
+    ensures { λ _. ⌜ TableFits 8 h (table (now (held .exit)) (now (terms .entry))) ⌝ }
 {
     let ends = super::steps::meet(lefts, rights, held, terms, h, left, right, p);
     let low = ends.left;
@@ -71,13 +70,13 @@ pub fn settle(
     masks: &mut [u32],
     n: usize,
 ) -> Outcome
-    requires { ⌜ Columns h (now lefts) (now rights) (now held) (now terms) ⌝ }
-    requires { ⌜ Table 16 (n + h) (now counts) (now masks) ⌝ }
+    requires { ⌜ ColumnsFit h (columns (now lefts) (now rights) (now held) (now terms)) ⌝ }
+    requires { ⌜ TableFits 16 (n + h) (table (now counts) (now masks)) ⌝ }
     requires { ⌜ (0 < length (now p)) × (length (now p) ≤ 8) × (n + h ≤ 48) ⌝ }
-    requires { ⌜ tab h (datumIn (now lefts) (now rights) (now held) (now terms)) ≡ dataIn h (now lefts) (now rights) (now held) (now terms) ⌝ }
-    ensures { λ r. ⌜ (r .known ≤ n + h) × Table 16 (r .known) (now (counts .exit)) (now (masks .exit)) × Table 8 h (now (held .exit)) (now (terms .entry)) ⌝ }
-    ensures { λ r. ⌜ entriesIn (r .known) (now (counts .exit)) (now (masks .exit)) ≡ learnt (datum left right (now (p .entry))) (dataIn h (now (lefts .entry)) (now (rights .entry)) (now (held .entry)) (now (terms .entry))) (entriesIn n (now (counts .entry)) (now (masks .entry))) ⌝ }
-    ensures { λ r. ⌜ dataIn h (now (lefts .entry)) (now (rights .entry)) (now (held .exit)) (now (terms .entry)) ++ newly (r .placed .stored) (datum (r .placed .left) (r .placed .right) (now (p .entry))) ≡ heldAfter (datum left right (now (p .entry))) (dataIn h (now (lefts .entry)) (now (rights .entry)) (now (held .entry)) (now (terms .entry))) (entriesIn (r .known) (now (counts .exit)) (now (masks .exit))) ⌝ }
+    requires { ⌜ tab h (datumIn (columns (now lefts) (now rights) (now held) (now terms))) ≡ dataIn h (columns (now lefts) (now rights) (now held) (now terms)) ⌝ }
+    ensures { λ r. ⌜ (r .known ≤ n + h) × TableFits 16 (r .known) (table (now (counts .exit)) (now (masks .exit))) × TableFits 8 h (table (now (held .exit)) (now (terms .entry))) ⌝ }
+    ensures { λ r. ⌜ entriesIn (r .known) (table (now (counts .exit)) (now (masks .exit))) ≡ learnt (datum left right (now (p .entry))) (dataIn h (columns (now (lefts .entry)) (now (rights .entry)) (now (held .entry)) (now (terms .entry)))) (entriesIn n (table (now (counts .entry)) (now (masks .entry)))) ⌝ }
+    ensures { λ r. ⌜ dataIn h (columns (now (lefts .entry)) (now (rights .entry)) (now (held .exit)) (now (terms .entry))) ++ newly (r .placed .stored) (datum (r .placed .left) (r .placed .right) (now (p .entry))) ≡ heldAfter (datum left right (now (p .entry))) (dataIn h (columns (now (lefts .entry)) (now (rights .entry)) (now (held .entry)) (now (terms .entry)))) (entriesIn (r .known) (table (now (counts .exit)) (now (masks .exit)))) ⌝ }
 {
     let mut marks = [0u32; 48];
     super::tables::mark_rows(counts, masks, n, &mut marks);

@@ -9,9 +9,8 @@ ghost use lib.ListN.{length, getD};
 ghost use Rattle.numbers.specs.Numbers.{tab};
 ghost use Rattle.predicates.specs.Lists.{any};
 ghost use Rattle.predicates.specs.Predicates.{normal};
-ghost use Rattle.state.specs.code.Tables.{Table, Columns, row, some, entriesIn, datum, datumIn};
-ghost use Rattle.steps.specs.code.Rows.{Marked, First, liveBelow, givenUp};
-ghost use Rattle.state.specs.code.Tables.{dataIn};
+ghost use Rattle.state.specs.code.Tables.{table, columns, TableFits, ColumnsFit, rowOf, hasTerms, entriesIn, datum, datumIn, dataIn};
+ghost use Rattle.steps.specs.code.Rows.{Marked, givenUp, FirstRow, liveBelow};
 ghost use Rattle.steps.specs.Steps.{disjoint as Receiving·disjoint, explained, learn, learnt, same as Receiving·same, met, without, betters as Receiving·betters};
 
 // Two ends of an interval.
@@ -40,10 +39,10 @@ fn learn_from(
     marks: &mut [u32],
     n: usize,
 ) -> usize
-    requires { ⌜ Table 16 (n + 1) (now counts) (now masks) ⌝ }
-    requires { ⌜ (length (now q) ≤ 8) × (0 < length (now p)) × (length (now p) ≤ 8) × (n < length (now marks)) × Marked n (now counts) (now masks) (now marks) ⌝ }
-    ensures { λ r. ⌜ (n ≤ r) × (r ≤ n + 1) × Table 16 r (now (counts .exit)) (now (masks .exit)) × Marked r (now (counts .exit)) (now (masks .exit)) (now (marks .exit)) ⌝ }
-    ensures { λ r. ⌜ entriesIn r (now (counts .exit)) (now (masks .exit)) ≡ cond (Receiving·disjoint (datum a b (now (q .entry))) (datum left right (now (p .entry)))) (learn (normal (now (q .entry) ++ now (p .entry))) (entriesIn n (now (counts .entry)) (now (masks .entry)))) (entriesIn n (now (counts .entry)) (now (masks .entry))) ⌝ }
+    requires { ⌜ TableFits 16 (n + 1) (table (now counts) (now masks)) ⌝ }
+    requires { ⌜ (length (now q) ≤ 8) × (0 < length (now p)) × (length (now p) ≤ 8) × (n < length (now marks)) × Marked n (table (now counts) (now masks)) (now marks) ⌝ }
+    ensures { λ r. ⌜ (n ≤ r) × (r ≤ n + 1) × TableFits 16 r (table (now (counts .exit)) (now (masks .exit))) × Marked r (table (now (counts .exit)) (now (masks .exit))) (now (marks .exit)) ⌝ }
+    ensures { λ r. ⌜ entriesIn r (table (now (counts .exit)) (now (masks .exit))) ≡ cond (Receiving·disjoint (datum a b (now (q .entry))) (datum left right (now (p .entry)))) (learn (normal (now (q .entry) ++ now (p .entry))) (entriesIn n (table (now (counts .entry)) (now (masks .entry))))) (entriesIn n (table (now (counts .entry)) (now (masks .entry)))) ⌝ }
 {
     if !disjoint(a, b, left, right) {
         return n;
@@ -68,11 +67,11 @@ pub fn learn_all(
     marks: &mut [u32],
     n: usize,
 ) -> usize
-    requires { ⌜ Columns h (now lefts) (now rights) (now held) (now terms) ⌝ }
-    requires { ⌜ Table 16 (n + h) (now counts) (now masks) ⌝ }
-    requires { ⌜ (0 < length (now p)) × (length (now p) ≤ 8) × (n + h ≤ length (now marks)) × Marked n (now counts) (now masks) (now marks) ⌝ }
-    ensures { λ r. ⌜ (r ≤ n + h) × Table 16 r (now (counts .exit)) (now (masks .exit)) × Marked r (now (counts .exit)) (now (masks .exit)) (now (marks .exit)) ⌝ }
-    ensures { λ r. ⌜ entriesIn r (now (counts .exit)) (now (masks .exit)) ≡ learnt (datum left right (now (p .entry))) (tab h (datumIn (now (lefts .entry)) (now (rights .entry)) (now (held .entry)) (now (terms .entry)))) (entriesIn n (now (counts .entry)) (now (masks .entry))) ⌝ }
+    requires { ⌜ ColumnsFit h (columns (now lefts) (now rights) (now held) (now terms)) ⌝ }
+    requires { ⌜ TableFits 16 (n + h) (table (now counts) (now masks)) ⌝ }
+    requires { ⌜ (0 < length (now p)) × (length (now p) ≤ 8) × (n + h ≤ length (now marks)) × Marked n (table (now counts) (now masks)) (now marks) ⌝ }
+    ensures { λ r. ⌜ (r ≤ n + h) × TableFits 16 r (table (now (counts .exit)) (now (masks .exit))) × Marked r (table (now (counts .exit)) (now (masks .exit))) (now (marks .exit)) ⌝ }
+    ensures { λ r. ⌜ entriesIn r (table (now (counts .exit)) (now (masks .exit))) ≡ learnt (datum left right (now (p .entry))) (tab h (datumIn (columns (now (lefts .entry)) (now (rights .entry)) (now (held .entry)) (now (terms .entry))))) (entriesIn n (table (now (counts .entry)) (now (masks .entry)))) ⌝ }
 {
     let mut known = n;
     let mut i: usize = 0;
@@ -107,8 +106,8 @@ fn explained_row(
     n: usize,
 ) -> bool
     requires { ⌜ (i < length (now held)) × (i * 8 + getD (now held) i 0 ≤ length (now terms)) ⌝ }
-    requires { ⌜ Table 16 n (now counts) (now masks) × Marked n (now counts) (now masks) (now marks) ⌝ }
-    ensures { λ r. ⌜ r ≡ explained (entriesIn n (now (counts .entry)) (now (masks .entry))) (row 8 (now (held .entry)) (now (terms .entry)) i) ⌝ }
+    requires { ⌜ TableFits 16 n (table (now counts) (now masks)) × Marked n (table (now counts) (now masks)) (now marks) ⌝ }
+    ensures { λ r. ⌜ r ≡ explained (entriesIn n (table (now (counts .entry)) (now (masks .entry)))) (rowOf 8 (table (now (held .entry)) (now (terms .entry))) i) ⌝ }
 {
     let from = i * 8;
     let to = from + held[i] as usize;
@@ -125,9 +124,9 @@ pub fn drop_explained(
     marks: &[u32],
     n: usize,
 )
-    requires { ⌜ Table 8 h (now held) (now terms) ⌝ }
-    requires { ⌜ Table 16 n (now counts) (now masks) × Marked n (now counts) (now masks) (now marks) ⌝ }
-    ensures { λ _. ⌜ now (held .exit) ≡ givenUp h (λ i. explained (entriesIn n (now (counts .entry)) (now (masks .entry))) (row 8 (now (held .entry)) (now (terms .entry)) i)) (now (held .entry)) ⌝ }
+    requires { ⌜ TableFits 8 h (table (now held) (now terms)) ⌝ }
+    requires { ⌜ TableFits 16 n (table (now counts) (now masks)) × Marked n (table (now counts) (now masks)) (now marks) ⌝ }
+    ensures { λ _. ⌜ now (held .exit) ≡ givenUp h (λ i. explained (entriesIn n (table (now (counts .entry)) (now (masks .entry)))) (rowOf 8 (table (now (held .entry)) (now (terms .entry))) i)) (now (held .entry)) ⌝ }
 {
     let mut i: usize = 0;
     while i < h {
@@ -158,7 +157,7 @@ fn same(p: &[u32], q: &[u32]) -> bool
 // Whether row i of the held data has the predicate p.
 fn same_row(held: &[u32], terms: &[u32], i: usize, p: &[u32]) -> bool
     requires { ⌜ (i < length (now held)) × (i * 8 + getD (now held) i 0 ≤ length (now terms)) ⌝ }
-    ensures { λ r. ⌜ r ≡ Receiving·same (row 8 (now (held .entry)) (now (terms .entry)) i) (now (p .entry)) ⌝ }
+    ensures { λ r. ⌜ r ≡ Receiving·same (rowOf 8 (table (now (held .entry)) (now (terms .entry))) i) (now (p .entry)) ⌝ }
 {
     let from = i * 8;
     let to = from + held[i] as usize;
@@ -167,8 +166,8 @@ fn same_row(held: &[u32], terms: &[u32], i: usize, p: &[u32]) -> bool
 
 // The first row of the held data with the predicate p; h where there is none.
 fn find_same(held: &[u32], terms: &[u32], h: usize, p: &[u32]) -> usize
-    requires { ⌜ Table 8 h (now held) (now terms) ⌝ }
-    ensures { λ r. ⌜ First h (λ i. Receiving·same (row 8 (now (held .entry)) (now (terms .entry)) i) (now (p .entry))) r ⌝ }
+    requires { ⌜ TableFits 8 h (table (now held) (now terms)) ⌝ }
+    ensures { λ r. ⌜ FirstRow h (λ i. Receiving·same (rowOf 8 (table (now (held .entry)) (now (terms .entry))) i) (now (p .entry))) r ⌝ }
 {
     let mut i: usize = 0;
     while i < h {
@@ -203,11 +202,11 @@ pub fn meet(
     right: u64,
     p: &[u32],
 ) -> Ends
-    requires { ⌜ Columns h (now lefts) (now rights) (now held) (now terms) ⌝ }
+    requires { ⌜ ColumnsFit h (columns (now lefts) (now rights) (now held) (now terms)) ⌝ }
     requires { ⌜ 0 < length (now p) ⌝ }
-    ensures { λ r. ⌜ datum (r .left) (r .right) (now (p .entry)) ≡ met (datum left right (now (p .entry))) (dataIn h (now (lefts .entry)) (now (rights .entry)) (now (held .entry)) (now (terms .entry))) ⌝ }
-    ensures { λ _. ⌜ dataIn h (now (lefts .entry)) (now (rights .entry)) (now (held .exit)) (now (terms .entry)) ≡ without (now (p .entry)) (dataIn h (now (lefts .entry)) (now (rights .entry)) (now (held .entry)) (now (terms .entry))) ⌝ }
-    ensures { λ _. ⌜ Table 8 h (now (held .exit)) (now (terms .entry)) ⌝ }
+    ensures { λ r. ⌜ datum (r .left) (r .right) (now (p .entry)) ≡ met (datum left right (now (p .entry))) (dataIn h (columns (now (lefts .entry)) (now (rights .entry)) (now (held .entry)) (now (terms .entry)))) ⌝ }
+    ensures { λ _. ⌜ dataIn h (columns (now (lefts .entry)) (now (rights .entry)) (now (held .exit)) (now (terms .entry))) ≡ without (now (p .entry)) (dataIn h (columns (now (lefts .entry)) (now (rights .entry)) (now (held .entry)) (now (terms .entry)))) ⌝ }
+    ensures { λ _. ⌜ TableFits 8 h (table (now (held .exit)) (now (terms .entry))) ⌝ }
 {
     let i = find_same(held, terms, h, p);
     if i == h {
@@ -243,7 +242,7 @@ fn row_betters(
 ) -> bool
     requires { ⌜ (i < length (now held)) × (i * 8 + getD (now held) i 0 ≤ length (now terms)) ⌝ }
     requires { ⌜ (i < length (now lefts)) × (i < length (now rights)) ⌝ }
-    ensures { λ r. ⌜ r ≡ some (row 8 (now (held .entry)) (now (terms .entry)) i) && Receiving·betters (datumIn (now (lefts .entry)) (now (rights .entry)) (now (held .entry)) (now (terms .entry)) i) (datum left right (now (p .entry))) ⌝ }
+    ensures { λ r. ⌜ r ≡ hasTerms (rowOf 8 (table (now (held .entry)) (now (terms .entry))) i) && Receiving·betters (datumIn (columns (now (lefts .entry)) (now (rights .entry)) (now (held .entry)) (now (terms .entry))) i) (datum left right (now (p .entry))) ⌝ }
 {
     let count = held[i] as usize;
     if count == 0 {
@@ -265,8 +264,8 @@ pub fn bettered(
     right: u64,
     p: &[u32],
 ) -> bool
-    requires { ⌜ Columns h (now lefts) (now rights) (now held) (now terms) ⌝ }
-    ensures { λ r. ⌜ r ≡ any (λ d. Receiving·betters d (datum left right (now (p .entry)))) (dataIn h (now (lefts .entry)) (now (rights .entry)) (now (held .entry)) (now (terms .entry))) ⌝ }
+    requires { ⌜ ColumnsFit h (columns (now lefts) (now rights) (now held) (now terms)) ⌝ }
+    ensures { λ r. ⌜ r ≡ any (λ d. Receiving·betters d (datum left right (now (p .entry)))) (dataIn h (columns (now (lefts .entry)) (now (rights .entry)) (now (held .entry)) (now (terms .entry)))) ⌝ }
 {
     let mut i: usize = 0;
     while i < h {
@@ -291,7 +290,7 @@ fn betters_row(
 ) -> bool
     requires { ⌜ (i < length (now held)) × (i * 8 + getD (now held) i 0 ≤ length (now terms)) ⌝ }
     requires { ⌜ (i < length (now lefts)) × (i < length (now rights)) ⌝ }
-    ensures { λ r. ⌜ r ≡ Receiving·betters (datum left right (now (p .entry))) (datumIn (now (lefts .entry)) (now (rights .entry)) (now (held .entry)) (now (terms .entry)) i) ⌝ }
+    ensures { λ r. ⌜ r ≡ Receiving·betters (datum left right (now (p .entry))) (datumIn (columns (now (lefts .entry)) (now (rights .entry)) (now (held .entry)) (now (terms .entry))) i) ⌝ }
 {
     let from = i * 8;
     let to = from + held[i] as usize;
@@ -309,8 +308,8 @@ pub fn drop_bettered(
     right: u64,
     p: &[u32],
 )
-    requires { ⌜ Columns h (now lefts) (now rights) (now held) (now terms) ⌝ }
-    ensures { λ _. ⌜ now (held .exit) ≡ givenUp h (λ i. Receiving·betters (datum left right (now (p .entry))) (datumIn (now (lefts .entry)) (now (rights .entry)) (now (held .entry)) (now (terms .entry)) i)) (now (held .entry)) ⌝ }
+    requires { ⌜ ColumnsFit h (columns (now lefts) (now rights) (now held) (now terms)) ⌝ }
+    ensures { λ _. ⌜ now (held .exit) ≡ givenUp h (λ i. Receiving·betters (datum left right (now (p .entry))) (datumIn (columns (now (lefts .entry)) (now (rights .entry)) (now (held .entry)) (now (terms .entry))) i)) (now (held .entry)) ⌝ }
 {
     let mut i: usize = 0;
     while i < h {

@@ -6,7 +6,7 @@ ghost use Prim.Native.Nat.{_+_, _*_, _≤_, _<_};
 ghost use lib.ListN.{length, getD, set};
 ghost use lib.Seq.{sets};
 ghost use Rattle.predicates.specs.Predicates.{implies, markOf};
-ghost use Rattle.state.specs.code.Tables.{Table, row, some, entriesIn};
+ghost use Rattle.state.specs.code.Tables.{table, TableFits, rowOf, hasTerms, entriesIn};
 ghost use Rattle.steps.specs.code.Rows.{Marked, givenUp};
 ghost use Rattle.steps.specs.Steps.{explained as Receiving·explained, learn as Receiving·learn};
 
@@ -20,8 +20,8 @@ fn row_implies(
     bound: u32,
 ) -> bool
     requires { ⌜ (i < length (now counts)) × (i * 16 + getD (now counts) i 0 ≤ length (now masks)) × (i < length (now marks)) ⌝ }
-    requires { ⌜ (bound ≡ markOf (now p)) × ((getD (now counts) i 0 ≡ 0 → ⊥) → getD (now marks) i 0 ≡ markOf (row 16 (now counts) (now masks) i)) ⌝ }
-    ensures { λ r. ⌜ r ≡ some (row 16 (now (counts .entry)) (now (masks .entry)) i) && implies (row 16 (now (counts .entry)) (now (masks .entry)) i) (now (p .entry)) ⌝ }
+    requires { ⌜ (bound ≡ markOf (now p)) × ((getD (now counts) i 0 ≡ 0 → ⊥) → getD (now marks) i 0 ≡ markOf (rowOf 16 (table (now counts) (now masks)) i)) ⌝ }
+    ensures { λ r. ⌜ r ≡ hasTerms (rowOf 16 (table (now (counts .entry)) (now (masks .entry))) i) && implies (rowOf 16 (table (now (counts .entry)) (now (masks .entry))) i) (now (p .entry)) ⌝ }
 {
     if !predicates::masks::may_imply(marks[i], bound) {
         return false;
@@ -37,8 +37,8 @@ fn row_implies(
 
 // Whether an entry of the table implies p. All of them are held against p, so its mark is made once, and for a table of no rows not at all.
 pub fn explained(counts: &[u32], masks: &[u32], marks: &[u32], n: usize, p: &[u32]) -> bool
-    requires { ⌜ Table 16 n (now counts) (now masks) × Marked n (now counts) (now masks) (now marks) ⌝ }
-    ensures { λ r. ⌜ r ≡ Receiving·explained (entriesIn n (now (counts .entry)) (now (masks .entry))) (now (p .entry)) ⌝ }
+    requires { ⌜ TableFits 16 n (table (now counts) (now masks)) × Marked n (table (now counts) (now masks)) (now marks) ⌝ }
+    ensures { λ r. ⌜ r ≡ Receiving·explained (entriesIn n (table (now (counts .entry)) (now (masks .entry)))) (now (p .entry)) ⌝ }
 {
     if n == 0 {
         return false;
@@ -57,8 +57,8 @@ pub fn explained(counts: &[u32], masks: &[u32], marks: &[u32], n: usize, p: &[u3
 // Whether e, which has terms, implies the predicate in row i of 16; e's mark is given. No predicate of any terms implies one of none.
 fn implies_row(e: &[u32], mark: u32, counts: &[u32], masks: &[u32], marks: &[u32], i: usize) -> bool
     requires { ⌜ (i < length (now counts)) × (i * 16 + getD (now counts) i 0 ≤ length (now masks)) × (i < length (now marks)) ⌝ }
-    requires { ⌜ (mark ≡ markOf (now e)) × ((getD (now counts) i 0 ≡ 0 → ⊥) → getD (now marks) i 0 ≡ markOf (row 16 (now counts) (now masks) i)) × (0 < length (now e)) ⌝ }
-    ensures { λ r. ⌜ r ≡ implies (now (e .entry)) (row 16 (now (counts .entry)) (now (masks .entry)) i) ⌝ }
+    requires { ⌜ (mark ≡ markOf (now e)) × ((getD (now counts) i 0 ≡ 0 → ⊥) → getD (now marks) i 0 ≡ markOf (rowOf 16 (table (now counts) (now masks)) i)) × (0 < length (now e)) ⌝ }
+    ensures { λ r. ⌜ r ≡ implies (now (e .entry)) (rowOf 16 (table (now (counts .entry)) (now (masks .entry))) i) ⌝ }
 {
     if !predicates::masks::may_imply(mark, marks[i]) {
         return false;
@@ -74,9 +74,9 @@ fn implies_row(e: &[u32], mark: u32, counts: &[u32], masks: &[u32], marks: &[u32
 
 // Gives up the entries that e, which has terms, implies; e's mark is given.
 fn forget(counts: &mut [u32], masks: &[u32], marks: &[u32], n: usize, e: &[u32], mark: u32)
-    requires { ⌜ Table 16 n (now counts) (now masks) × Marked n (now counts) (now masks) (now marks) ⌝ }
+    requires { ⌜ TableFits 16 n (table (now counts) (now masks)) × Marked n (table (now counts) (now masks)) (now marks) ⌝ }
     requires { ⌜ (mark ≡ markOf (now e)) × (0 < length (now e)) ⌝ }
-    ensures { λ _. ⌜ now (counts .exit) ≡ givenUp n (λ i. implies (now (e .entry)) (row 16 (now (counts .entry)) (now (masks .entry)) i)) (now (counts .entry)) ⌝ }
+    ensures { λ _. ⌜ now (counts .exit) ≡ givenUp n (λ i. implies (now (e .entry)) (rowOf 16 (table (now (counts .entry)) (now (masks .entry))) i)) (now (counts .entry)) ⌝ }
 {
     let mut i: usize = 0;
     while i < n {
@@ -107,10 +107,10 @@ fn append(counts: &mut [u32], masks: &mut [u32], marks: &mut [u32], n: usize, e:
 
 // Places an entry: not added where an entry implies it; else those that it implies go, and it stands last. Answers how many rows there are now.
 pub fn learn(counts: &mut [u32], masks: &mut [u32], marks: &mut [u32], n: usize, e: &[u32]) -> usize
-    requires { ⌜ Table 16 (n + 1) (now counts) (now masks) ⌝ }
-    requires { ⌜ (0 < length (now e)) × (length (now e) ≤ 16) × (n < length (now marks)) × Marked n (now counts) (now masks) (now marks) ⌝ }
-    ensures { λ r. ⌜ (n ≤ r) × (r ≤ n + 1) × Table 16 r (now (counts .exit)) (now (masks .exit)) × Marked r (now (counts .exit)) (now (masks .exit)) (now (marks .exit)) ⌝ }
-    ensures { λ r. ⌜ entriesIn r (now (counts .exit)) (now (masks .exit)) ≡ Receiving·learn (now (e .entry)) (entriesIn n (now (counts .entry)) (now (masks .entry))) ⌝ }
+    requires { ⌜ TableFits 16 (n + 1) (table (now counts) (now masks)) ⌝ }
+    requires { ⌜ (0 < length (now e)) × (length (now e) ≤ 16) × (n < length (now marks)) × Marked n (table (now counts) (now masks)) (now marks) ⌝ }
+    ensures { λ r. ⌜ (n ≤ r) × (r ≤ n + 1) × TableFits 16 r (table (now (counts .exit)) (now (masks .exit))) × Marked r (table (now (counts .exit)) (now (masks .exit))) (now (marks .exit)) ⌝ }
+    ensures { λ r. ⌜ entriesIn r (table (now (counts .exit)) (now (masks .exit))) ≡ Receiving·learn (now (e .entry)) (entriesIn n (table (now (counts .entry)) (now (masks .entry)))) ⌝ }
 {
     if explained(counts, masks, marks, n, e) {
         return n;
@@ -124,7 +124,7 @@ pub fn learn(counts: &mut [u32], masks: &mut [u32], marks: &mut [u32], n: usize,
 // The mark of row i of 16.
 fn row_mark(counts: &[u32], masks: &[u32], i: usize) -> u32
     requires { ⌜ (i < length (now counts)) × (i * 16 + getD (now counts) i 0 ≤ length (now masks)) ⌝ }
-    ensures { λ r. ⌜ r ≡ markOf (row 16 (now (counts .entry)) (now (masks .entry)) i) ⌝ }
+    ensures { λ r. ⌜ r ≡ markOf (rowOf 16 (table (now (counts .entry)) (now (masks .entry))) i) ⌝ }
 {
     let from = i * 16;
     let to = from + counts[i] as usize;
@@ -133,9 +133,9 @@ fn row_mark(counts: &[u32], masks: &[u32], i: usize) -> u32
 
 // Makes the marks of the first n rows.
 pub fn mark_rows(counts: &[u32], masks: &[u32], n: usize, marks: &mut [u32])
-    requires { ⌜ Table 16 n (now counts) (now masks) ⌝ }
+    requires { ⌜ TableFits 16 n (table (now counts) (now masks)) ⌝ }
     requires { ⌜ n ≤ length (now marks) ⌝ }
-    ensures { λ _. ⌜ Marked n (now (counts .entry)) (now (masks .entry)) (now (marks .exit)) ⌝ }
+    ensures { λ _. ⌜ Marked n (table (now (counts .entry)) (now (masks .entry))) (now (marks .exit)) ⌝ }
 {
     let mut i: usize = 0;
     while i < n {

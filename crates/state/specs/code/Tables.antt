@@ -10,40 +10,67 @@ use lib.ListN.{length, getD, take, drop}
 use Rattle.numbers.specs.Numbers.{tab}
 use Rattle.predicates.specs.Lists.{keep}
 use Rattle.predicates.specs.Predicates.{markOf}
-use Rattle.state.specs.Model.{Datum, Store}
+use Rattle.state.specs.Model.{Datum}
+use Rattle.state.specs.Layout.{datumTerms, entryTerms}
+
+-- predicates in two arrays: row i has its count of terms at i and its terms from i * width on
+pub record Table : Type 0 where
+  pub counts : List ℕ
+  pub masks : List ℕ
+
+abbrev pub table : List ℕ → List ℕ → Table
+table counts masks = record { counts = counts; masks = masks }
+
+-- held data: their ends beside a table of 8 terms a row
+pub record Columns : Type 0 where
+  pub lefts : List ℕ
+  pub rights : List ℕ
+  pub counts : List ℕ
+  pub masks : List ℕ
+
+abbrev pub columns : List ℕ → List ℕ → List ℕ → List ℕ → Columns
+columns lefts rights counts masks = record { lefts = lefts; rights = rights; counts = counts; masks = masks }
+
+abbrev pub tableOf : Columns → Table
+tableOf c = table (c .counts) (c .masks)
+
+-- ---- what fits
 
 -- the arrays have n rows of the width
-pub record Table (width n : ℕ) (counts masks : List ℕ) : Type 0 where
-  pub counted : n ≤ length counts
-  pub long : n * width ≤ length masks
-  pub narrow : (i : ℕ) → getD counts i 0 ≤ width
-
-unfoldable pub row : ℕ → List ℕ → List ℕ → ℕ → List ℕ
-row width counts masks i = take (getD counts i 0) (drop (i * width) masks)
-
--- the predicate has terms
-unfoldable pub some : List ℕ → Bool
-some [] = false
-some (t ∷ p) = true
-
--- the entries in n rows of 16
-unfoldable pub entriesIn : ℕ → List ℕ → List ℕ → List (List ℕ)
-entriesIn n counts masks = keep some (tab n (row 16 counts masks))
-
--- the datum in row i of 8, given up or not
-unfoldable pub datumIn : List ℕ → List ℕ → List ℕ → List ℕ → ℕ → Datum
-datumIn lefts rights counts masks i = record { left = getD lefts i 0; right = getD rights i 0; terms = row 8 counts masks i }
-
--- the data in n rows of 8
-unfoldable pub dataIn : ℕ → List ℕ → List ℕ → List ℕ → List ℕ → List Datum
-dataIn n lefts rights counts masks = keep (λ d. some (d .terms)) (tab n (datumIn lefts rights counts masks))
+pub record TableFits (width n : ℕ) (t : Table) : Type 0 where
+  pub counted : n ≤ length (t .counts)
+  pub long : n * width ≤ length (t .masks)
+  pub narrow : (i : ℕ) → getD (t .counts) i 0 ≤ width
 
 -- the columns have n rows
-pub record Columns (n : ℕ) (lefts rights counts masks : List ℕ) : Type 0 where
-  pub table : Table 8 n counts masks
-  pub lefts-long : n ≤ length lefts
-  pub rights-long : n ≤ length rights
+pub record ColumnsFit (n : ℕ) (c : Columns) : Type 0 where
+  pub table : TableFits datumTerms n (tableOf c)
+  pub lefts-long : n ≤ length (c .lefts)
+  pub rights-long : n ≤ length (c .rights)
+
+-- ---- what the arrays hold
+
+-- the terms of row i
+unfoldable pub rowOf : ℕ → Table → ℕ → List ℕ
+rowOf width t i = take (getD (t .counts) i 0) (drop (i * width) (t .masks))
+
+-- the predicate has terms
+unfoldable pub hasTerms : List ℕ → Bool
+hasTerms [] = false
+hasTerms (t ∷ p) = true
+
+-- the entries in n rows
+unfoldable pub entriesIn : ℕ → Table → List (List ℕ)
+entriesIn n t = keep hasTerms (tab n (rowOf entryTerms t))
 
 -- a datum by its parts
 abbrev pub datum : ℕ → ℕ → List ℕ → Datum
 datum left right terms = record { left = left; right = right; terms = terms }
+
+-- the datum in row i, given up or not
+unfoldable pub datumIn : Columns → ℕ → Datum
+datumIn c i = datum (getD (c .lefts) i 0) (getD (c .rights) i 0) (rowOf datumTerms (tableOf c) i)
+
+-- the data in n rows
+unfoldable pub dataIn : ℕ → Columns → List Datum
+dataIn n c = keep (λ d. hasTerms (d .terms)) (tab n (datumIn c))

@@ -10,21 +10,22 @@ use lib.ListN.{length, getD, drop}
 use Rattle.numbers.specs.Numbers.{tab}
 use Rattle.predicates.specs.Predicates.{markOf}
 use Rattle.state.specs.Model.{Datum, Store}
-use Rattle.state.specs.code.Tables.{row, entriesIn, dataIn}
+use Rattle.state.specs.Layout.{entryTerms}
+use Rattle.state.specs.code.Tables.{Table, table, columns, rowOf, entriesIn, dataIn}
 
--- each of the first n rows of 16 that has not been given up has its mark: the names that make it true alone
-pub record Marked (n : ℕ) (counts masks marks : List ℕ) : Type 0 where
+-- each of the first n rows of entries that has not been given up has its mark: the names that make it true alone
+pub record Marked (n : ℕ) (t : Table) (marks : List ℕ) : Type 0 where
   pub reach : n ≤ length marks
-  pub mark : (i : ℕ) → i < n → (getD counts i 0 ≡ 0 → ⊥) → getD marks i 0 ≡ markOf (row 16 counts masks i)
+  pub mark : (i : ℕ) → i < n → (getD (t .counts) i 0 ≡ 0 → ⊥) → getD marks i 0 ≡ markOf (rowOf entryTerms t i)
 
 -- the counts when the rows that pass the test have been given up
 unfoldable pub givenUp : ℕ → (ℕ → Bool) → List ℕ → List ℕ
 givenUp n test counts = tab n (λ i. cond (test i) 0 (getD counts i 0)) ++ drop n counts
 
 -- r is the first row below n that passes the test, or n
-pub record First (n : ℕ) (test : ℕ → Bool) (r : ℕ) : Type 0 where
+pub record FirstRow (n : ℕ) (test : ℕ → Bool) (r : ℕ) : Type 0 where
   pub within : r ≤ n
-  pub before : (i : ℕ) → i < r → test i ≡ false
+  pub earlier : (i : ℕ) → i < r → test i ≡ false
   pub found : r < n → test r ≡ true
 
 -- how many of the first n rows have terms
@@ -39,4 +40,4 @@ newly b d = cond b (d ∷ []) []
 -- the store that a receipt leaves in the columns and the table
 unfoldable pub outcomeStore : ℕ → List ℕ → List ℕ → List ℕ → List ℕ → Bool → Datum → ℕ → List ℕ → List ℕ → Store
 outcomeStore h lefts rights held terms stored d n counts masks =
-    record { held = dataIn h lefts rights held terms ++ newly stored d; entries = entriesIn n counts masks }
+    record { held = dataIn h (columns lefts rights held terms) ++ newly stored d; entries = entriesIn n (table counts masks) }

@@ -6,8 +6,7 @@ use mathlib.Core.Bool.{cond}
 use native.Mathlib.Omega.{arith}
 use Rattle.state.proofs.LayoutLaws.{length-datum}
 use Rattle.steps.specs.code.Rows.{newly}
-use Rattle.state.specs.code.Tables.{datum}
-use Rattle.state.specs.code.Tables.{dataIn}
+use Rattle.state.specs.code.Tables.{columns, datum, dataIn}
 use Rattle.state.proofs.PutLaws.{data-put, data-put-new}
 use Rattle.steps.proofs.OutcomeLaws.{count-new}
 use borrow.Author.Needs.{needs}
@@ -25,7 +24,7 @@ room c =
     let a = c .before .before .before .before .before .before .before .before .before .before .before in
     let made = c .before .before .before .put-data .ensures in
     let one : _≡_ {A = ℕ} (cond (a .args .stored) 1 0) 1 = ap (λ b. cond b 1 0) (c .if1 .taken) in
-    omega (arith, made .0 .1, count-new (dataIn (a .args .h) (a .args .lefts .now) (a .args .rights .now) (a .args .held .now) (a .args .terms .now)) (a .args .stored) (datum (a .args .left) (a .args .right) (a .args .p .now)), one, a .pre .1 .3)
+    omega (arith, made .0 .1, count-new (dataIn (a .args .h) (columns (a .args .lefts .now) (a .args .rights .now) (a .args .held .now) (a .args .terms .now))) (a .args .stored) (datum (a .args .left) (a .args .right) (a .args .p .now)), one, a .pre .1 .3)
 
 put-datum-requires : tie.Need-put-datum-requires
 put-datum-requires c κs =

@@ -9,8 +9,7 @@ use lib.Dec.{ltb}
 use lib.ListN.{length}
 use Rattle.numbers.specs.Numbers.{Bytes, put, bytes}
 use Rattle.steps.specs.code.Rows.{newly, outcomeStore}
-use Rattle.state.specs.code.Tables.{datum, entriesIn}
-use Rattle.state.specs.code.Tables.{dataIn}
+use Rattle.state.specs.code.Tables.{table, columns, entriesIn, datum, dataIn}
 use Rattle.steps.specs.Steps.{tooMany}
 use Rattle.steps.proofs.OutcomeLaws.{many-counts, held-live, entries-live, length-outcome, few-counts, put-long}
 use Rattle.engine.proofs.ReceiptLaws.{state-put}
@@ -40,12 +39,12 @@ many c =
 -- the two counts are those of the store
 kept : (c : tie.After-live2) →
     let a = c .before .before .before .before .before .before .before .before .before .before .before .before .args in
-    length (dataIn (a .h) (a .lefts .now) (a .rights .now) (a .held .now) (a .terms .now) ++ newly (a .done .placed .stored) (datum (a .done .placed .left) (a .done .placed .right) (a .p .now))) ≡ c .before .with-new .result
+    length (dataIn (a .h) (columns (a .lefts .now) (a .rights .now) (a .held .now) (a .terms .now)) ++ newly (a .done .placed .stored) (datum (a .done .placed .left) (a .done .placed .right) (a .p .now))) ≡ c .before .with-new .result
 kept c =
     let a = c .before .before .before .before .before .before .before .before .before .before .before .before in
     held-live _ _ _ _ _ _ _ _ (a .pre .0 .0) (a .pre .0 .1) _ _ _ (c .before .with-new .ensures .0 ∙ ap (λ x. x + cond (a .args .done .placed .stored) 1 0) (c .before .before .live .ensures .0))
 
-known : (c : tie.After-live2) → let a = c .before .before .before .before .before .before .before .before .before .before .before .before .args in length (entriesIn (a .done .known) (a .counts .now) (a .masks .now)) ≡ c .live2 .result
+known : (c : tie.After-live2) → let a = c .before .before .before .before .before .before .before .before .before .before .before .before .args in length (entriesIn (a .done .known) (table (a .counts .now) (a .masks .now))) ≡ c .live2 .result
 known c = let a = c .before .before .before .before .before .before .before .before .before .before .before .before in entries-live _ _ _ _ _ _ _ _ (a .pre .0 .0) (a .pre .0 .1) ∙ sym (c .live2 .ensures .0)
 
 returns : tie.Need-returns

@@ -6,7 +6,7 @@ use mathlib.Core.Logic.{⊎-elim}
 use native.Mathlib.Omega.{arith}
 use Rattle.numbers.specs.Numbers.{tab}
 use Rattle.state.specs.Layout.{datumBytes}
-use Rattle.state.specs.code.Tables.{dataIn}
+use Rattle.state.specs.code.Tables.{columns, dataIn}
 use Rattle.state.proofs.RowLaws.{table-room}
 use Rattle.state.proofs.StoreLaws.{length-part-le, Written, written-none}
 use Rattle.state.proofs.StoreLaws.{data-next, data-skip}
@@ -15,7 +15,7 @@ use Rattle.state.proofs.store.put_data.Statement.{statement}
 use Rattle.state.proofs.store.put_data.Tie as tie
 
 abbrev Inv-loop : tie.InvT-loop
-Inv-loop s₀ lefts rights counts masks n r₀ i₀ s r i = (i ≤ n) × (r ≤ i) × Written datumBytes 52 24 (dataIn i lefts rights counts masks) r s₀ s
+Inv-loop s₀ lefts rights counts masks n r₀ i₀ s r i = (i ≤ n) × (r ≤ i) × Written datumBytes 52 24 (dataIn i (columns lefts rights counts masks)) r s₀ s
 
 abbrev μ-loop : tie.MeasureT-loop
 μ-loop s₀ lefts rights counts masks n r₀ i₀ s r i = n - i

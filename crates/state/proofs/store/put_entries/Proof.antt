@@ -6,7 +6,7 @@ use mathlib.Core.Logic.{⊎-elim}
 use native.Mathlib.Omega.{arith}
 use Rattle.numbers.specs.Numbers.{tab}
 use Rattle.state.specs.Layout.{entryBytes}
-use Rattle.state.specs.code.Tables.{entriesIn}
+use Rattle.state.specs.code.Tables.{table, entriesIn}
 use Rattle.state.proofs.RowLaws.{table-room}
 use Rattle.state.proofs.StoreLaws.{length-part-le, Written, written-none, entries-next, entries-skip, entries-room}
 use borrow.Author.Needs.{needs}
@@ -14,7 +14,7 @@ use Rattle.state.proofs.store.put_entries.Statement.{statement}
 use Rattle.state.proofs.store.put_entries.Tie as tie
 
 abbrev Inv-loop : tie.InvT-loop
-Inv-loop s₀ counts masks n r₀ i₀ s r i = (i ≤ n) × (r ≤ i) × Written entryBytes 68 856 (entriesIn i counts masks) r s₀ s
+Inv-loop s₀ counts masks n r₀ i₀ s r i = (i ≤ n) × (r ≤ i) × Written entryBytes 68 856 (entriesIn i (table counts masks)) r s₀ s
 
 abbrev μ-loop : tie.MeasureT-loop
 μ-loop s₀ counts masks n r₀ i₀ s r i = n - i

@@ -5,7 +5,7 @@ use mathlib.Core.Path.{_≡_, refl, sym, _∙_}
 use mathlib.Core.Bool.{false, _&&_}
 use native.Mathlib.Omega.{arith}
 use Rattle.steps.specs.Steps.{betters}
-use Rattle.state.specs.code.Tables.{row, some, datum, datumIn}
+use Rattle.state.specs.code.Tables.{table, columns, rowOf, hasTerms, datum, datumIn}
 use Rattle.steps.proofs.TableLaws.{anyBelow, any-below-next, any-below-here}
 use Rattle.state.proofs.RowLaws.{table-room}
 use Rattle.steps.proofs.StepLaws.{bettered-rows}
@@ -14,7 +14,7 @@ use Rattle.steps.proofs.steps.bettered.Statement.{statement}
 use Rattle.steps.proofs.steps.bettered.Tie as tie
 
 abbrev Inv-loop : tie.InvT-loop
-Inv-loop lefts rights held terms h left right p i₀ i = (i ≤ h) × (anyBelow i (λ k. some (row 8 held terms k) && betters (datumIn lefts rights held terms k) (datum left right p)) ≡ false)
+Inv-loop lefts rights held terms h left right p i₀ i = (i ≤ h) × (anyBelow i (λ k. hasTerms (rowOf 8 (table held terms) k) && betters (datumIn (columns lefts rights held terms) k) (datum left right p)) ≡ false)
 
 abbrev μ-loop : tie.MeasureT-loop
 μ-loop lefts rights held terms h left right p i₀ i = h - i

@@ -7,7 +7,7 @@ use mathlib.Core.Logic.{⊎-elim}
 use native.Mathlib.Omega.{arith}
 use lib.ListN.{length, getD, length-set}
 use Rattle.steps.specs.Steps.{betters}
-use Rattle.state.specs.code.Tables.{datum, datumIn}
+use Rattle.state.specs.code.Tables.{columns, datum, datumIn}
 use Rattle.steps.specs.code.Rows.{givenUp}
 use Rattle.steps.proofs.TableLaws.{given-up-none, given-up-at, given-up-turn}
 use Rattle.state.proofs.RowLaws.{table-room}
@@ -17,7 +17,7 @@ use Rattle.steps.proofs.steps.drop_bettered.Statement.{statement}
 use Rattle.steps.proofs.steps.drop_bettered.Tie as tie
 
 abbrev Inv-loop : tie.InvT-loop
-Inv-loop lefts rights held₀ terms h left right p i₀ held i = (i ≤ h) × (length held ≡ length held₀) × (held ≡ givenUp i (λ k. betters (datum left right p) (datumIn lefts rights held₀ terms k)) held₀)
+Inv-loop lefts rights held₀ terms h left right p i₀ held i = (i ≤ h) × (length held ≡ length held₀) × (held ≡ givenUp i (λ k. betters (datum left right p) (datumIn (columns lefts rights held₀ terms) k)) held₀)
 
 abbrev μ-loop : tie.MeasureT-loop
 μ-loop lefts rights held₀ terms h left right p i₀ held i = h - i

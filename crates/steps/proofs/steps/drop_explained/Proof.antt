@@ -7,7 +7,7 @@ use mathlib.Core.Logic.{⊎-elim}
 use native.Mathlib.Omega.{arith}
 use lib.ListN.{length, getD, length-set}
 use Rattle.steps.specs.Steps.{explained}
-use Rattle.state.specs.code.Tables.{row, entriesIn}
+use Rattle.state.specs.code.Tables.{table, rowOf, entriesIn}
 use Rattle.steps.specs.code.Rows.{givenUp}
 use Rattle.steps.proofs.TableLaws.{given-up-none, given-up-at, given-up-turn, row-count}
 use Rattle.state.proofs.RowLaws.{table-room}
@@ -16,7 +16,7 @@ use Rattle.steps.proofs.steps.drop_explained.Statement.{statement}
 use Rattle.steps.proofs.steps.drop_explained.Tie as tie
 
 abbrev Inv-loop : tie.InvT-loop
-Inv-loop held₀ terms h counts masks marks n i₀ held i = (i ≤ h) × (length held ≡ length held₀) × (held ≡ givenUp i (λ k. explained (entriesIn n counts masks) (row 8 held₀ terms k)) held₀)
+Inv-loop held₀ terms h counts masks marks n i₀ held i = (i ≤ h) × (length held ≡ length held₀) × (held ≡ givenUp i (λ k. explained (entriesIn n (table counts masks)) (rowOf 8 (table held₀ terms) k)) held₀)
 
 abbrev μ-loop : tie.MeasureT-loop
 μ-loop held₀ terms h counts masks marks n i₀ held i = h - i
@@ -39,7 +39,7 @@ loop-again c =
     let i = head .loop .i in
     let same : getD (head .loop .held) i 0 ≡ getD (a .args .held .now) i 0 = ap (λ l. getD l i 0) (head .loop .inv .2) ∙ given-up-at _ _ i in
     let near : i < length (a .args .held .now) = omega (arith, a .pre .0 .counted) in
-    let test = c .before .explained-row .ensures ∙ ap (λ p. explained (entriesIn (a .args .n) (a .args .counts .now) (a .args .masks .now)) p) (row-count 8 i _ _ _ same) in
+    let test = c .before .explained-row .ensures ∙ ap (λ p. explained (entriesIn (a .args .n) (table (a .args .counts .now) (a .args .masks .now))) p) (row-count 8 i _ _ _ same) in
     ⊎-elim
     (λ w. (search needs, ap length (w .1) ∙ simp length-set (head .loop .inv .1), given-up-turn _ _ _ _ i true near (head .loop .inv .2) (sym (w .0 .taken) ∙ test) (w .1)))
     (λ w. (search needs, ap length (w .1) ∙ head .loop .inv .1, given-up-turn _ _ _ _ i false near (head .loop .inv .2) (sym (w .0 .left) ∙ test) (w .1)))

@@ -4,7 +4,7 @@ use mathlib.Core.Path.{_≡_, sym, _∙_}
 use mathlib.Core.Bool.{false}
 use native.Mathlib.Omega.{arith}
 use Rattle.steps.specs.Steps.{same}
-use Rattle.state.specs.code.Tables.{row}
+use Rattle.state.specs.code.Tables.{table, rowOf}
 use Rattle.state.proofs.RowLaws.{table-room}
 use Rattle.steps.proofs.StepLaws.{below-next}
 use borrow.Author.Needs.{needs}
@@ -12,7 +12,7 @@ use Rattle.steps.proofs.steps.find_same.Statement.{statement}
 use Rattle.steps.proofs.steps.find_same.Tie as tie
 
 abbrev Inv-loop : tie.InvT-loop
-Inv-loop held terms h p i₀ i = (i ≤ h) × ((k : ℕ) → k < i → same (row 8 held terms k) p ≡ false)
+Inv-loop held terms h p i₀ i = (i ≤ h) × ((k : ℕ) → k < i → same (rowOf 8 (table held terms) k) p ≡ false)
 
 abbrev μ-loop : tie.MeasureT-loop
 μ-loop held terms h p i₀ i = h - i
@@ -28,7 +28,7 @@ same-row-requires c κs =
 returns : tie.Need-returns Inv-loop μ-loop
 returns c =
     let head = c .before .before .before .loop in
-    record { within = head .inv .0; before = head .inv .1; found = λ q. sym (c .before .same-row .ensures) ∙ c .if1 .taken }
+    record { within = head .inv .0; earlier = head .inv .1; found = λ q. sym (c .before .same-row .ensures) ∙ c .if1 .taken }
 
 loop-again : tie.Need-loop-again Inv-loop μ-loop
 loop-again c =
@@ -39,7 +39,7 @@ returns-2 : tie.Need-returns-2 Inv-loop μ-loop
 returns-2 c =
     let head = c .before .loop in
     let done : head .i ≡ c .before .before .before .before .before .args .h = omega arith in
-    record { within = omega arith; before = λ k q. head .inv .1 k (omega arith); found = λ q. absurd (omega arith) }
+    record { within = omega arith; earlier = λ k q. head .inv .1 k (omega arith); found = λ q. absurd (omega arith) }
 
 pub find-same-spec : {M : Type 1} → statement M
 find-same-spec =

@@ -6,7 +6,7 @@ use native.Mathlib.Omega.{arith}
 use lib.ListN.{length, getD}
 use Rattle.numbers.specs.Numbers.{tab}
 use Rattle.steps.specs.Steps.{learnt}
-use Rattle.state.specs.code.Tables.{Table, entriesIn, datum, datumIn}
+use Rattle.state.specs.code.Tables.{table, columns, TableFits, entriesIn, datum, datumIn}
 use Rattle.steps.specs.code.Rows.{Marked}
 use Rattle.state.proofs.RowLaws.{table-room}
 use Rattle.state.proofs.RowLaws.{row-lent, row-length}
@@ -16,7 +16,7 @@ use Rattle.steps.proofs.steps.learn_all.Statement.{statement}
 use Rattle.steps.proofs.steps.learn_all.Tie as tie
 
 abbrev Inv-loop : tie.InvT-loop
-Inv-loop lefts rights held terms h left right p counts₀ masks₀ marks₀ n known₀ i₀ counts masks marks known i = (i ≤ h) × (known ≤ n + i) × (length counts ≡ length counts₀) × (length masks ≡ length masks₀) × Table 16 known counts masks × (entriesIn known counts masks ≡ learnt (datum left right p) (tab i (datumIn lefts rights held terms)) (entriesIn n counts₀ masks₀)) × (length marks ≡ length marks₀) × Marked known counts masks marks
+Inv-loop lefts rights held terms h left right p counts₀ masks₀ marks₀ n known₀ i₀ counts masks marks known i = (i ≤ h) × (known ≤ n + i) × (length counts ≡ length counts₀) × (length masks ≡ length masks₀) × TableFits 16 known (table counts masks) × (entriesIn known (table counts masks) ≡ learnt (datum left right p) (tab i (datumIn (columns lefts rights held terms))) (entriesIn n (table counts₀ masks₀))) × (length marks ≡ length marks₀) × Marked known (table counts masks) marks
 
 abbrev μ-loop : tie.MeasureT-loop
 μ-loop lefts rights held terms h left right p counts₀ masks₀ marks₀ n known₀ i₀ counts masks marks known i = h - i
@@ -72,7 +72,7 @@ loop-again c =
       search needs,
       search needs,
       made .0 .2,
-      learnt-next _ (datumIn (a .args .lefts .now) (a .args .rights .now) (a .args .held .now) (a .args .terms .now)) i _ _ _ (head .loop .inv .5)
+      learnt-next _ (datumIn (columns (a .args .lefts .now) (a .args .rights .now) (a .args .held .now) (a .args .terms .now))) i _ _ _ (head .loop .inv .5)
           (rw (row-lent 8 i (a .args .held .now) (a .args .terms .now)) at (made .1)),
       search needs,
       made .0 .3,

@@ -5,7 +5,7 @@ use mathlib.Core.Path.{_≡_, refl, sym, _∙_}
 use mathlib.Core.Bool.{false, _&&_}
 use native.Mathlib.Omega.{arith}
 use Rattle.predicates.specs.Predicates.{implies}
-use Rattle.state.specs.code.Tables.{row, some}
+use Rattle.state.specs.code.Tables.{table, rowOf, hasTerms}
 use Rattle.steps.proofs.TableLaws.{anyBelow, any-below-next, any-below-here, explained-rows}
 use Rattle.state.proofs.RowLaws.{table-room}
 use borrow.Author.Needs.{needs}
@@ -13,7 +13,7 @@ use Rattle.steps.proofs.tables.explained.Statement.{statement}
 use Rattle.steps.proofs.tables.explained.Tie as tie
 
 abbrev Inv-loop : tie.InvT-loop
-Inv-loop counts masks marks n p bound i₀ i = (i ≤ n) × (anyBelow i (λ k. some (row 16 counts masks k) && implies (row 16 counts masks k) p) ≡ false)
+Inv-loop counts masks marks n p bound i₀ i = (i ≤ n) × (anyBelow i (λ k. hasTerms (rowOf 16 (table counts masks) k) && implies (rowOf 16 (table counts masks) k) p) ≡ false)
 
 abbrev μ-loop : tie.MeasureT-loop
 μ-loop counts masks marks n p bound i₀ i = n - i

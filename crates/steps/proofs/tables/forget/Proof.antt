@@ -7,7 +7,7 @@ use mathlib.Core.Logic.{⊎-elim}
 use native.Mathlib.Omega.{arith}
 use lib.ListN.{length, getD, length-set}
 use Rattle.predicates.specs.Predicates.{implies, markOf}
-use Rattle.state.specs.code.Tables.{row}
+use Rattle.state.specs.code.Tables.{table, rowOf}
 use Rattle.steps.specs.code.Rows.{givenUp}
 use Rattle.steps.proofs.TableLaws.{given-up-none, given-up-at, given-up-turn, row-count}
 use Rattle.state.proofs.RowLaws.{table-room}
@@ -16,7 +16,7 @@ use Rattle.steps.proofs.tables.forget.Statement.{statement}
 use Rattle.steps.proofs.tables.forget.Tie as tie
 
 abbrev Inv-loop : tie.InvT-loop
-Inv-loop counts₀ masks marks n e mark i₀ counts i = (i ≤ n) × (length counts ≡ length counts₀) × (counts ≡ givenUp i (λ k. implies e (row 16 counts₀ masks k)) counts₀)
+Inv-loop counts₀ masks marks n e mark i₀ counts i = (i ≤ n) × (length counts ≡ length counts₀) × (counts ≡ givenUp i (λ k. implies e (rowOf 16 (table counts₀ masks) k)) counts₀)
 
 abbrev μ-loop : tie.MeasureT-loop
 μ-loop counts₀ masks marks n e mark i₀ counts i = n - i

@@ -10,9 +10,10 @@ use Rattle.steps.proofs.TableLaws.{marked-none, marked-next}
 use borrow.Author.Needs.{needs}
 use Rattle.steps.proofs.tables.mark_rows.Statement.{statement}
 use Rattle.steps.proofs.tables.mark_rows.Tie as tie
+use Rattle.state.specs.code.Tables.{table}
 
 abbrev Inv-loop : tie.InvT-loop
-Inv-loop counts masks n marks₀ i₀ marks i = (i ≤ n) × (length marks ≡ length marks₀) × Marked i counts masks marks
+Inv-loop counts masks n marks₀ i₀ marks i = (i ≤ n) × (length marks ≡ length marks₀) × Marked i (table counts masks) marks
 
 abbrev μ-loop : tie.MeasureT-loop
 μ-loop counts masks n marks₀ i₀ marks i = n - i
