@@ -7,8 +7,6 @@ pub mod StateLaws
 pub mod TermLaws
 pub mod FormLoops
 pub mod RowLoops
-pub mod HeldLaws
-pub mod KnowledgeLaws
 pub mod RowLaws
 pub mod OkLaws
 pub mod StoreLaws

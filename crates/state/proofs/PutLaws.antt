@@ -9,9 +9,9 @@ use native.Mathlib.Omega.{arith}
 use lib.ListN.{length, getD, drop, set, length-append, take-append-drop}
 use lib.Seq.{getD-drop, set-getD, set-comm, drop-set-lt}
 use Rattle.numbers.specs.Numbers.{put, tab}
-use Rattle.numbers.proofs.NumberLaws.{put-then}
+use Rattle.numbers.proofs.NumberLaws.{put-then, length-put}
 use Rattle.state.specs.Model.{Datum}
-use Rattle.state.specs.Layout.{zeros, joined, datumBytes, entryBytes, dataBytes, entriesBytes}
+use Rattle.state.specs.Layout.{dataAt, dataMost, datumSize, entriesAt, entriesMost, entrySize, datumPlace, entryPlace, zeros, joined, datumBytes, entryBytes, dataBytes, entriesBytes}
 use Rattle.state.proofs.LayoutLaws.{part, At, at-then}
 
 -- ---- what stands at a place
@@ -73,32 +73,23 @@ module _ {A : Type 0} (f : A → List ℕ) where
 -- ---- the places of data and entries
 
 -- the data, and zeros in the places left over
-pub data-put : (ds : List Datum) (k : ℕ) (s t u : List ℕ) → k ≡ length ds → length (joined datumBytes ds) ≡ k * 52 → t ≡ put 24 (joined datumBytes ds) s
-    → u ≡ put (24 + k * 52) (zeros (856 - (24 + k * 52))) t → u ≡ put 24 (dataBytes (ds ++ [])) s
+pub data-put : (ds : List Datum) (k : ℕ) (s t u : List ℕ) → k ≡ length ds → length (joined datumBytes ds) ≡ k * datumSize
+    → t ≡ put dataAt (joined datumBytes ds) s → u ≡ put (datumPlace k) (zeros (entriesAt - datumPlace k)) t → u ≡ put dataAt (dataBytes ds) s
 unfolding dataBytes
 data-put ds k s t u c z p q =
-    let e : 856 - (24 + k * 52) ≡ (16 - length ds) * 52 = omega arith in
-    put-then (k * 52) 24 (24 + k * 52) (joined datumBytes ds) (zeros ((16 - length ds) * 52)) s t u z refl p (q ∙ ap (λ (n : ℕ). put (24 + k * 52) (zeros n) t) e)
-    ∙ ap (λ (l : List Datum). put 24 (joined datumBytes l ++ zeros ((16 - length l) * 52)) s) (sym (append-nil ds))
+    let e : entriesAt - datumPlace k ≡ (dataMost - length ds) * datumSize = omega arith in
+    put-then (k * datumSize) dataAt (datumPlace k) (joined datumBytes ds) (zeros ((dataMost - length ds) * datumSize)) s t u z refl p
+    (q ∙ ap (λ (n : ℕ). put (datumPlace k) (zeros n) t) e)
 
--- and one more behind them
-pub data-put-new : (ds : List Datum) (d : Datum) (k : ℕ) (s t u v : List ℕ) → k ≡ length ds → length (joined datumBytes ds) ≡ k * 52 → length (datumBytes d) ≡ 52
-    → t ≡ put 24 (joined datumBytes ds) s → u ≡ put (24 + k * 52) (datumBytes d) t → v ≡ put (76 + k * 52) (zeros (856 - (76 + k * 52))) u
-    → v ≡ put 24 (dataBytes (ds ++ (d ∷ []))) s
-unfolding dataBytes
-data-put-new ds d k s t u v c z y p q r =
-    let n : length (ds ++ (d ∷ [])) ≡ k + 1 = omega (arith, length-append ds (d ∷ [])) in
-    let e : 856 - (76 + k * 52) ≡ (16 - length (ds ++ (d ∷ []))) * 52 = omega arith in
-    let both : u ≡ put 24 (joined datumBytes (ds ++ (d ∷ []))) s =
-    put-then (k * 52) 24 (24 + k * 52) (joined datumBytes ds) (datumBytes d) s t u z refl p q ∙ ap (λ (l : List ℕ). put 24 l s) (sym (joined-last datumBytes ds d)) in
-    let long : length (joined datumBytes (ds ++ (d ∷ []))) ≡ (k + 1) * 52 =
-    omega (arith, ap length (joined-last datumBytes ds d), length-append (joined datumBytes ds) (datumBytes d)) in
-    put-then ((k + 1) * 52) 24 (76 + k * 52) (joined datumBytes (ds ++ (d ∷ []))) (zeros ((16 - length (ds ++ (d ∷ []))) * 52)) s u v long (omega arith) both
-    (r ∙ ap (λ (m : ℕ). put (76 + k * 52) (zeros m) u) e)
-
-pub entries-put : (es : List (List ℕ)) (k : ℕ) (s t u : List ℕ) → k ≡ length es → length (joined entryBytes es) ≡ k * 68 → t ≡ put 856 (joined entryBytes es) s
-    → u ≡ put (856 + k * 68) (zeros (3032 - (856 + k * 68))) t → u ≡ put 856 (entriesBytes es) s
+pub entries-put : (es : List (List ℕ)) (k : ℕ) (s t u : List ℕ) → k ≡ length es → length (joined entryBytes es) ≡ k * entrySize
+    → t ≡ put entriesAt (joined entryBytes es) s → u ≡ put (entryPlace k) (zeros (entryPlace entriesMost - entryPlace k)) t
+    → u ≡ put entriesAt (entriesBytes es) s
 unfolding entriesBytes
 entries-put es k s t u c z p q =
-    let e : 3032 - (856 + k * 68) ≡ (32 - length es) * 68 = omega arith in
-    put-then (k * 68) 856 (856 + k * 68) (joined entryBytes es) (zeros ((32 - length es) * 68)) s t u z refl p (q ∙ ap (λ (n : ℕ). put (856 + k * 68) (zeros n) t) e)
+    let e : entryPlace entriesMost - entryPlace k ≡ (entriesMost - length es) * entrySize = omega arith in
+    put-then (k * entrySize) entriesAt (entryPlace k) (joined entryBytes es) (zeros ((entriesMost - length es) * entrySize)) s t u z refl p
+    (q ∙ ap (λ (n : ℕ). put (entryPlace k) (zeros n) t) e)
+
+-- what is stored is as long as it was
+pub put-long : (at : ℕ) (vs s t : List ℕ) → t ≡ put at vs s → length t ≡ length s
+put-long at vs s t e = ap length e ∙ length-put at vs s

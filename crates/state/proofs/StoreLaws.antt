@@ -11,23 +11,25 @@ use native.Mathlib.Nat.{zero-add, mul-le-mul-right, suc-mul, eq-or-lt-of-le}
 use native.Mathlib.Numerals.{add-one}
 use native.Mathlib.Omega.{arith}
 use native.Mathlib.Decide.{decLt}
-use lib.Dec.{T, leb→le, eqb, eqb→eq, eqb-refl}
+use lib.Dec.{T, leb, leb→le, le→leb, eqb, eqb→eq, eqb-refl}
 use lib.ListN.{length, getD, take, drop, set, length-append, length-take, length-drop, length-set, length-replicate, List·getD-append}
 use lib.Seq.{take-append-le, getD-append-add, getD-drop}
 use Rattle.numbers.specs.Numbers.{num, put, tab}
 use Rattle.numbers.proofs.NumberLaws.{length-put, put-then, put-front, length-tab, getD-tab, tab-next}
 use Rattle.predicates.specs.Lists.{all, keep}
-use Rattle.predicates.proofs.ListLaws.{both-l, both-r}
-use Rattle.state.specs.Layout.{datumPlace, entryPlace, heldCount, entryCount, zeros, joined, datumBytes, entryBytes, masksAt, rowAt, datumAt, entryAt, storeOf}
+use Rattle.predicates.proofs.ListLaws.{all-keep, both-l, both-r}
+use Rattle.state.specs.Layout.{dataAt, dataMost, datumSize, datumTerms, entriesAt, entriesMost, entrySize, entryTerms, dataBytes, entriesBytes, datumPlace, entryPlace, heldCount, entryCount, zeros, joined, datumBytes, entryBytes, masksAt, rowAt, datumAt, entryAt, storeOf, dataBytes, entriesBytes, entryTerms, datumTerms, entriesMost, dataMost, entrySize}
 use Rattle.state.specs.Form.{inForm, datumOk, termsFit}
 use Rattle.state.proofs.LayoutLaws.{all-tab, At, length-joined, at-joined, length-datum, length-entry}
 use Rattle.state.proofs.PutLaws.{joined-last}
 use Rattle.state.proofs.StateLaws.{datum-at-ok, length-datum-at, entry-at-ok, length-entry-at}
-use Rattle.state.specs.code.Tables.{table, columns, TableFits, ColumnsFit, rowOf, hasTerms, entriesIn, datum, datumIn, dataIn}
+use Rattle.state.specs.code.Tables.{Table, Columns, tableOf, table, columns, TableFits, ColumnsFit, rowOf, hasTerms, entriesIn, datum, datumIn, dataIn, Columns, Table, tableOf}
 use Rattle.numbers.proofs.NumberLaws.{tab-suc, tab-cong}
 use Rattle.predicates.proofs.ListLaws.{keep-append}
 use Rattle.state.proofs.RowLaws.{row-lent, row-empty}
 use Rattle.state.proofs.RowLaws.{row-full, table-room}
+use Rattle.state.specs.Model.{Datum}
+use Rattle.state.proofs.FormLaws.{length-filled}
 
 -- ---- a loop that fills the front of an array
 
@@ -121,6 +123,12 @@ module _ {A : Type 0} (g : A → Bool) (r : ℕ → A) where
       let more = ap length (keep-append g (tab n r) (r n ∷ [])) ∙ length-append (keep g (tab n r)) (keep g (r n ∷ [])) in
       ⊎-elim (λ (e : i ≡ suc n). rw e (omega arith)) (λ (k : i < suc n). omega (arith, more, kept-le n i (omega arith))) (eq-or-lt-of-le h)
 
+-- there is room for one more
+pub kept-room : {A : Type 0} (g : A → Bool) (f : ℕ → A) (n i m r : ℕ) → i < n → g (f i) ≡ true → r ≡ length (keep g (tab i f))
+    → length (keep g (tab n f)) ≤ m → r < m
+kept-room g f n i m r h e p l =
+    omega (arith, l, p, kept-le g f n (i + 1) (omega arith), ap length (kept-next g f i e), length-append (keep g (tab i f)) (f i ∷ []))
+
 length-row-le : (w i : ℕ) (counts masks : List ℕ) → getD counts i 0 ≤ w → length (rowOf w (table counts masks) i) ≤ w
 unfolding rowOf
 length-row-le w i counts masks h = omega (arith, length-take (getD counts i 0) (drop (i * w) masks))
@@ -154,18 +162,9 @@ module _ (n i : ℕ) (counts masks : List ℕ) (t : TableFits 16 n (table counts
   unfolding entriesIn
   entries-skip k = rw (kept-skip hasTerms (rowOf 16 (table counts masks)) i (row-gone 16 n i counts masks t h k)) w
 
-  -- there is room for one more
   pub entries-room : (m : ℕ) → 0 < getD counts i 0 → length (entriesIn n (table counts masks)) ≤ m → r < m
   unfolding entriesIn
-  entries-room m k l =
-      omega (
-        arith,
-        l,
-        w .counted,
-        kept-le hasTerms (rowOf 16 (table counts masks)) n (i + 1) (omega arith),
-        ap length (kept-next hasTerms (rowOf 16 (table counts masks)) i (row-live 16 n i counts masks t h k)),
-        length-append (keep hasTerms (tab i (rowOf 16 (table counts masks)))) (rowOf 16 (table counts masks) i ∷ []),
-      )
+  entries-room m k l = kept-room hasTerms (rowOf entryTerms (table counts masks)) n i m r h (row-live 16 n i counts masks t h k) (w .counted) l
 
 -- a turn of the loop that writes data
 module _ (n i : ℕ) (lefts rights counts masks : List ℕ) (t : ColumnsFit n (columns lefts rights counts masks)) (h : i < n) (r : ℕ) (s₀ s : List ℕ)
@@ -183,6 +182,36 @@ module _ (n i : ℕ) (lefts rights counts masks : List ℕ) (t : ColumnsFit n (c
   pub data-skip : getD counts i 0 ≤ 0 → Written datumBytes 52 24 (dataIn (i + 1) (columns lefts rights counts masks)) r s₀ s
   unfolding dataIn datumIn
   data-skip k = rw (kept-skip (λ d. hasTerms (d .terms)) (datumIn (columns lefts rights counts masks)) i (row-gone 8 n i counts masks (t .table) h k)) w
+
+  pub data-room : (m : ℕ) → 0 < getD counts i 0 → length (dataIn n (columns lefts rights counts masks)) ≤ m → r < m
+  unfolding dataIn datumIn
+  data-room m k l =
+      kept-room (λ d. hasTerms (d .terms)) (datumIn (columns lefts rights counts masks)) n i m r h (row-live 8 n i counts masks (t .table) h k) (w .counted) l
+
+-- ---- how many bytes the rows take
+
+-- a datum of 52 bytes, an entry of 68
+narrowDatum : Datum → Bool
+narrowDatum d = leb (length (d .terms)) datumTerms
+
+narrowEntry : List ℕ → Bool
+narrowEntry p = leb (length p) entryTerms
+
+pub length-data-in : (n : ℕ) (c : Columns) → TableFits datumTerms n (tableOf c) → length (dataIn n c) ≤ dataMost
+    → length (dataBytes (dataIn n c)) ≡ dataMost * datumSize
+unfolding dataBytes dataIn datumIn narrowDatum
+length-data-in n c t h =
+    length-filled datumBytes datumSize dataMost dataAt narrowDatum (λ d k. length-datum d (leb→le (length (d .terms)) datumTerms k)) (dataIn n c)
+    (all-keep narrowDatum (λ d. hasTerms (d .terms)) (tab n (datumIn c))
+    (all-tab narrowDatum n (datumIn c) (λ i k. le→leb _ datumTerms (length-row-le datumTerms i (c .counts) (c .masks) (t .narrow i))))) h
+
+pub length-entries-in : (n : ℕ) (t : Table) → TableFits entryTerms n t → length (entriesIn n t) ≤ entriesMost
+    → length (entriesBytes (entriesIn n t)) ≡ entriesMost * entrySize
+unfolding entriesBytes entriesIn narrowEntry
+length-entries-in n t f h =
+    length-filled entryBytes entrySize entriesMost entriesAt narrowEntry (λ e k. length-entry e (leb→le (length e) entryTerms k)) (entriesIn n t)
+    (all-keep narrowEntry hasTerms (tab n (rowOf entryTerms t))
+    (all-tab narrowEntry n (rowOf entryTerms t) (λ i k. le→leb _ entryTerms (length-row-le entryTerms i (t .counts) (t .masks) (f .narrow i))))) h
 
 -- ---- what the arrays hold of the bytes
 

@@ -60,6 +60,10 @@ entrySize = 68
 abbrev pub entryTerms : ℕ
 entryTerms = 16
 
+-- the rows of both
+abbrev pub rowsMost : ℕ
+rowsMost = dataMost + entriesMost
+
 -- where datum i and entry i stand
 abbrev pub datumPlace : ℕ → ℕ
 datumPlace i = dataAt + i * datumSize

@@ -1,8 +1,7 @@
-// The 3,032 bytes of a monitor's state (document 01, "State bytes"): the test for form, writing rows, data and entries, and
-// the held data and the knowledge as structs.
+// The bytes of a monitor's state (document 01, "State bytes"): the test for form, rows, data and entries written and read, and the knowledge as a
+// struct.
 // Every function here is proved, and the crate assumes nothing of its own.
 pub mod form;
-pub mod held;
 pub mod knowledge;
 pub mod rows;
 pub mod store;
@@ -33,8 +32,19 @@ pub const ENTRIES_MOST: usize = 32;
 pub const ENTRY_SIZE: usize = 68;
 pub const ENTRY_TERMS: usize = 16;
 
+// Where the places of data and those of entries end, and how many rows both have together.
+pub const DATA_END: usize = DATA_AT + DATA_MOST * DATUM_SIZE;
+pub const ENTRIES_END: usize = ENTRIES_AT + ENTRIES_MOST * ENTRY_SIZE;
+pub const ROWS_MOST: usize = DATA_MOST + ENTRIES_MOST;
+
 // The first end and the first reading that cannot be stored, the highest own name and the greatest drift.
 pub const END_LIMIT: u64 = 288_230_376_151_711_744;
 pub const READING_LIMIT: u64 = 288_230_376_151_711_744;
 pub const NAME_MOST: u32 = 28;
 pub const DRIFT_MOST: u32 = 1_000;
+
+// The two ends of an interval.
+pub struct Ends {
+    pub left: u64,
+    pub right: u64,
+}

@@ -3,7 +3,9 @@ ghost use mathlib.Core.Path.{_≡_};
 ghost use Prim.Native.Nat.{_+_, _*_, _-_, _≤_, _<_};
 ghost use lib.ListN.{length};
 ghost use Rattle.numbers.specs.Numbers.{put};
-ghost use Rattle.state.specs.Layout.{datumPlace, entryPlace, zeros, rowBytes, datumBytes, entryBytes};
+ghost use Rattle.state.specs.Layout.{stateSize, dataMost, datumTerms, entriesMost, entryTerms, datumPlace, entryPlace, zeros, rowBytes, datumBytes, entryBytes};
+ghost use Rattle.state.specs.code.Tables.{datumOf};
+use super::Ends;
 
 // Puts zeros into the bytes from `from` up to `to`.
 pub fn clear(s: &mut [u8], from: usize, to: usize)
@@ -19,7 +21,7 @@ pub fn clear(s: &mut [u8], from: usize, to: usize)
 
 // Puts a predicate into the row at `at`: the count, the terms, and zeros up to the width.
 pub fn put_row(s: &mut [u8], at: usize, width: usize, terms: &[u32])
-    requires { ⌜ (length (now terms) ≤ width) × (width ≤ 16) × (at + 4 + width * 4 ≤ length (now s)) ⌝ }
+    requires { ⌜ (length (now terms) ≤ width) × (width ≤ entryTerms) × (at + 4 + width * 4 ≤ length (now s)) ⌝ }
     ensures { λ _. ⌜ now (s .exit) ≡ put at (rowBytes width (now (terms .entry))) (now (s .entry)) ⌝ }
 {
     let n = terms.len();
@@ -29,20 +31,25 @@ pub fn put_row(s: &mut [u8], at: usize, width: usize, terms: &[u32])
 }
 
 // Puts a datum into place i.
-pub fn put_datum(s: &mut [u8], i: usize, left: u64, right: u64, terms: &[u32])
-    requires { ⌜ (i < 16) × (length (now terms) ≤ 8) × (3032 ≤ length (now s)) ⌝ }
-    ensures { λ _. ⌜ now (s .exit) ≡ put (datumPlace i) (datumBytes (record { left = left; right = right; terms = now (terms .entry) })) (now (s .entry)) ⌝ }
+pub fn put_datum(s: &mut [u8], i: usize, ends: Ends, terms: &[u32])
+    requires { ⌜ (i < dataMost) × (length (now terms) ≤ datumTerms) × (stateSize ≤ length (now s)) ⌝ }
+    ensures { λ _. ⌜ now (s .exit) ≡ put (datumPlace i) (datumBytes (datumOf ends (now (terms .entry)))) (now (s .entry)) ⌝ }
 {
-    let at = 24 + i * 52;
-    numbers::put64(s, at, left);
-    numbers::put64(s, at + 8, right);
-    put_row(s, at + 16, 8, terms);
+    let at = super::DATA_AT + i * super::DATUM_SIZE;
+    numbers::put64(s, at, ends.left);
+    numbers::put64(s, at + super::RIGHT_IN, ends.right);
+    put_row(s, at + super::ROW_IN, super::DATUM_TERMS, terms);
 }
 
 // Puts an entry into place i.
 pub fn put_entry(s: &mut [u8], i: usize, terms: &[u32])
-    requires { ⌜ (i < 32) × (length (now terms) ≤ 16) × (3032 ≤ length (now s)) ⌝ }
+    requires { ⌜ (i < entriesMost) × (length (now terms) ≤ entryTerms) × (stateSize ≤ length (now s)) ⌝ }
     ensures { λ _. ⌜ now (s .exit) ≡ put (entryPlace i) (entryBytes (now (terms .entry))) (now (s .entry)) ⌝ }
 {
-    put_row(s, 856 + i * 68, 16, terms);
+    put_row(
+        s,
+        super::ENTRIES_AT + i * super::ENTRY_SIZE,
+        super::ENTRY_TERMS,
+        terms,
+    );
 }

@@ -3,10 +3,15 @@
 ghost use mathlib.Core.Path.{_≡_};
 ghost use mathlib.Core.List.{_++_};
 ghost use Prim.Native.Nat.{_+_, _*_, _≤_, _<_};
+ghost use lib.Dec.{T};
 ghost use lib.ListN.{length, drop};
-ghost use Rattle.numbers.specs.Numbers.{num, put, tab};
-ghost use Rattle.state.specs.Layout.{datumPlace, entryPlace, masksAt, datumBytes, entryBytes, joined};
-ghost use Rattle.state.specs.code.Tables.{table, columns, TableFits, ColumnsFit, entriesIn, dataIn};
+ghost use Rattle.numbers.specs.Numbers.{num, bytes, put, tab};
+ghost use Rattle.state.specs.Model.{Datum};
+ghost use Rattle.state.specs.Layout.{stateSize, heldAt, knownAt, dataAt, dataMost, datumSize, datumTerms, entriesAt, entriesMost, entrySize, entryTerms, rowsMost, rightIn, rowIn};
+ghost use Rattle.state.specs.Layout.{datumPlace, entryPlace, masksAt, datumBytes, entryBytes, dataBytes, entriesBytes, joined, stateBytes, headOf};
+ghost use Rattle.state.specs.Form.{inForm};
+ghost use Rattle.state.specs.code.Tables.{Columns, Table, columns, table, ColumnsFit, TableFits, entriesIn, dataIn, storeIn};
+use super::Ends;
 
 // Reads the masks of the row at `at`, used or not, into the places from `from` on.
 pub fn get_masks(s: &[u8], at: usize, width: usize, masks: &mut [u32], from: usize)
@@ -22,15 +27,16 @@ pub fn get_masks(s: &[u8], at: usize, width: usize, masks: &mut [u32], from: usi
 
 // Reads the first n entries into the front of the table; the rest of it stays.
 pub fn get_entries(s: &[u8], n: usize, counts: &mut [u32], masks: &mut [u32])
-    requires { ⌜ (3032 ≤ length (now s)) × (n ≤ 32) × (n ≤ length (now counts)) × (n * 16 ≤ length (now masks)) ⌝ }
+    requires { ⌜ (stateSize ≤ length (now s)) × (n ≤ entriesMost) × (n ≤ length (now counts)) × (n * entryTerms ≤ length (now masks)) ⌝ }
     ensures { λ _. ⌜ now (counts .exit) ≡ tab n (λ i. num (entryPlace i) 4 (now (s .entry))) ++ drop n (now (counts .entry)) ⌝ }
-    ensures { λ _. ⌜ now (masks .exit) ≡ joined (λ p. p) (tab n (λ i. masksAt 16 (entryPlace i) (now (s .entry)))) ++ drop (n * 16) (now (masks .entry)) ⌝ }
+    ensures { λ _. ⌜ now (masks .exit) ≡
+      joined (λ p. p) (tab n (λ i. masksAt entryTerms (entryPlace i) (now (s .entry)))) ++ drop (n * entryTerms) (now (masks .entry)) ⌝ }
 {
     let mut i: usize = 0;
     while i < n {
-        let at = 856 + i * 68;
+        let at = super::ENTRIES_AT + i * super::ENTRY_SIZE;
         counts[i] = numbers::get32(s, at);
-        get_masks(s, at, 16, masks, i * 16);
+        get_masks(s, at, super::ENTRY_TERMS, masks, i * super::ENTRY_TERMS);
         i += 1;
     }
 }
@@ -44,26 +50,27 @@ pub fn get_data(
     counts: &mut [u32],
     masks: &mut [u32],
 )
-    requires { ⌜ (3032 ≤ length (now s)) × (n ≤ 16) × (n ≤ length (now lefts)) × (n ≤ length (now rights)) ⌝ }
-    requires { ⌜ (n ≤ length (now counts)) × (n * 8 ≤ length (now masks)) ⌝ }
+    requires { ⌜ (stateSize ≤ length (now s)) × (n ≤ dataMost) × (n ≤ length (now lefts)) × (n ≤ length (now rights)) ⌝ }
+    requires { ⌜ (n ≤ length (now counts)) × (n * datumTerms ≤ length (now masks)) ⌝ }
     ensures { λ _. ⌜ now (lefts .exit) ≡ tab n (λ i. num (datumPlace i) 8 (now (s .entry))) ++ drop n (now (lefts .entry)) ⌝ }
-    ensures { λ _. ⌜ now (rights .exit) ≡ tab n (λ i. num (datumPlace i + 8) 8 (now (s .entry))) ++ drop n (now (rights .entry)) ⌝ }
-    ensures { λ _. ⌜ now (counts .exit) ≡ tab n (λ i. num (datumPlace i + 16) 4 (now (s .entry))) ++ drop n (now (counts .entry)) ⌝ }
-    ensures { λ _. ⌜ now (masks .exit) ≡ joined (λ p. p) (tab n (λ i. masksAt 8 (datumPlace i + 16) (now (s .entry)))) ++ drop (n * 8) (now (masks .entry)) ⌝ }
+    ensures { λ _. ⌜ now (rights .exit) ≡ tab n (λ i. num (datumPlace i + rightIn) 8 (now (s .entry))) ++ drop n (now (rights .entry)) ⌝ }
+    ensures { λ _. ⌜ now (counts .exit) ≡ tab n (λ i. num (datumPlace i + rowIn) 4 (now (s .entry))) ++ drop n (now (counts .entry)) ⌝ }
+    ensures { λ _. ⌜ now (masks .exit) ≡
+      joined (λ p. p) (tab n (λ i. masksAt datumTerms (datumPlace i + rowIn) (now (s .entry)))) ++ drop (n * datumTerms) (now (masks .entry)) ⌝ }
 {
     let mut i: usize = 0;
     while i < n {
-        let at = 24 + i * 52;
+        let at = super::DATA_AT + i * super::DATUM_SIZE;
         lefts[i] = numbers::get64(s, at);
-        rights[i] = numbers::get64(s, at + 8);
-        counts[i] = numbers::get32(s, at + 16);
-        get_masks(s, at + 16, 8, masks, i * 8);
+        rights[i] = numbers::get64(s, at + super::RIGHT_IN);
+        counts[i] = numbers::get32(s, at + super::ROW_IN);
+        get_masks(s, at + super::ROW_IN, super::DATUM_TERMS, masks, i * super::DATUM_TERMS);
         i += 1;
     }
 }
 
 // Writes the data that have terms into the places from the front, in order. Answers how many there are.
-pub fn put_data(
+fn put_data(
     s: &mut [u8],
     lefts: &[u64],
     rights: &[u64],
@@ -72,18 +79,25 @@ pub fn put_data(
     n: usize,
 ) -> usize
     requires { ⌜ ColumnsFit n (columns (now lefts) (now rights) (now counts) (now masks)) ⌝ }
-    requires { ⌜ (n ≤ 16) × (3032 ≤ length (now s)) ⌝ }
-    ensures { λ r. ⌜ (r ≤ n) × (r ≡ length (dataIn n (columns (now (lefts .entry)) (now (rights .entry)) (now (counts .entry)) (now (masks .entry))))) × (length (joined datumBytes (dataIn n (columns (now (lefts .entry)) (now (rights .entry)) (now (counts .entry)) (now (masks .entry))))) ≡ r * 52) ⌝ }
-    ensures { λ _. ⌜ now (s .exit) ≡ put 24 (joined datumBytes (dataIn n (columns (now (lefts .entry)) (now (rights .entry)) (now (counts .entry)) (now (masks .entry))))) (now (s .entry)) ⌝ }
+    requires { ⌜ length (dataIn n (columns (now lefts) (now rights) (now counts) (now masks))) ≤ dataMost ⌝ }
+    requires { ⌜ (n ≤ dataMost + 1) × (stateSize ≤ length (now s)) ⌝ }
+    ensures { λ r. ⌜ (let c : Columns = columns (now (lefts .entry)) (now (rights .entry)) (now (counts .entry)) (now (masks .entry)) in
+      (r ≡ length (dataIn n c)) × (length (joined datumBytes (dataIn n c)) ≡ r * datumSize)) ⌝ }
+    ensures { λ _. ⌜ (let c : Columns = columns (now (lefts .entry)) (now (rights .entry)) (now (counts .entry)) (now (masks .entry)) in
+      now (s .exit) ≡ put dataAt (joined datumBytes (dataIn n c)) (now (s .entry))) ⌝ }
 {
     let mut r: usize = 0;
     let mut i: usize = 0;
     while i < n {
         let count = counts[i] as usize;
         if 0 < count {
-            let from = i * 8;
+            let from = i * super::DATUM_TERMS;
             let to = from + count;
-            super::rows::put_datum(s, r, lefts[i], rights[i], &masks[from..to]);
+            let ends = Ends {
+                left: lefts[i],
+                right: rights[i],
+            };
+            super::rows::put_datum(s, r, ends, &masks[from..to]);
             r += 1;
         }
         i += 1;
@@ -92,18 +106,20 @@ pub fn put_data(
 }
 
 // Writes the entries that have terms into the places from the front, in order. Answers how many there are.
-pub fn put_entries(s: &mut [u8], counts: &[u32], masks: &[u32], n: usize) -> usize
-    requires { ⌜ TableFits 16 n (table (now counts) (now masks)) ⌝ }
-    requires { ⌜ (n ≤ 48) × (length (entriesIn n (table (now counts) (now masks))) ≤ 32) × (3032 ≤ length (now s)) ⌝ }
-    ensures { λ r. ⌜ (r ≡ length (entriesIn n (table (now (counts .entry)) (now (masks .entry))))) × (length (joined entryBytes (entriesIn n (table (now (counts .entry)) (now (masks .entry))))) ≡ r * 68) ⌝ }
-    ensures { λ _. ⌜ now (s .exit) ≡ put 856 (joined entryBytes (entriesIn n (table (now (counts .entry)) (now (masks .entry))))) (now (s .entry)) ⌝ }
+fn put_entries(s: &mut [u8], counts: &[u32], masks: &[u32], n: usize) -> usize
+    requires { ⌜ TableFits entryTerms n (table (now counts) (now masks)) ⌝ }
+    requires { ⌜ (n ≤ rowsMost) × (length (entriesIn n (table (now counts) (now masks))) ≤ entriesMost) × (stateSize ≤ length (now s)) ⌝ }
+    ensures { λ r. ⌜ (let t : Table = table (now (counts .entry)) (now (masks .entry)) in
+      (r ≡ length (entriesIn n t)) × (length (joined entryBytes (entriesIn n t)) ≡ r * entrySize)) ⌝ }
+    ensures { λ _. ⌜ (let t : Table = table (now (counts .entry)) (now (masks .entry)) in
+      now (s .exit) ≡ put entriesAt (joined entryBytes (entriesIn n t)) (now (s .entry))) ⌝ }
 {
     let mut r: usize = 0;
     let mut i: usize = 0;
     while i < n {
         let count = counts[i] as usize;
         if 0 < count {
-            let from = i * 16;
+            let from = i * super::ENTRY_TERMS;
             let to = from + count;
             super::rows::put_entry(s, r, &masks[from..to]);
             r += 1;
@@ -111,4 +127,68 @@ pub fn put_entries(s: &mut [u8], counts: &[u32], masks: &[u32], n: usize) -> usi
         i += 1;
     }
     r
+}
+
+// Writes the data that have terms, zeros into the places left over, and the held count.
+fn put_held(
+    s: &mut [u8],
+    lefts: &[u64],
+    rights: &[u64],
+    counts: &[u32],
+    masks: &[u32],
+    n: usize,
+)
+    requires { ⌜ ColumnsFit n (columns (now lefts) (now rights) (now counts) (now masks)) ⌝ }
+    requires { ⌜ length (dataIn n (columns (now lefts) (now rights) (now counts) (now masks))) ≤ dataMost ⌝ }
+    requires { ⌜ (n ≤ dataMost + 1) × (stateSize ≤ length (now s)) ⌝ }
+    ensures { λ _. ⌜ (let c : Columns = columns (now (lefts .entry)) (now (rights .entry)) (now (counts .entry)) (now (masks .entry)) in
+      now (s .exit) ≡ put heldAt (bytes 4 (length (dataIn n c))) (put dataAt (dataBytes (dataIn n c)) (now (s .entry)))) ⌝ }
+{
+    let places = put_data(s, lefts, rights, counts, masks, n);
+    super::rows::clear(
+        s,
+        super::DATA_AT + places * super::DATUM_SIZE,
+        super::DATA_END,
+    );
+    numbers::put32(s, super::HELD_AT, places as u32);
+}
+
+// Writes the entries that have terms, zeros into the places left over, and the entry count.
+pub fn put_known(s: &mut [u8], counts: &[u32], masks: &[u32], n: usize)
+    requires { ⌜ TableFits entryTerms n (table (now counts) (now masks)) ⌝ }
+    requires { ⌜ (n ≤ rowsMost) × (length (entriesIn n (table (now counts) (now masks))) ≤ entriesMost) × (stateSize ≤ length (now s)) ⌝ }
+    ensures { λ _. ⌜ (let t : Table = table (now (counts .entry)) (now (masks .entry)) in
+      now (s .exit) ≡ put knownAt (bytes 4 (length (entriesIn n t))) (put entriesAt (entriesBytes (entriesIn n t)) (now (s .entry)))) ⌝ }
+{
+    let places = put_entries(s, counts, masks, n);
+    super::rows::clear(
+        s,
+        super::ENTRIES_AT + places * super::ENTRY_SIZE,
+        super::ENTRIES_END,
+    );
+    numbers::put32(s, super::KNOWN_AT, places as u32);
+}
+
+// Writes what h rows of data and n rows of entries hold into a state in form; its head stays.
+pub fn put_store(
+    s: &mut [u8],
+    lefts: &[u64],
+    rights: &[u64],
+    held: &[u32],
+    terms: &[u32],
+    h: usize,
+    counts: &[u32],
+    masks: &[u32],
+    n: usize,
+)
+    requires { ⌜ ColumnsFit h (columns (now lefts) (now rights) (now held) (now terms)) × TableFits entryTerms n (table (now counts) (now masks)) ⌝ }
+    requires { ⌜ length (dataIn h (columns (now lefts) (now rights) (now held) (now terms))) ≤ dataMost ⌝ }
+    requires { ⌜ length (entriesIn n (table (now counts) (now masks))) ≤ entriesMost ⌝ }
+    requires { ⌜ (h ≤ dataMost + 1) × (n ≤ rowsMost) × (stateSize ≤ length (now s)) × T (inForm (now s)) ⌝ }
+    ensures { λ _. ⌜ (let c : Columns = columns (now (lefts .entry)) (now (rights .entry)) (now (held .entry)) (now (terms .entry)) in
+      let t : Table = table (now (counts .entry)) (now (masks .entry)) in
+      now (s .exit) ≡ put 0 (stateBytes (record { head = headOf (now (s .entry)); store = storeIn h c n t })) (now (s .entry))) ⌝ }
+{
+    put_held(s, lefts, rights, held, terms, h);
+    put_known(s, counts, masks, n);
 }

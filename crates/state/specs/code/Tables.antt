@@ -1,17 +1,15 @@
 -- Definitions that serve the code alone: no statement of document 01 cites this file.
 -- Predicates and data in flat arrays, as calls work on them: row i has its count of terms at i and its terms from i * width on.
 -- A row without terms has been given up; in form no predicate is without terms. Assumes nothing: these are definitions.
-use Prim.Native.Nat.{ℕ, zero, suc, _+_, _*_, _≤_, _<_}
-use mathlib.Core.Path.{_≡_}
-use lib.Dec.{eqb}
-use mathlib.Core.Bool.{Bool, true, false, cond}
-use mathlib.Core.List.{List, [], _∷_, _++_}
+use Prim.Native.Nat.{ℕ, _*_, _≤_}
+use mathlib.Core.Bool.{Bool, true, false}
+use mathlib.Core.List.{List, [], _∷_}
 use lib.ListN.{length, getD, take, drop}
 use Rattle.numbers.specs.Numbers.{tab}
 use Rattle.predicates.specs.Lists.{keep}
-use Rattle.predicates.specs.Predicates.{markOf}
-use Rattle.state.specs.Model.{Datum}
+use Rattle.state.specs.Model.{Datum, Store}
 use Rattle.state.specs.Layout.{datumTerms, entryTerms}
+use Rattle.state.specs.declared.Ends.{Ends}
 
 -- predicates in two arrays: row i has its count of terms at i and its terms from i * width on
 pub record Table : Type 0 where
@@ -63,9 +61,12 @@ hasTerms (t ∷ p) = true
 unfoldable pub entriesIn : ℕ → Table → List (List ℕ)
 entriesIn n t = keep hasTerms (tab n (rowOf entryTerms t))
 
--- a datum by its parts
+-- a datum by its parts; its ends travel as one struct
 abbrev pub datum : ℕ → ℕ → List ℕ → Datum
 datum left right terms = record { left = left; right = right; terms = terms }
+
+abbrev pub datumOf : Ends → List ℕ → Datum
+datumOf e terms = datum (e .left) (e .right) terms
 
 -- the datum in row i, given up or not
 unfoldable pub datumIn : Columns → ℕ → Datum
@@ -74,3 +75,7 @@ datumIn c i = datum (getD (c .lefts) i 0) (getD (c .rights) i 0) (rowOf datumTer
 -- the data in n rows
 unfoldable pub dataIn : ℕ → Columns → List Datum
 dataIn n c = keep (λ d. hasTerms (d .terms)) (tab n (datumIn c))
+
+-- what the arrays hold in h rows of data and n rows of entries
+unfoldable pub storeIn : ℕ → Columns → ℕ → Table → Store
+storeIn h c n t = record { held = dataIn h c; entries = entriesIn n t }

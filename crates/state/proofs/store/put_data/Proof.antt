@@ -1,4 +1,4 @@
--- `engine::store::put_data` meets its contract: turn i writes datum i behind those before it, or passes it over where it has been given up.
+-- `state::store::put_data` meets its contract: turn i writes datum i behind those before it, or passes it over where it has been given up.
 -- Invariant: the r data among the first i that have terms stand in their places. Measure: the rows still to pass.
 use Prim.Native.Nat.{_-_, _≤_}
 use mathlib.Core.Path.{_≡_}
@@ -9,7 +9,7 @@ use Rattle.state.specs.Layout.{datumBytes}
 use Rattle.state.specs.code.Tables.{columns, dataIn}
 use Rattle.state.proofs.RowLaws.{table-room}
 use Rattle.state.proofs.StoreLaws.{length-part-le, Written, written-none}
-use Rattle.state.proofs.StoreLaws.{data-next, data-skip}
+use Rattle.state.proofs.StoreLaws.{data-next, data-skip, data-room}
 use borrow.Author.Needs.{needs}
 use Rattle.state.proofs.store.put_data.Statement.{statement}
 use Rattle.state.proofs.store.put_data.Tie as tie
@@ -42,7 +42,11 @@ part-put-datum-end c =
 put-datum-requires : tie.Need-put-datum-requires Inv-loop μ-loop
 put-datum-requires c κs =
     let head = c .before .before .before .before .before .before .before in
-    (omega arith, length-part-le 8 _ (head .loop .i) _ _ (head .before .before .before .before .before .before .pre .0 .table), omega arith)
+    let a = head .before .before .before .before .before .before in (
+      data-room _ (head .loop .i) _ _ _ _ (a .pre .0) (c .before .before .before .before .before .before .loop-test .taken) _ _ _ (head .loop .inv .2) _ (c .before .before .before .before .if1 .taken) (a .pre .1 .0),
+      length-part-le 8 _ (head .loop .i) _ _ (a .pre .0 .table),
+      omega arith,
+    )
 
 loop-again : tie.Need-loop-again Inv-loop μ-loop
 loop-again c =
@@ -58,7 +62,7 @@ returns : tie.Need-returns Inv-loop μ-loop
 returns c =
     let head = c .before in
     let done : head .loop .i ≡ head .before .before .before .before .before .before .args .n = omega arith in
-    ((omega arith, rw done at (head .loop .inv .2 .counted), rw done at (head .loop .inv .2 .sized)), rw done at (head .loop .inv .2 .stored))
+    ((rw done at (head .loop .inv .2 .counted), rw done at (head .loop .inv .2 .sized)), rw done at (head .loop .inv .2 .stored))
 
 pub put-data-spec : {M : Type 1} → statement M
 put-data-spec =

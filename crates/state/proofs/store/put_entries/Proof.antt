@@ -1,4 +1,4 @@
--- `engine::store::put_entries` meets its contract: turn i writes entry i behind those before it, or passes it over where it has been given up.
+-- `state::store::put_entries` meets its contract: turn i writes entry i behind those before it, or passes it over where it has been given up.
 -- Invariant: the r entries among the first i that have terms stand in their places. Measure: the rows still to pass.
 use Prim.Native.Nat.{_-_, _≤_}
 use mathlib.Core.Path.{_≡_}
