@@ -63,9 +63,22 @@ module _ (st : State) (t : T (stateOk st)) where
   unfolding parts dataBytes entriesBytes
   parts-sized = (
     length-bytes 4 _,
-    (length-bytes 4 _, (length-bytes 8 _, (length-bytes 4 _, (length-bytes 4 _, (
-    length-filled datumBytes datumSize dataMost dataAt (datumOk _) (datum-size _) (st .store .held) (ok .held) (ok .held-le),
-    (length-filled entryBytes entrySize entriesMost entriesAt (termsFit _ entryTerms) (entry-size _) (st .store .entries) (ok .entries) (ok .entries-le), tt)))))),
+    (
+      length-bytes 4 _,
+      (
+        length-bytes 8 _,
+        (
+          length-bytes 4 _,
+          (
+            length-bytes 4 _,
+            (
+              length-filled datumBytes datumSize dataMost dataAt (datumOk _) (datum-size _) (st .store .held) (ok .held) (ok .held-le),
+              (length-filled entryBytes entrySize entriesMost entriesAt (termsFit _ entryTerms) (entry-size _) (st .store .entries) (ok .entries) (ok .entries-le), tt),
+            ),
+          ),
+        ),
+      ),
+    ),
   )
 
   pub length-state : length (stateBytes st) ≡ stateSize

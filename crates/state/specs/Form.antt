@@ -1,24 +1,24 @@
 -- A state in form (document 01, "State bytes"): "all ranges and counts above, reading below 2^58, left at most right, normal form, no empty term,
 -- no own name, zeros in all that is unused." Once as a test of the bytes, which is what each call makes first, and once of the state that
 -- they hold. Assumes nothing: these are definitions.
-use Prim.Native.Nat.{ℕ, _+_, _^_}
+use Prim.Native.Nat.{ℕ, _+_}
 use mathlib.Core.Bool.{Bool, _&&_, not}
 use mathlib.Core.List.{List}
 use lib.ListN.{length, drop}
 use lib.Seq.{slice}
 use lib.Dec.{leb, ltb, eqb}
 use Rattle.numbers.specs.Numbers.{num}
-use Rattle.names.specs.Sets.{has}
+use Rattle.names.specs.Sets.{noSet, has}
 use Rattle.predicates.specs.Lists.{all, allBelow}
 use Rattle.predicates.specs.Predicates.{isNormal}
-use Rattle.state.specs.Model.{Datum, Head, Store, State, endLimit, readingLimit}
-use Rattle.state.specs.Layout.{datumPlace, entryPlace, masksAt, rowAt, heldCount, entryCount}
+use Rattle.state.specs.Model.{Datum, Head, Store, State, nameMost, driftMost, endLimit, readingLimit}
+use Rattle.state.specs.Layout.{ownAt, driftAt, readingAt, rightIn, rowIn, dataMost, datumTerms, entriesMost, entryTerms, datumPlace, entryPlace, masksAt, rowAt, heldCount, entryCount}
 
 -- ---- terms and predicates
 
 -- a term of a state: "no empty term", names 0 to 28, "no own name"
 unfoldable pub termFits : ℕ → ℕ → Bool
-termFits own t = ltb 0 t && (ltb t (2 ^ 29) && not (has own t))
+termFits own t = ltb 0 t && (ltb t noSet && not (has own t))
 
 -- a predicate of 1 to `width` terms: "a datum has 1 to 8 terms, an entry 1 to 16"
 unfoldable pub termsFit : ℕ → ℕ → List ℕ → Bool
@@ -39,41 +39,43 @@ rowFits own width at s =
 -- "left at most right", ends below 2^58
 unfoldable pub datumFits : ℕ → List ℕ → ℕ → Bool
 datumFits own s i =
-    leb (num (datumPlace i) 8 s) (num (datumPlace i + 8) 8 s)
-    && (ltb (num (datumPlace i + 8) 8 s) endLimit && rowFits own 8 (datumPlace i + 16) s)
+    leb (num (datumPlace i) 8 s) (num (datumPlace i + rightIn) 8 s)
+    && (ltb (num (datumPlace i + rightIn) 8 s) endLimit && rowFits own datumTerms (datumPlace i + rowIn) s)
 
 unfoldable pub entryFits : ℕ → List ℕ → ℕ → Bool
-entryFits own s i = rowFits own 16 (entryPlace i) s
+entryFits own s i = rowFits own entryTerms (entryPlace i) s
 
 -- own name at most 28, drift at most 1,000, reading below 2^58, "At most 16 data and 32 entries"
 unfoldable pub headFits : List ℕ → Bool
 headFits s =
-    leb (num 0 4 s) 28 && (leb (num 4 4 s) 1000 && (ltb (num 8 8 s) readingLimit && (leb (heldCount s) 16 && leb (entryCount s) 32)))
+    leb (num ownAt 4 s) nameMost
+    && (leb (num driftAt 4 s) driftMost
+    && (ltb (num readingAt 8 s) readingLimit && (leb (heldCount s) dataMost && leb (entryCount s) entriesMost)))
 
 -- the places in use fit, and the others are zero
 unfoldable pub dataFit : List ℕ → Bool
-dataFit s = allBelow (heldCount s) (datumFits (num 0 4 s) s) && isZero (datumPlace (heldCount s)) (datumPlace 16) s
+dataFit s = allBelow (heldCount s) (datumFits (num ownAt 4 s) s) && isZero (datumPlace (heldCount s)) (datumPlace dataMost) s
 
 unfoldable pub entriesFit : List ℕ → Bool
-entriesFit s = allBelow (entryCount s) (entryFits (num 0 4 s) s) && isZero (entryPlace (entryCount s)) (entryPlace 32) s
+entriesFit s = allBelow (entryCount s) (entryFits (num ownAt 4 s) s) && isZero (entryPlace (entryCount s)) (entryPlace entriesMost) s
 
--- "In form", of a buffer of at least 3,032 bytes
+-- "In form", of a buffer of at least a state's size
 unfoldable pub inForm : List ℕ → Bool
 inForm s = headFits s && (dataFit s && entriesFit s)
 
 -- ---- the state: what being in form means of it. The head, the store and the counts stand apart, since later parts join them one by one
 
 unfoldable pub headOk : Head → Bool
-headOk h = leb (h .own) 28 && (leb (h .drift) 1000 && ltb (h .reading) readingLimit)
+headOk h = leb (h .own) nameMost && (leb (h .drift) driftMost && ltb (h .reading) readingLimit)
 
 unfoldable pub datumOk : ℕ → Datum → Bool
-datumOk own d = leb (d .left) (d .right) && (ltb (d .right) endLimit && termsFit own 8 (d .terms))
+datumOk own d = leb (d .left) (d .right) && (ltb (d .right) endLimit && termsFit own datumTerms (d .terms))
 
 unfoldable pub storeOk : ℕ → Store → Bool
-storeOk own k = all (datumOk own) (k .held) && all (termsFit own 16) (k .entries)
+storeOk own k = all (datumOk own) (k .held) && all (termsFit own entryTerms) (k .entries)
 
 unfoldable pub countsOk : Store → Bool
-countsOk k = leb (length (k .held)) 16 && leb (length (k .entries)) 32
+countsOk k = leb (length (k .held)) dataMost && leb (length (k .entries)) entriesMost
 
 unfoldable pub stateOk : State → Bool
 stateOk st = headOk (st .head) && (storeOk (st .head .own) (st .store) && countsOk (st .store))

@@ -13,34 +13,55 @@ pub const STATE_SIZE: usize = 3_032;
 
 // Where the numbers of the head stand: own name, drift, reading, held count, entry count.
 pub const OWN_AT: usize = 0;
+
 pub const DRIFT_AT: usize = 4;
+
 pub const READING_AT: usize = 8;
+
 pub const HELD_AT: usize = 16;
+
 pub const KNOWN_AT: usize = 20;
 
 // The places of data: the first one's, how many there are, and a datum's bytes and terms. Its right end and its row of terms stand in it.
 pub const DATA_AT: usize = 24;
+
 pub const DATA_MOST: usize = 16;
+
 pub const DATUM_SIZE: usize = 52;
+
 pub const DATUM_TERMS: usize = 8;
+
 pub const RIGHT_IN: usize = 8;
+
 pub const ROW_IN: usize = 16;
 
 // The places of entries: the first one's, how many there are, and an entry's bytes and terms.
 pub const ENTRIES_AT: usize = 856;
+
 pub const ENTRIES_MOST: usize = 32;
+
 pub const ENTRY_SIZE: usize = 68;
+
 pub const ENTRY_TERMS: usize = 16;
 
-// Where the places of data and those of entries end, and how many rows both have together.
+// Where the places of data and those of entries end, how many words one has, and how many rows both have together.
 pub const DATA_END: usize = DATA_AT + DATA_MOST * DATUM_SIZE;
+
 pub const ENTRIES_END: usize = ENTRIES_AT + ENTRIES_MOST * ENTRY_SIZE;
+
+pub const DATUM_WORDS: usize = DATUM_SIZE / 4;
+
+pub const ENTRY_WORDS: usize = ENTRY_SIZE / 4;
+
 pub const ROWS_MOST: usize = DATA_MOST + ENTRIES_MOST;
 
 // The first end and the first reading that cannot be stored, the highest own name and the greatest drift.
 pub const END_LIMIT: u64 = 288_230_376_151_711_744;
+
 pub const READING_LIMIT: u64 = 288_230_376_151_711_744;
+
 pub const NAME_MOST: u32 = 28;
+
 pub const DRIFT_MOST: u32 = 1_000;
 
 // The two ends of an interval.

@@ -30,7 +30,7 @@ pub fn get_entries(s: &[u8], n: usize, counts: &mut [u32], masks: &mut [u32])
     requires { ⌜ (stateSize ≤ length (now s)) × (n ≤ entriesMost) × (n ≤ length (now counts)) × (n * entryTerms ≤ length (now masks)) ⌝ }
     ensures { λ _. ⌜ now (counts .exit) ≡ tab n (λ i. num (entryPlace i) 4 (now (s .entry))) ++ drop n (now (counts .entry)) ⌝ }
     ensures { λ _. ⌜ now (masks .exit) ≡
-      joined (λ p. p) (tab n (λ i. masksAt entryTerms (entryPlace i) (now (s .entry)))) ++ drop (n * entryTerms) (now (masks .entry)) ⌝ }
+        joined (λ p. p) (tab n (λ i. masksAt entryTerms (entryPlace i) (now (s .entry)))) ++ drop (n * entryTerms) (now (masks .entry)) ⌝ }
 {
     let mut i: usize = 0;
     while i < n {
@@ -56,7 +56,7 @@ pub fn get_data(
     ensures { λ _. ⌜ now (rights .exit) ≡ tab n (λ i. num (datumPlace i + rightIn) 8 (now (s .entry))) ++ drop n (now (rights .entry)) ⌝ }
     ensures { λ _. ⌜ now (counts .exit) ≡ tab n (λ i. num (datumPlace i + rowIn) 4 (now (s .entry))) ++ drop n (now (counts .entry)) ⌝ }
     ensures { λ _. ⌜ now (masks .exit) ≡
-      joined (λ p. p) (tab n (λ i. masksAt datumTerms (datumPlace i + rowIn) (now (s .entry)))) ++ drop (n * datumTerms) (now (masks .entry)) ⌝ }
+        joined (λ p. p) (tab n (λ i. masksAt datumTerms (datumPlace i + rowIn) (now (s .entry)))) ++ drop (n * datumTerms) (now (masks .entry)) ⌝ }
 {
     let mut i: usize = 0;
     while i < n {
@@ -64,7 +64,13 @@ pub fn get_data(
         lefts[i] = numbers::get64(s, at);
         rights[i] = numbers::get64(s, at + super::RIGHT_IN);
         counts[i] = numbers::get32(s, at + super::ROW_IN);
-        get_masks(s, at + super::ROW_IN, super::DATUM_TERMS, masks, i * super::DATUM_TERMS);
+        get_masks(
+            s,
+            at + super::ROW_IN,
+            super::DATUM_TERMS,
+            masks,
+            i * super::DATUM_TERMS,
+        );
         i += 1;
     }
 }
@@ -82,9 +88,9 @@ fn put_data(
     requires { ⌜ length (dataIn n (columns (now lefts) (now rights) (now counts) (now masks))) ≤ dataMost ⌝ }
     requires { ⌜ (n ≤ dataMost + 1) × (stateSize ≤ length (now s)) ⌝ }
     ensures { λ r. ⌜ (let c : Columns = columns (now (lefts .entry)) (now (rights .entry)) (now (counts .entry)) (now (masks .entry)) in
-      (r ≡ length (dataIn n c)) × (length (joined datumBytes (dataIn n c)) ≡ r * datumSize)) ⌝ }
+        (r ≡ length (dataIn n c)) × (length (joined datumBytes (dataIn n c)) ≡ r * datumSize)) ⌝ }
     ensures { λ _. ⌜ (let c : Columns = columns (now (lefts .entry)) (now (rights .entry)) (now (counts .entry)) (now (masks .entry)) in
-      now (s .exit) ≡ put dataAt (joined datumBytes (dataIn n c)) (now (s .entry))) ⌝ }
+        now (s .exit) ≡ put dataAt (joined datumBytes (dataIn n c)) (now (s .entry))) ⌝ }
 {
     let mut r: usize = 0;
     let mut i: usize = 0;
@@ -110,9 +116,9 @@ fn put_entries(s: &mut [u8], counts: &[u32], masks: &[u32], n: usize) -> usize
     requires { ⌜ TableFits entryTerms n (table (now counts) (now masks)) ⌝ }
     requires { ⌜ (n ≤ rowsMost) × (length (entriesIn n (table (now counts) (now masks))) ≤ entriesMost) × (stateSize ≤ length (now s)) ⌝ }
     ensures { λ r. ⌜ (let t : Table = table (now (counts .entry)) (now (masks .entry)) in
-      (r ≡ length (entriesIn n t)) × (length (joined entryBytes (entriesIn n t)) ≡ r * entrySize)) ⌝ }
+        (r ≡ length (entriesIn n t)) × (length (joined entryBytes (entriesIn n t)) ≡ r * entrySize)) ⌝ }
     ensures { λ _. ⌜ (let t : Table = table (now (counts .entry)) (now (masks .entry)) in
-      now (s .exit) ≡ put entriesAt (joined entryBytes (entriesIn n t)) (now (s .entry))) ⌝ }
+        now (s .exit) ≡ put entriesAt (joined entryBytes (entriesIn n t)) (now (s .entry))) ⌝ }
 {
     let mut r: usize = 0;
     let mut i: usize = 0;
@@ -130,19 +136,12 @@ fn put_entries(s: &mut [u8], counts: &[u32], masks: &[u32], n: usize) -> usize
 }
 
 // Writes the data that have terms, zeros into the places left over, and the held count.
-fn put_held(
-    s: &mut [u8],
-    lefts: &[u64],
-    rights: &[u64],
-    counts: &[u32],
-    masks: &[u32],
-    n: usize,
-)
+fn put_held(s: &mut [u8], lefts: &[u64], rights: &[u64], counts: &[u32], masks: &[u32], n: usize)
     requires { ⌜ ColumnsFit n (columns (now lefts) (now rights) (now counts) (now masks)) ⌝ }
     requires { ⌜ length (dataIn n (columns (now lefts) (now rights) (now counts) (now masks))) ≤ dataMost ⌝ }
     requires { ⌜ (n ≤ dataMost + 1) × (stateSize ≤ length (now s)) ⌝ }
     ensures { λ _. ⌜ (let c : Columns = columns (now (lefts .entry)) (now (rights .entry)) (now (counts .entry)) (now (masks .entry)) in
-      now (s .exit) ≡ put heldAt (bytes 4 (length (dataIn n c))) (put dataAt (dataBytes (dataIn n c)) (now (s .entry)))) ⌝ }
+        now (s .exit) ≡ put heldAt (bytes 4 (length (dataIn n c))) (put dataAt (dataBytes (dataIn n c)) (now (s .entry)))) ⌝ }
 {
     let places = put_data(s, lefts, rights, counts, masks, n);
     super::rows::clear(
@@ -158,7 +157,7 @@ pub fn put_known(s: &mut [u8], counts: &[u32], masks: &[u32], n: usize)
     requires { ⌜ TableFits entryTerms n (table (now counts) (now masks)) ⌝ }
     requires { ⌜ (n ≤ rowsMost) × (length (entriesIn n (table (now counts) (now masks))) ≤ entriesMost) × (stateSize ≤ length (now s)) ⌝ }
     ensures { λ _. ⌜ (let t : Table = table (now (counts .entry)) (now (masks .entry)) in
-      now (s .exit) ≡ put knownAt (bytes 4 (length (entriesIn n t))) (put entriesAt (entriesBytes (entriesIn n t)) (now (s .entry)))) ⌝ }
+        now (s .exit) ≡ put knownAt (bytes 4 (length (entriesIn n t))) (put entriesAt (entriesBytes (entriesIn n t)) (now (s .entry)))) ⌝ }
 {
     let places = put_entries(s, counts, masks, n);
     super::rows::clear(
@@ -186,8 +185,8 @@ pub fn put_store(
     requires { ⌜ length (entriesIn n (table (now counts) (now masks))) ≤ entriesMost ⌝ }
     requires { ⌜ (h ≤ dataMost + 1) × (n ≤ rowsMost) × (stateSize ≤ length (now s)) × T (inForm (now s)) ⌝ }
     ensures { λ _. ⌜ (let c : Columns = columns (now (lefts .entry)) (now (rights .entry)) (now (held .entry)) (now (terms .entry)) in
-      let t : Table = table (now (counts .entry)) (now (masks .entry)) in
-      now (s .exit) ≡ put 0 (stateBytes (record { head = headOf (now (s .entry)); store = storeIn h c n t })) (now (s .entry))) ⌝ }
+        let t : Table = table (now (counts .entry)) (now (masks .entry)) in
+        now (s .exit) ≡ put 0 (stateBytes (record { head = headOf (now (s .entry)); store = storeIn h c n t })) (now (s .entry))) ⌝ }
 {
     put_held(s, lefts, rights, held, terms, h);
     put_known(s, counts, masks, n);
