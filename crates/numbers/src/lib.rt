@@ -2,7 +2,7 @@
 // Every function here is proved, and the crate assumes nothing of its own.
 ghost use mathlib.Core.Path.{_≡_};
 ghost use mathlib.Core.List.{_++_};
-ghost use Prim.Native.Nat.{_+_, _*_, _≤_, _<_, _^_};
+ghost use Prim.Native.Nat.{_+_, _*_, _≤_, _<_, _^_, min, max};
 ghost use lib.ListN.{length, take, drop};
 ghost use Rattle.numbers.specs.Numbers.{num, bytes, put, tab, bytesOf};
 
@@ -97,4 +97,18 @@ pub fn put_words(out: &mut [u8], at: usize, words: &[u32], n: usize)
         put32(out, at + i * 4, words[i]);
         i += 1;
     }
+}
+
+// The lesser of two numbers.
+pub fn lesser(a: u64, b: u64) -> u64
+    ensures { λ r. ⌜ r ≡ min a b ⌝ }
+{
+    if a < b { a } else { b }
+}
+
+// The greater of two numbers.
+pub fn greater(a: u64, b: u64) -> u64
+    ensures { λ r. ⌜ r ≡ max a b ⌝ }
+{
+    if a < b { b } else { a }
 }

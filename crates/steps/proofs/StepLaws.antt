@@ -16,10 +16,10 @@ use Rattle.numbers.specs.Numbers.{tab}
 use Rattle.predicates.specs.Lists.{any, keep}
 use Rattle.predicates.specs.Predicates.{normal}
 use Rattle.predicates.proofs.LoopLaws.{drop-next}
-use Rattle.state.specs.Model.{Datum}
-use Rattle.steps.specs.Steps.{disjoint, explained, learn, learnt, unexplained, same, meet, met, without, betters, stored, heldAfter}
+use Rattle.state.specs.Model.{Datum, Store}
+use Rattle.steps.specs.Steps.{disjoint, explained, learn, learnt, unexplained, same, meet, met, without, betters, stored, heldAfter, settled}
 use Rattle.state.specs.code.Tables.{table, columns, TableFits, rowOf, hasTerms, datum, datumIn, dataIn}
-use Rattle.steps.specs.code.Rows.{givenUp, FirstRow, liveBelow, newly}
+use Rattle.steps.specs.code.Rows.{givenUp, FirstRow, liveBelow}
 use Rattle.numbers.proofs.NumberLaws.{tab-suc, tab-cong}
 use Rattle.predicates.proofs.ListLaws.{keep-append}
 use Rattle.steps.proofs.TableLaws.{given-up-count, anyBelow, any-below-none, any-kept}
@@ -294,12 +294,12 @@ learnt-next n d i before after es p q =
 
 -- ---- steps 2 to 4 together
 
-pub stored-kept : (n : Datum) (ds : List Datum) (d : Datum) → any (λ x. betters x n) ds ≡ true → ds ++ newly false d ≡ stored n ds
-unfolding stored newly
-stored-kept n ds d e = rw (e, append-nil)
+pub stored-kept : (n : Datum) (ds : List Datum) → any (λ x. betters x n) ds ≡ true → ds ≡ stored n ds
+unfolding stored
+stored-kept n ds e = rw e
 
-pub stored-new : (n : Datum) (ds : List Datum) → any (λ x. betters x n) ds ≡ false → keep (λ x. not (betters n x)) ds ++ newly true n ≡ stored n ds
-unfolding stored newly
+pub stored-new : (n : Datum) (ds : List Datum) → any (λ x. betters x n) ds ≡ false → keep (λ x. not (betters n x)) ds ++ (n ∷ []) ≡ stored n ds
+unfolding stored
 stored-new n ds e = rw e
 
 module _ (h : ℕ) (lefts rights counts c masks : List ℕ) where
@@ -312,12 +312,17 @@ module _ (h : ℕ) (lefts rights counts c masks : List ℕ) where
       → dataIn h (columns lefts rights c masks) ≡ keep (λ d. not (betters n d)) (dataIn h (columns lefts rights counts masks))
   data-bettered n e = rw e (data-given-up h lefts rights counts masks (λ d. betters n d))
 
-pub held-explained : (n : Datum) (ds : List Datum) (es : List (List ℕ)) (d : Datum) → explained es (n .terms) ≡ true
-    → unexplained es ds ++ newly false d ≡ heldAfter n ds es
-unfolding heldAfter newly
-held-explained n ds es d e = rw (e, append-nil)
+pub held-explained : (n : Datum) (ds : List Datum) (es : List (List ℕ)) → explained es (n .terms) ≡ true → unexplained es ds ≡ heldAfter n ds es
+unfolding heldAfter
+held-explained n ds es e = rw e
 
 pub held-placed : (n : Datum) (ds : List Datum) (es : List (List ℕ)) → explained es (n .terms) ≡ false
     → stored (met n (unexplained es ds)) (without (n .terms) (unexplained es ds)) ≡ heldAfter n ds es
 unfolding heldAfter
 held-placed n ds es e = rw e
+
+-- the entries of step 1 and the data of steps 2 to 4 are the store of the definition
+pub settled-by : (n : Datum) (k : Store) (ds : List Datum) (es : List (List ℕ)) → es ≡ learnt n (k .held) (k .entries)
+    → ds ≡ heldAfter n (k .held) es → _≡_ {A = Store} (record { held = ds; entries = es }) (settled n k)
+unfolding settled
+settled-by n k ds es p q = ap₂ (λ (x : List Datum) (y : List (List ℕ)). record { held = x; entries = y }) (q ∙ rw p) p

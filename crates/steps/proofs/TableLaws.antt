@@ -18,7 +18,9 @@ use Rattle.predicates.specs.Lists.{any, keep}
 use Rattle.predicates.specs.Predicates.{holds, implies, markOf}
 use Rattle.predicates.proofs.MaskLaws.{implies-not}
 use Rattle.steps.specs.Steps.{explained, learn}
-use Rattle.state.specs.code.Tables.{table, TableFits, rowOf, hasTerms, entriesIn}
+use Rattle.state.specs.Model.{Datum}
+use Rattle.state.specs.Layout.{datumTerms}
+use Rattle.state.specs.code.Tables.{Columns, table, columns, TableFits, ColumnsFit, rowOf, hasTerms, entriesIn, datum, datumIn, dataIn}
 use Rattle.steps.specs.code.Rows.{Marked, givenUp}
 use Rattle.predicates.proofs.ListLaws.{keep-append, any-append}
 use Rattle.state.proofs.RowLaws.{row-empty}
@@ -144,7 +146,7 @@ rows-given-up w n t counts masks =
 
 -- a row that is put behind the others
 module _ (w n : ℕ) (counts masks e : List ℕ) (t : TableFits w n (table counts masks)) (k : n < length counts) (l : n * w + length e ≤ length masks) where
-  rows-before : (i : ℕ) → i < n → rowOf w (table (set counts n (length e)) (sets masks (n * w) e)) i ≡ rowOf w (table counts masks) i
+  pub rows-before : (i : ℕ) → i < n → rowOf w (table (set counts n (length e)) (sets masks (n * w) e)) i ≡ rowOf w (table counts masks) i
   unfolding rowOf
   rows-before i h =
       let c = getD counts i 0 in
@@ -164,7 +166,7 @@ module _ (w n : ℕ) (counts masks e : List ℕ) (t : TableFits w n (table count
       ∙ take-append-le c (drop (i * w) (take (n * w) masks)) (drop (n * w) masks) (omega (arith, length-drop (i * w) (take (n * w) masks))) in
       rw same (front ∙ sym back)
 
-  row-last : rowOf w (table (set counts n (length e)) (sets masks (n * w) e)) n ≡ e
+  pub row-last : rowOf w (table (set counts n (length e)) (sets masks (n * w) e)) n ≡ e
   unfolding rowOf
   row-last =
       let same : getD (set counts n (length e)) n 0 ≡ length e = getD-set-same counts n (length e) 0 k in
@@ -321,3 +323,54 @@ module _ (n : ℕ) (counts masks e : List ℕ) (t : TableFits 16 (n + 1) (table 
       last : (e : List ℕ) → 0 < length e → keep hasTerms (e ∷ []) ≡ e ∷ []
       last [] h = absurd (omega arith)
       last (x ∷ l) h = refl
+
+-- ---- a datum put last
+
+pub columns-less : (h : ℕ) (c : Columns) → ColumnsFit (h + 1) c → ColumnsFit h c
+columns-less h c t =
+    record {
+      table = table-less datumTerms (h + 1) h (c .counts) (c .masks) (t .table) (omega arith);
+      lefts-long = omega (arith, t .lefts-long);
+      rights-long = omega (arith, t .rights-long);
+    }
+
+module _ (h : ℕ) (lefts rights counts masks p : List ℕ) (a b : ℕ) (t : ColumnsFit (h + 1) (columns lefts rights counts masks)) (few : length p ≤ datumTerms) where
+  -- the columns with it
+  abbrev added : Columns
+  added = columns (set lefts h a) (set rights h b) (set counts h (length p)) (sets masks (h * datumTerms) p)
+
+  pub columns-added : ColumnsFit (h + 1) added
+  columns-added =
+      record {
+        table = table-appended datumTerms h counts masks p (t .table) few;
+        lefts-long = omega (arith, t .lefts-long, length-set lefts h a);
+        rights-long = omega (arith, t .rights-long, length-set rights h b);
+      }
+
+  pub data-added : 0 < length p → dataIn (h + 1) added ≡ dataIn h (columns lefts rights counts masks) ++ (datum a b p ∷ [])
+  unfolding dataIn datumIn hasTerms
+  data-added some =
+      let near : h < length counts = omega (arith, t .table .counted) in
+      let room : h * datumTerms + length p ≤ length masks = omega (arith, t .table .long, suc-mul h datumTerms) in
+      let less = table-less datumTerms (h + 1) h counts masks (t .table) (omega arith) in
+      let same : tab h (datumIn added) ≡ tab h (datumIn (columns lefts rights counts masks)) =
+      tab-cong h (datumIn added) (datumIn (columns lefts rights counts masks))
+      (λ i k. rw (
+        getD-set-other lefts h i a 0 (λ e. omega arith),
+        getD-set-other rights h i b 0 (λ e. omega arith),
+        rows-before datumTerms h counts masks p less near room i k,
+      )) in
+      let last : datumIn added h ≡ datum a b p =
+      rw (
+        getD-set-same lefts h a 0 (omega (arith, t .lefts-long)),
+        getD-set-same rights h b 0 (omega (arith, t .rights-long)),
+        row-last datumTerms h counts masks p less near room,
+      ) in
+      ap (λ l. keep (λ d. hasTerms (d .terms)) l) (tab-suc h (datumIn added))
+      ∙ keep-append (λ d. hasTerms (d .terms)) (tab h (datumIn added)) (datumIn added h ∷ [])
+      ∙ ap₂ (λ (x y : List Datum). x ++ y) (ap (λ l. keep (λ d. hasTerms (d .terms)) l) same)
+      (ap (λ (d : Datum). keep (λ e. hasTerms (e .terms)) (d ∷ [])) last ∙ kept p some)
+    where
+      kept : (q : List ℕ) → 0 < length q → keep (λ d. hasTerms (d .terms)) (datum a b q ∷ []) ≡ datum a b q ∷ []
+      kept [] h = absurd (omega arith)
+      kept (x ∷ q) h = refl

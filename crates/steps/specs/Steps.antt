@@ -8,6 +8,7 @@ use lib.ListN.{length}
 use Rattle.predicates.specs.Lists.{any, keep}
 use Rattle.predicates.specs.Predicates.{implies, isTrue, normal}
 use Rattle.state.specs.Model.{Datum, Store}
+use Rattle.state.specs.Layout.{dataMost, entriesMost}
 
 -- ---- step 1: "where the intervals are disjoint, the sum of both predicates, in normal form, is an entry for the failure knowledge"
 
@@ -80,4 +81,4 @@ received n k = cond (isTrue (n .terms)) k (settled n k)
 
 -- "32 too many data or entries": "At most 16 data and 32 entries, counted at the end"
 unfoldable pub tooMany : Store → Bool
-tooMany k = ltb 16 (length (k .held)) || ltb 32 (length (k .entries))
+tooMany k = ltb dataMost (length (k .held)) || ltb entriesMost (length (k .entries))

@@ -3,3 +3,9 @@
 pub mod settling;
 pub mod steps;
 mod tables;
+
+// How many rows of data and of entries there are.
+pub struct Rows {
+    pub held: usize,
+    pub known: usize,
+}

@@ -1,53 +1,55 @@
 // The four steps of receiving, on the held data in columns (left, right, count of terms, terms from i * 8 on) and the entries in a table.
-// The new datum is left, right and the terms p.
+// The new datum has the ends `new` and the terms p.
 ghost use mathlib.Core.Path.{_≡_};
 ghost use mathlib.Core.Bool.{_&&_, _||_, cond};
-ghost use mathlib.Core.List.{_++_};
-ghost use Prim.Native.Nat.{_+_, _*_, _≤_, _<_, min, max};
+ghost use mathlib.Core.List.{List, _++_};
+ghost use Prim.Native.Nat.{ℕ, _+_, _*_, _≤_, _<_};
 ghost use lib.Dec.{ltb};
 ghost use lib.ListN.{length, getD};
 ghost use Rattle.numbers.specs.Numbers.{tab};
 ghost use Rattle.predicates.specs.Lists.{any};
 ghost use Rattle.predicates.specs.Predicates.{normal};
-ghost use Rattle.state.specs.code.Tables.{table, columns, TableFits, ColumnsFit, rowOf, hasTerms, entriesIn, datum, datumIn, dataIn};
-ghost use Rattle.steps.specs.code.Rows.{Marked, givenUp, FirstRow, liveBelow};
+ghost use Rattle.state.specs.Model.{Datum};
+ghost use Rattle.state.specs.Layout.{datumTerms, entryTerms};
+ghost use Rattle.state.specs.code.Tables.{Table, Columns, table, columns, tableOf, TableFits, ColumnsFit, rowOf, hasTerms, entriesIn, datumOf, datumIn, dataIn};
+ghost use Rattle.steps.specs.code.Rows.{Marked, FirstRow, givenUp};
+use super::Rows;
+use state::Ends;
 ghost use Rattle.steps.specs.Steps.{disjoint as Receiving·disjoint, explained, learn, learnt, same as Receiving·same, met, without, betters as Receiving·betters};
 
-// Two ends of an interval.
-pub struct Ends {
-    pub left: u64,
-    pub right: u64,
-}
-
 // Whether two intervals have no instant in common.
-fn disjoint(a: u64, b: u64, left: u64, right: u64) -> bool
-    ensures { λ r. ⌜ r ≡ (ltb b left || ltb right a) ⌝ }
+fn disjoint(a: Ends, b: Ends) -> bool
+    ensures { λ r. ⌜ r ≡ (ltb (a .right) (b .left) || ltb (b .right) (a .left)) ⌝ }
 {
-    (b < left) | (right < a)
+    (a.right < b.left) | (b.right < a.left)
 }
 
-// Step 1 for one held datum, from a to b under q: where the intervals are disjoint, the sum of both predicates is learnt.
+// Step 1 for one held datum, with the ends `old` under q: where the intervals are disjoint, the sum of both predicates is learnt.
 fn learn_from(
-    a: u64,
-    b: u64,
+    old: Ends,
     q: &[u32],
-    left: u64,
-    right: u64,
+    new: Ends,
     p: &[u32],
     counts: &mut [u32],
     masks: &mut [u32],
     marks: &mut [u32],
     n: usize,
 ) -> usize
-    requires { ⌜ TableFits 16 (n + 1) (table (now counts) (now masks)) ⌝ }
-    requires { ⌜ (length (now q) ≤ 8) × (0 < length (now p)) × (length (now p) ≤ 8) × (n < length (now marks)) × Marked n (table (now counts) (now masks)) (now marks) ⌝ }
-    ensures { λ r. ⌜ (n ≤ r) × (r ≤ n + 1) × TableFits 16 r (table (now (counts .exit)) (now (masks .exit))) × Marked r (table (now (counts .exit)) (now (masks .exit))) (now (marks .exit)) ⌝ }
-    ensures { λ r. ⌜ entriesIn r (table (now (counts .exit)) (now (masks .exit))) ≡ cond (Receiving·disjoint (datum a b (now (q .entry))) (datum left right (now (p .entry)))) (learn (normal (now (q .entry) ++ now (p .entry))) (entriesIn n (table (now (counts .entry)) (now (masks .entry))))) (entriesIn n (table (now (counts .entry)) (now (masks .entry)))) ⌝ }
+    requires { ⌜ TableFits entryTerms (n + 1) (table (now counts) (now masks)) ⌝ }
+    requires { ⌜ (length (now q) ≤ datumTerms) × (0 < length (now p)) × (length (now p) ≤ datumTerms) × (n < length (now marks)) ⌝ }
+    requires { ⌜ Marked n (table (now counts) (now masks)) (now marks) ⌝ }
+    ensures { λ r. ⌜ (let t : Table = table (now (counts .exit)) (now (masks .exit)) in
+        (n ≤ r) × (r ≤ n + 1) × TableFits entryTerms r t × Marked r t (now (marks .exit))) ⌝ }
+    ensures { λ r. ⌜ (let d : Datum = datumOf old (now (q .entry)) in
+        let new : Datum = datumOf new (now (p .entry)) in
+        let es : List (List ℕ) = entriesIn n (table (now (counts .entry)) (now (masks .entry))) in
+        entriesIn r (table (now (counts .exit)) (now (masks .exit)))
+        ≡ cond (Receiving·disjoint d new) (learn (normal (d .terms ++ new .terms)) es) es) ⌝ }
 {
-    if !disjoint(a, b, left, right) {
+    if !disjoint(old, new) {
         return n;
     }
-    let mut terms = [0u32; 16];
+    let mut terms = [0u32; state::ENTRY_TERMS];
     let m = predicates::sums::sum(&mut terms, q, p);
     super::tables::learn(counts, masks, marks, n, &terms[..m])
 }
@@ -58,38 +60,35 @@ pub fn learn_all(
     rights: &[u64],
     held: &[u32],
     terms: &[u32],
-    h: usize,
-    left: u64,
-    right: u64,
+    new: Ends,
     p: &[u32],
     counts: &mut [u32],
     masks: &mut [u32],
     marks: &mut [u32],
-    n: usize,
+    rows: Rows,
 ) -> usize
-    requires { ⌜ ColumnsFit h (columns (now lefts) (now rights) (now held) (now terms)) ⌝ }
-    requires { ⌜ TableFits 16 (n + h) (table (now counts) (now masks)) ⌝ }
-    requires { ⌜ (0 < length (now p)) × (length (now p) ≤ 8) × (n + h ≤ length (now marks)) × Marked n (table (now counts) (now masks)) (now marks) ⌝ }
-    ensures { λ r. ⌜ (r ≤ n + h) × TableFits 16 r (table (now (counts .exit)) (now (masks .exit))) × Marked r (table (now (counts .exit)) (now (masks .exit))) (now (marks .exit)) ⌝ }
-    ensures { λ r. ⌜ entriesIn r (table (now (counts .exit)) (now (masks .exit))) ≡ learnt (datum left right (now (p .entry))) (tab h (datumIn (columns (now (lefts .entry)) (now (rights .entry)) (now (held .entry)) (now (terms .entry))))) (entriesIn n (table (now (counts .entry)) (now (masks .entry)))) ⌝ }
+    requires { ⌜ ColumnsFit (rows .held) (columns (now lefts) (now rights) (now held) (now terms)) ⌝ }
+    requires { ⌜ TableFits entryTerms (rows .known + rows .held) (table (now counts) (now masks)) ⌝ }
+    requires { ⌜ (0 < length (now p)) × (length (now p) ≤ datumTerms) × (rows .known + rows .held ≤ length (now marks)) ⌝ }
+    requires { ⌜ Marked (rows .known) (table (now counts) (now masks)) (now marks) ⌝ }
+    ensures { λ r. ⌜ (let t : Table = table (now (counts .exit)) (now (masks .exit)) in
+        (r ≤ rows .known + rows .held) × TableFits entryTerms r t × Marked r t (now (marks .exit))) ⌝ }
+    ensures { λ r. ⌜ (let c : Columns = columns (now (lefts .entry)) (now (rights .entry)) (now (held .entry)) (now (terms .entry)) in
+        let old : Table = table (now (counts .entry)) (now (masks .entry)) in
+        entriesIn r (table (now (counts .exit)) (now (masks .exit)))
+        ≡ learnt (datumOf new (now (p .entry))) (tab (rows .held) (datumIn c)) (entriesIn (rows .known) old)) ⌝ }
 {
-    let mut known = n;
+    let h = rows.held;
+    let mut known = rows.known;
     let mut i: usize = 0;
     while i < h {
-        let from = i * 8;
+        let from = i * state::DATUM_TERMS;
         let to = from + held[i] as usize;
-        known = learn_from(
-            lefts[i],
-            rights[i],
-            &terms[from..to],
-            left,
-            right,
-            p,
-            counts,
-            masks,
-            marks,
-            known,
-        );
+        let old = Ends {
+            left: lefts[i],
+            right: rights[i],
+        };
+        known = learn_from(old, &terms[from..to], new, p, counts, masks, marks, known);
         i += 1;
     }
     known
@@ -105,11 +104,12 @@ fn explained_row(
     marks: &[u32],
     n: usize,
 ) -> bool
-    requires { ⌜ (i < length (now held)) × (i * 8 + getD (now held) i 0 ≤ length (now terms)) ⌝ }
-    requires { ⌜ TableFits 16 n (table (now counts) (now masks)) × Marked n (table (now counts) (now masks)) (now marks) ⌝ }
-    ensures { λ r. ⌜ r ≡ explained (entriesIn n (table (now (counts .entry)) (now (masks .entry)))) (rowOf 8 (table (now (held .entry)) (now (terms .entry))) i) ⌝ }
+    requires { ⌜ (i < length (now held)) × (i * datumTerms + getD (now held) i 0 ≤ length (now terms)) ⌝ }
+    requires { ⌜ TableFits entryTerms n (table (now counts) (now masks)) × Marked n (table (now counts) (now masks)) (now marks) ⌝ }
+    ensures { λ r. ⌜ r ≡
+        explained (entriesIn n (table (now (counts .entry)) (now (masks .entry)))) (rowOf datumTerms (table (now (held .entry)) (now (terms .entry))) i) ⌝ }
 {
-    let from = i * 8;
+    let from = i * state::DATUM_TERMS;
     let to = from + held[i] as usize;
     super::tables::explained(counts, masks, marks, n, &terms[from..to])
 }
@@ -124,9 +124,11 @@ pub fn drop_explained(
     marks: &[u32],
     n: usize,
 )
-    requires { ⌜ TableFits 8 h (table (now held) (now terms)) ⌝ }
-    requires { ⌜ TableFits 16 n (table (now counts) (now masks)) × Marked n (table (now counts) (now masks)) (now marks) ⌝ }
-    ensures { λ _. ⌜ now (held .exit) ≡ givenUp h (λ i. explained (entriesIn n (table (now (counts .entry)) (now (masks .entry)))) (rowOf 8 (table (now (held .entry)) (now (terms .entry))) i)) (now (held .entry)) ⌝ }
+    requires { ⌜ TableFits datumTerms h (table (now held) (now terms)) ⌝ }
+    requires { ⌜ TableFits entryTerms n (table (now counts) (now masks)) × Marked n (table (now counts) (now masks)) (now marks) ⌝ }
+    ensures { λ _. ⌜ (let es : List (List ℕ) = entriesIn n (table (now (counts .entry)) (now (masks .entry))) in
+        let t : Table = table (now (held .entry)) (now (terms .entry)) in
+        now (held .exit) ≡ givenUp h (λ i. explained es (rowOf datumTerms t i)) (now (held .entry))) ⌝ }
 {
     let mut i: usize = 0;
     while i < h {
@@ -156,18 +158,18 @@ fn same(p: &[u32], q: &[u32]) -> bool
 
 // Whether row i of the held data has the predicate p.
 fn same_row(held: &[u32], terms: &[u32], i: usize, p: &[u32]) -> bool
-    requires { ⌜ (i < length (now held)) × (i * 8 + getD (now held) i 0 ≤ length (now terms)) ⌝ }
-    ensures { λ r. ⌜ r ≡ Receiving·same (rowOf 8 (table (now (held .entry)) (now (terms .entry))) i) (now (p .entry)) ⌝ }
+    requires { ⌜ (i < length (now held)) × (i * datumTerms + getD (now held) i 0 ≤ length (now terms)) ⌝ }
+    ensures { λ r. ⌜ r ≡ Receiving·same (rowOf datumTerms (table (now (held .entry)) (now (terms .entry))) i) (now (p .entry)) ⌝ }
 {
-    let from = i * 8;
+    let from = i * state::DATUM_TERMS;
     let to = from + held[i] as usize;
     same(&terms[from..to], p)
 }
 
 // The first row of the held data with the predicate p; h where there is none.
 fn find_same(held: &[u32], terms: &[u32], h: usize, p: &[u32]) -> usize
-    requires { ⌜ TableFits 8 h (table (now held) (now terms)) ⌝ }
-    ensures { λ r. ⌜ FirstRow h (λ i. Receiving·same (rowOf 8 (table (now (held .entry)) (now (terms .entry))) i) (now (p .entry))) r ⌝ }
+    requires { ⌜ TableFits datumTerms h (table (now held) (now terms)) ⌝ }
+    ensures { λ r. ⌜ FirstRow h (λ i. Receiving·same (rowOf datumTerms (table (now (held .entry)) (now (terms .entry))) i) (now (p .entry))) r ⌝ }
 {
     let mut i: usize = 0;
     while i < h {
@@ -179,18 +181,6 @@ fn find_same(held: &[u32], terms: &[u32], h: usize, p: &[u32]) -> usize
     h
 }
 
-fn greater(a: u64, b: u64) -> u64
-    ensures { λ r. ⌜ r ≡ max a b ⌝ }
-{
-    if a < b { b } else { a }
-}
-
-fn lesser(a: u64, b: u64) -> u64
-    ensures { λ r. ⌜ r ≡ min a b ⌝ }
-{
-    if a < b { a } else { b }
-}
-
 // Step 3: the oldest held datum with the predicate p is given up, and the ends of the new one become those of the intersection.
 pub fn meet(
     lefts: &[u64],
@@ -198,32 +188,34 @@ pub fn meet(
     held: &mut [u32],
     terms: &[u32],
     h: usize,
-    left: u64,
-    right: u64,
+    new: Ends,
     p: &[u32],
 ) -> Ends
     requires { ⌜ ColumnsFit h (columns (now lefts) (now rights) (now held) (now terms)) ⌝ }
     requires { ⌜ 0 < length (now p) ⌝ }
-    ensures { λ r. ⌜ datum (r .left) (r .right) (now (p .entry)) ≡ met (datum left right (now (p .entry))) (dataIn h (columns (now (lefts .entry)) (now (rights .entry)) (now (held .entry)) (now (terms .entry)))) ⌝ }
-    ensures { λ _. ⌜ dataIn h (columns (now (lefts .entry)) (now (rights .entry)) (now (held .exit)) (now (terms .entry))) ≡ without (now (p .entry)) (dataIn h (columns (now (lefts .entry)) (now (rights .entry)) (now (held .entry)) (now (terms .entry)))) ⌝ }
-    ensures { λ _. ⌜ TableFits 8 h (table (now (held .exit)) (now (terms .entry))) ⌝ }
+    ensures { λ r. ⌜ (let old : Columns = columns (now (lefts .entry)) (now (rights .entry)) (now (held .entry)) (now (terms .entry)) in
+        datumOf r (now (p .entry)) ≡ met (datumOf new (now (p .entry))) (dataIn h old)) ⌝ }
+    ensures { λ _. ⌜ (let old : Columns = columns (now (lefts .entry)) (now (rights .entry)) (now (held .entry)) (now (terms .entry)) in
+        dataIn h (columns (now (lefts .entry)) (now (rights .entry)) (now (held .exit)) (now (terms .entry)))
+        ≡ without (now (p .entry)) (dataIn h old)) ⌝ }
+    ensures { λ _. ⌜ TableFits datumTerms h (table (now (held .exit)) (now (terms .entry))) ⌝ }
 {
     let i = find_same(held, terms, h, p);
     if i == h {
-        return Ends { left, right };
+        return new;
     }
     held[i] = 0;
     Ends {
-        left: greater(lefts[i], left),
-        right: lesser(rights[i], right),
+        left: numbers::greater(lefts[i], new.left),
+        right: numbers::lesser(rights[i], new.right),
     }
 }
 
-// Whether a datum from a to b under q betters one from left to right under p (rule 14).
-fn betters(a: u64, b: u64, q: &[u32], left: u64, right: u64, p: &[u32]) -> bool
-    ensures { λ r. ⌜ r ≡ Receiving·betters (datum a b (now (q .entry))) (datum left right (now (p .entry))) ⌝ }
+// Whether a datum with the ends a under q betters one with the ends b under p (rule 14).
+fn betters(a: Ends, q: &[u32], b: Ends, p: &[u32]) -> bool
+    ensures { λ r. ⌜ r ≡ Receiving·betters (datumOf a (now (q .entry))) (datumOf b (now (p .entry))) ⌝ }
 {
-    if (left <= a) & (b <= right) {
+    if (b.left <= a.left) & (a.right <= b.right) {
         return predicates::implies(q, p);
     }
     false
@@ -236,21 +228,25 @@ fn row_betters(
     held: &[u32],
     terms: &[u32],
     i: usize,
-    left: u64,
-    right: u64,
+    new: Ends,
     p: &[u32],
 ) -> bool
-    requires { ⌜ (i < length (now held)) × (i * 8 + getD (now held) i 0 ≤ length (now terms)) ⌝ }
+    requires { ⌜ (i < length (now held)) × (i * datumTerms + getD (now held) i 0 ≤ length (now terms)) ⌝ }
     requires { ⌜ (i < length (now lefts)) × (i < length (now rights)) ⌝ }
-    ensures { λ r. ⌜ r ≡ hasTerms (rowOf 8 (table (now (held .entry)) (now (terms .entry))) i) && Receiving·betters (datumIn (columns (now (lefts .entry)) (now (rights .entry)) (now (held .entry)) (now (terms .entry))) i) (datum left right (now (p .entry))) ⌝ }
+    ensures { λ r. ⌜ (let c : Columns = columns (now (lefts .entry)) (now (rights .entry)) (now (held .entry)) (now (terms .entry)) in
+        r ≡ hasTerms (rowOf datumTerms (tableOf c) i) && Receiving·betters (datumIn c i) (datumOf new (now (p .entry)))) ⌝ }
 {
     let count = held[i] as usize;
     if count == 0 {
         return false;
     }
-    let from = i * 8;
+    let from = i * state::DATUM_TERMS;
     let to = from + count;
-    betters(lefts[i], rights[i], &terms[from..to], left, right, p)
+    let old = Ends {
+        left: lefts[i],
+        right: rights[i],
+    };
+    betters(old, &terms[from..to], new, p)
 }
 
 // Step 4, first half: whether a held datum betters the new one.
@@ -260,16 +256,16 @@ pub fn bettered(
     held: &[u32],
     terms: &[u32],
     h: usize,
-    left: u64,
-    right: u64,
+    new: Ends,
     p: &[u32],
 ) -> bool
     requires { ⌜ ColumnsFit h (columns (now lefts) (now rights) (now held) (now terms)) ⌝ }
-    ensures { λ r. ⌜ r ≡ any (λ d. Receiving·betters d (datum left right (now (p .entry)))) (dataIn h (columns (now (lefts .entry)) (now (rights .entry)) (now (held .entry)) (now (terms .entry)))) ⌝ }
+    ensures { λ r. ⌜ (let c : Columns = columns (now (lefts .entry)) (now (rights .entry)) (now (held .entry)) (now (terms .entry)) in
+        r ≡ any (λ d. Receiving·betters d (datumOf new (now (p .entry)))) (dataIn h c)) ⌝ }
 {
     let mut i: usize = 0;
     while i < h {
-        if row_betters(lefts, rights, held, terms, i, left, right, p) {
+        if row_betters(lefts, rights, held, terms, i, new, p) {
             return true;
         }
         i += 1;
@@ -284,17 +280,21 @@ fn betters_row(
     held: &[u32],
     terms: &[u32],
     i: usize,
-    left: u64,
-    right: u64,
+    new: Ends,
     p: &[u32],
 ) -> bool
-    requires { ⌜ (i < length (now held)) × (i * 8 + getD (now held) i 0 ≤ length (now terms)) ⌝ }
+    requires { ⌜ (i < length (now held)) × (i * datumTerms + getD (now held) i 0 ≤ length (now terms)) ⌝ }
     requires { ⌜ (i < length (now lefts)) × (i < length (now rights)) ⌝ }
-    ensures { λ r. ⌜ r ≡ Receiving·betters (datum left right (now (p .entry))) (datumIn (columns (now (lefts .entry)) (now (rights .entry)) (now (held .entry)) (now (terms .entry))) i) ⌝ }
+    ensures { λ r. ⌜ (let c : Columns = columns (now (lefts .entry)) (now (rights .entry)) (now (held .entry)) (now (terms .entry)) in
+        r ≡ Receiving·betters (datumOf new (now (p .entry))) (datumIn c i)) ⌝ }
 {
-    let from = i * 8;
+    let from = i * state::DATUM_TERMS;
     let to = from + held[i] as usize;
-    betters(left, right, p, lefts[i], rights[i], &terms[from..to])
+    let old = Ends {
+        left: lefts[i],
+        right: rights[i],
+    };
+    betters(new, p, old, &terms[from..to])
 }
 
 // Step 4, second half: held data that the new one betters go.
@@ -304,34 +304,18 @@ pub fn drop_bettered(
     held: &mut [u32],
     terms: &[u32],
     h: usize,
-    left: u64,
-    right: u64,
+    new: Ends,
     p: &[u32],
 )
     requires { ⌜ ColumnsFit h (columns (now lefts) (now rights) (now held) (now terms)) ⌝ }
-    ensures { λ _. ⌜ now (held .exit) ≡ givenUp h (λ i. Receiving·betters (datum left right (now (p .entry))) (datumIn (columns (now (lefts .entry)) (now (rights .entry)) (now (held .entry)) (now (terms .entry))) i)) (now (held .entry)) ⌝ }
+    ensures { λ _. ⌜ (let c : Columns = columns (now (lefts .entry)) (now (rights .entry)) (now (held .entry)) (now (terms .entry)) in
+        now (held .exit) ≡ givenUp h (λ i. Receiving·betters (datumOf new (now (p .entry))) (datumIn c i)) (now (held .entry))) ⌝ }
 {
     let mut i: usize = 0;
     while i < h {
-        if betters_row(lefts, rights, held, terms, i, left, right, p) {
+        if betters_row(lefts, rights, held, terms, i, new, p) {
             held[i] = 0;
         }
         i += 1;
     }
-}
-
-// How many rows have terms.
-pub fn live(counts: &[u32], n: usize) -> usize
-    requires { ⌜ n ≤ length (now counts) ⌝ }
-    ensures { λ r. ⌜ (r ≡ liveBelow n (now (counts .entry))) × (r ≤ n) ⌝ }
-{
-    let mut rows: usize = 0;
-    let mut i: usize = 0;
-    while i < n {
-        if counts[i] != 0 {
-            rows += 1;
-        }
-        i += 1;
-    }
-    rows
 }

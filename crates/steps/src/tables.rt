@@ -2,11 +2,13 @@
 // given up. The names that make a row true alone are its mark, at i.
 ghost use mathlib.Core.Path.{_≡_};
 ghost use mathlib.Core.Bool.{_&&_};
-ghost use Prim.Native.Nat.{_+_, _*_, _≤_, _<_};
+ghost use mathlib.Core.List.{List};
+ghost use Prim.Native.Nat.{ℕ, _+_, _*_, _≤_, _<_};
 ghost use lib.ListN.{length, getD, set};
 ghost use lib.Seq.{sets};
 ghost use Rattle.predicates.specs.Predicates.{implies, markOf};
-ghost use Rattle.state.specs.code.Tables.{table, TableFits, rowOf, hasTerms, entriesIn};
+ghost use Rattle.state.specs.Layout.{entryTerms};
+ghost use Rattle.state.specs.code.Tables.{Table, table, TableFits, rowOf, hasTerms, entriesIn};
 ghost use Rattle.steps.specs.code.Rows.{Marked, givenUp};
 ghost use Rattle.steps.specs.Steps.{explained as Receiving·explained, learn as Receiving·learn};
 
@@ -19,9 +21,11 @@ fn row_implies(
     p: &[u32],
     bound: u32,
 ) -> bool
-    requires { ⌜ (i < length (now counts)) × (i * 16 + getD (now counts) i 0 ≤ length (now masks)) × (i < length (now marks)) ⌝ }
-    requires { ⌜ (bound ≡ markOf (now p)) × ((getD (now counts) i 0 ≡ 0 → ⊥) → getD (now marks) i 0 ≡ markOf (rowOf 16 (table (now counts) (now masks)) i)) ⌝ }
-    ensures { λ r. ⌜ r ≡ hasTerms (rowOf 16 (table (now (counts .entry)) (now (masks .entry))) i) && implies (rowOf 16 (table (now (counts .entry)) (now (masks .entry))) i) (now (p .entry)) ⌝ }
+    requires { ⌜ (i < length (now counts)) × (i * entryTerms + getD (now counts) i 0 ≤ length (now masks)) × (i < length (now marks)) ⌝ }
+    requires { ⌜ bound ≡ markOf (now p) ⌝ }
+    requires { ⌜ ((getD (now counts) i 0 ≡ 0 → ⊥) → getD (now marks) i 0 ≡ markOf (rowOf entryTerms (table (now counts) (now masks)) i)) ⌝ }
+    ensures { λ r. ⌜ (let e : List ℕ = rowOf entryTerms (table (now (counts .entry)) (now (masks .entry))) i in
+        r ≡ hasTerms e && implies e (now (p .entry))) ⌝ }
 {
     if !predicates::masks::may_imply(marks[i], bound) {
         return false;
@@ -30,14 +34,14 @@ fn row_implies(
     if count == 0 {
         return false;
     }
-    let from = i * 16;
+    let from = i * state::ENTRY_TERMS;
     let to = from + count;
     predicates::masks::implies(&masks[from..to], p, bound)
 }
 
 // Whether an entry of the table implies p. All of them are held against p, so its mark is made once, and for a table of no rows not at all.
 pub fn explained(counts: &[u32], masks: &[u32], marks: &[u32], n: usize, p: &[u32]) -> bool
-    requires { ⌜ TableFits 16 n (table (now counts) (now masks)) × Marked n (table (now counts) (now masks)) (now marks) ⌝ }
+    requires { ⌜ TableFits entryTerms n (table (now counts) (now masks)) × Marked n (table (now counts) (now masks)) (now marks) ⌝ }
     ensures { λ r. ⌜ r ≡ Receiving·explained (entriesIn n (table (now (counts .entry)) (now (masks .entry)))) (now (p .entry)) ⌝ }
 {
     if n == 0 {
@@ -56,9 +60,10 @@ pub fn explained(counts: &[u32], masks: &[u32], marks: &[u32], n: usize, p: &[u3
 
 // Whether e, which has terms, implies the predicate in row i of 16; e's mark is given. No predicate of any terms implies one of none.
 fn implies_row(e: &[u32], mark: u32, counts: &[u32], masks: &[u32], marks: &[u32], i: usize) -> bool
-    requires { ⌜ (i < length (now counts)) × (i * 16 + getD (now counts) i 0 ≤ length (now masks)) × (i < length (now marks)) ⌝ }
-    requires { ⌜ (mark ≡ markOf (now e)) × ((getD (now counts) i 0 ≡ 0 → ⊥) → getD (now marks) i 0 ≡ markOf (rowOf 16 (table (now counts) (now masks)) i)) × (0 < length (now e)) ⌝ }
-    ensures { λ r. ⌜ r ≡ implies (now (e .entry)) (rowOf 16 (table (now (counts .entry)) (now (masks .entry))) i) ⌝ }
+    requires { ⌜ (i < length (now counts)) × (i * entryTerms + getD (now counts) i 0 ≤ length (now masks)) × (i < length (now marks)) ⌝ }
+    requires { ⌜ (mark ≡ markOf (now e)) × (0 < length (now e)) ⌝ }
+    requires { ⌜ ((getD (now counts) i 0 ≡ 0 → ⊥) → getD (now marks) i 0 ≡ markOf (rowOf entryTerms (table (now counts) (now masks)) i)) ⌝ }
+    ensures { λ r. ⌜ r ≡ implies (now (e .entry)) (rowOf entryTerms (table (now (counts .entry)) (now (masks .entry))) i) ⌝ }
 {
     if !predicates::masks::may_imply(mark, marks[i]) {
         return false;
@@ -67,16 +72,17 @@ fn implies_row(e: &[u32], mark: u32, counts: &[u32], masks: &[u32], marks: &[u32
     if count == 0 {
         return false;
     }
-    let from = i * 16;
+    let from = i * state::ENTRY_TERMS;
     let to = from + count;
     predicates::masks::implies(e, &masks[from..to], marks[i])
 }
 
 // Gives up the entries that e, which has terms, implies; e's mark is given.
 fn forget(counts: &mut [u32], masks: &[u32], marks: &[u32], n: usize, e: &[u32], mark: u32)
-    requires { ⌜ TableFits 16 n (table (now counts) (now masks)) × Marked n (table (now counts) (now masks)) (now marks) ⌝ }
+    requires { ⌜ TableFits entryTerms n (table (now counts) (now masks)) × Marked n (table (now counts) (now masks)) (now marks) ⌝ }
     requires { ⌜ (mark ≡ markOf (now e)) × (0 < length (now e)) ⌝ }
-    ensures { λ _. ⌜ now (counts .exit) ≡ givenUp n (λ i. implies (now (e .entry)) (rowOf 16 (table (now (counts .entry)) (now (masks .entry))) i)) (now (counts .entry)) ⌝ }
+    ensures { λ _. ⌜ (let t : Table = table (now (counts .entry)) (now (masks .entry)) in
+        now (counts .exit) ≡ givenUp n (λ i. implies (now (e .entry)) (rowOf entryTerms t i)) (now (counts .entry))) ⌝ }
 {
     let mut i: usize = 0;
     while i < n {
@@ -87,17 +93,15 @@ fn forget(counts: &mut [u32], masks: &[u32], marks: &[u32], n: usize, e: &[u32],
     }
 }
 
-// Puts e, whose mark is given, last, into row n.
-fn append(counts: &mut [u32], masks: &mut [u32], marks: &mut [u32], n: usize, e: &[u32], mark: u32)
-    requires { ⌜ (n < length (now counts)) × (n * 16 + length (now e) ≤ length (now masks)) × (length (now e) ≤ 16) × (n < length (now marks)) ⌝ }
+// Puts e last, into row n of this width.
+pub fn add_row(counts: &mut [u32], masks: &mut [u32], n: usize, width: usize, e: &[u32])
+    requires { ⌜ (n < length (now counts)) × (n * width + length (now e) ≤ length (now masks)) × (length (now e) ≤ entryTerms) ⌝ }
     ensures { λ _. ⌜ now (counts .exit) ≡ set (now (counts .entry)) n (length (now (e .entry))) ⌝ }
-    ensures { λ _. ⌜ now (masks .exit) ≡ sets (now (masks .entry)) (n * 16) (now (e .entry)) ⌝ }
-    ensures { λ _. ⌜ now (marks .exit) ≡ set (now (marks .entry)) n mark ⌝ }
+    ensures { λ _. ⌜ now (masks .exit) ≡ sets (now (masks .entry)) (n * width) (now (e .entry)) ⌝ }
 {
     let count = e.len();
-    let from = n * 16;
+    let from = n * width;
     counts[n] = count as u32;
-    marks[n] = mark;
     let mut j: usize = 0;
     while j < count {
         masks[from + j] = e[j];
@@ -107,33 +111,37 @@ fn append(counts: &mut [u32], masks: &mut [u32], marks: &mut [u32], n: usize, e:
 
 // Places an entry: not added where an entry implies it; else those that it implies go, and it stands last. Answers how many rows there are now.
 pub fn learn(counts: &mut [u32], masks: &mut [u32], marks: &mut [u32], n: usize, e: &[u32]) -> usize
-    requires { ⌜ TableFits 16 (n + 1) (table (now counts) (now masks)) ⌝ }
-    requires { ⌜ (0 < length (now e)) × (length (now e) ≤ 16) × (n < length (now marks)) × Marked n (table (now counts) (now masks)) (now marks) ⌝ }
-    ensures { λ r. ⌜ (n ≤ r) × (r ≤ n + 1) × TableFits 16 r (table (now (counts .exit)) (now (masks .exit))) × Marked r (table (now (counts .exit)) (now (masks .exit))) (now (marks .exit)) ⌝ }
-    ensures { λ r. ⌜ entriesIn r (table (now (counts .exit)) (now (masks .exit))) ≡ Receiving·learn (now (e .entry)) (entriesIn n (table (now (counts .entry)) (now (masks .entry)))) ⌝ }
+    requires { ⌜ TableFits entryTerms (n + 1) (table (now counts) (now masks)) ⌝ }
+    requires { ⌜ (0 < length (now e)) × (length (now e) ≤ entryTerms) × (n < length (now marks)) ⌝ }
+    requires { ⌜ Marked n (table (now counts) (now masks)) (now marks) ⌝ }
+    ensures { λ r. ⌜ (let t : Table = table (now (counts .exit)) (now (masks .exit)) in
+        (n ≤ r) × (r ≤ n + 1) × TableFits entryTerms r t × Marked r t (now (marks .exit))) ⌝ }
+    ensures { λ r. ⌜ entriesIn r (table (now (counts .exit)) (now (masks .exit)))
+        ≡ Receiving·learn (now (e .entry)) (entriesIn n (table (now (counts .entry)) (now (masks .entry)))) ⌝ }
 {
     if explained(counts, masks, marks, n, e) {
         return n;
     }
     let mark = predicates::masks::mark_of(e);
     forget(counts, masks, marks, n, e, mark);
-    append(counts, masks, marks, n, e, mark);
+    add_row(counts, masks, n, state::ENTRY_TERMS, e);
+    marks[n] = mark;
     n + 1
 }
 
 // The mark of row i of 16.
 fn row_mark(counts: &[u32], masks: &[u32], i: usize) -> u32
-    requires { ⌜ (i < length (now counts)) × (i * 16 + getD (now counts) i 0 ≤ length (now masks)) ⌝ }
-    ensures { λ r. ⌜ r ≡ markOf (rowOf 16 (table (now (counts .entry)) (now (masks .entry))) i) ⌝ }
+    requires { ⌜ (i < length (now counts)) × (i * entryTerms + getD (now counts) i 0 ≤ length (now masks)) ⌝ }
+    ensures { λ r. ⌜ r ≡ markOf (rowOf entryTerms (table (now (counts .entry)) (now (masks .entry))) i) ⌝ }
 {
-    let from = i * 16;
+    let from = i * state::ENTRY_TERMS;
     let to = from + counts[i] as usize;
     predicates::masks::mark_of(&masks[from..to])
 }
 
 // Makes the marks of the first n rows.
 pub fn mark_rows(counts: &[u32], masks: &[u32], n: usize, marks: &mut [u32])
-    requires { ⌜ TableFits 16 n (table (now counts) (now masks)) ⌝ }
+    requires { ⌜ TableFits entryTerms n (table (now counts) (now masks)) ⌝ }
     requires { ⌜ n ≤ length (now marks) ⌝ }
     ensures { λ _. ⌜ Marked n (table (now (counts .entry)) (now (masks .entry))) (now (marks .exit)) ⌝ }
 {

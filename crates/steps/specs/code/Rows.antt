@@ -1,17 +1,16 @@
 -- Definitions that serve the code alone: no statement of document 01 cites this file.
--- Rows of predicates in flat arrays, as a receipt works on them: their marks, the rows given up, and what a receipt leaves.
+-- Rows of predicates in flat arrays, as a receipt works on them: their marks, and the rows given up.
 -- Assumes nothing: these are definitions.
 use Prim.Native.Nat.{ℕ, zero, suc, _+_, _≤_, _<_}
 use mathlib.Core.Path.{_≡_}
 use lib.Dec.{eqb}
 use mathlib.Core.Bool.{Bool, true, false, cond}
-use mathlib.Core.List.{List, [], _∷_, _++_}
+use mathlib.Core.List.{List, _++_}
 use lib.ListN.{length, getD, drop}
 use Rattle.numbers.specs.Numbers.{tab}
 use Rattle.predicates.specs.Predicates.{markOf}
-use Rattle.state.specs.Model.{Datum, Store}
 use Rattle.state.specs.Layout.{entryTerms}
-use Rattle.state.specs.code.Tables.{Table, table, columns, rowOf, entriesIn, dataIn}
+use Rattle.state.specs.code.Tables.{Table, rowOf}
 
 -- each of the first n rows of entries that has not been given up has its mark: the names that make it true alone
 pub record Marked (n : ℕ) (t : Table) (marks : List ℕ) : Type 0 where
@@ -32,12 +31,3 @@ pub record FirstRow (n : ℕ) (test : ℕ → Bool) (r : ℕ) : Type 0 where
 unfoldable pub liveBelow : ℕ → List ℕ → ℕ
 liveBelow zero counts = 0
 liveBelow (suc n) counts = liveBelow n counts + cond (eqb (getD counts n 0) 0) 0 1
-
--- the new datum behind the others, where it is stored
-unfoldable pub newly : Bool → Datum → List Datum
-newly b d = cond b (d ∷ []) []
-
--- the store that a receipt leaves in the columns and the table
-unfoldable pub outcomeStore : ℕ → List ℕ → List ℕ → List ℕ → List ℕ → Bool → Datum → ℕ → List ℕ → List ℕ → Store
-outcomeStore h lefts rights held terms stored d n counts masks =
-    record { held = dataIn h (columns lefts rights held terms) ++ newly stored d; entries = entriesIn n (table counts masks) }

@@ -1,4 +1,4 @@
--- `engine::steps::betters` meets its contract: the intervals are compared first, since they decide most pairs.
+-- `steps::steps::betters` meets its contract: the intervals are compared first, since they decide most pairs.
 use mathlib.Core.Bool.{and-true, and-false}
 use Rattle.steps.specs.Steps.{betters}
 use borrow.Author.Needs.{needs}

@@ -1,4 +1,4 @@
--- `engine::steps::betters_row` meets its contract: the row is a part of the array.
+-- `steps::steps::betters_row` meets its contract: the row is a part of the array.
 use Rattle.state.specs.code.Tables.{datumIn}
 use Rattle.state.proofs.RowLaws.{row-lent}
 use borrow.Author.Needs.{needs}

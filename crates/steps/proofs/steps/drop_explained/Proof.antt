@@ -1,4 +1,4 @@
--- `engine::steps::drop_explained` meets its contract: row by row, a datum whose predicate an entry implies is given up.
+-- `steps::steps::drop_explained` meets its contract: row by row, a datum whose predicate an entry implies is given up.
 -- Invariant: the rows before i have been tested, all others are as they were. Measure: the rows still to test.
 use Prim.Native.Nat.{_-_, _≤_, _<_}
 use mathlib.Core.Path.{_≡_, refl, sym, ap, _∙_}

@@ -1,4 +1,4 @@
--- `engine::steps::explained_row` meets its contract: the row is a part of the array.
+-- `steps::steps::explained_row` meets its contract: the row is a part of the array.
 use Rattle.state.proofs.RowLaws.{row-lent}
 use borrow.Author.Needs.{needs}
 use Rattle.steps.proofs.steps.explained_row.Statement.{statement}

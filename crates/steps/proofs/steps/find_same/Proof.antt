@@ -1,4 +1,4 @@
--- `engine::steps::find_same` meets its contract. Invariant: no row before i has the predicate. Measure: the rows still to try.
+-- `steps::steps::find_same` meets its contract. Invariant: no row before i has the predicate. Measure: the rows still to try.
 use Prim.Native.Nat.{ℕ, _-_, _≤_, _<_}
 use mathlib.Core.Path.{_≡_, sym, _∙_}
 use mathlib.Core.Bool.{false}

@@ -1,4 +1,4 @@
--- `engine::steps::learn_from` meets its contract: intervals that overlap teach nothing; else the sum of both predicates, in normal form, is learnt.
+-- `steps::steps::learn_from` meets its contract: intervals that overlap teach nothing; else the sum of both predicates, in normal form, is learnt.
 use Prim.Native.Nat.{_<_, _≤_}
 use mathlib.Core.Path.{_≡_, sym, ap, _∙_}
 use mathlib.Core.List.{_++_}
@@ -23,7 +23,7 @@ returns : tie.Need-returns
 unfolding disjoint
 returns c =
     let a = c .before .before .before .before .before .before .before in
-    ((search needs, search needs, table-more 16 _ _ _ _ (a .pre .0) (omega (arith, a .pre .0 .counted)) (omega (arith, a .pre .0 .long)), a .pre .1 .4), rw (sym (c .before .disjoint .ensures) ∙ not-true _ (c .if1 .taken)))
+    ((search needs, search needs, table-more 16 _ _ _ _ (a .pre .0) (omega (arith, a .pre .0 .counted)) (omega (arith, a .pre .0 .long)), a .pre .1 .1), rw (sym (c .before .disjoint .ensures) ∙ not-true _ (c .if1 .taken)))
 
 slice-aggregate-learn : tie.Need-slice-aggregate-learn
 slice-aggregate-learn c =
@@ -37,7 +37,7 @@ learn-requires c κs =
     let both = a .args .q .now ++ a .args .p .now in
     let long : 0 < length both = omega (arith, length-append (a .args .q .now) (a .args .p .now), a .pre .1) in
     let few : length (normal both) ≤ 16 = omega (arith, at-sum .sum .ensures .0, a .pre .1) in
-    (a .pre .0, rw (summed at-sum) (normal-some both long, few, a .pre .1 .3, a .pre .1 .4))
+    (a .pre .0, (rw (summed at-sum) (normal-some both long, few, a .pre .1 .0 .3), a .pre .1 .1))
 
 returns-2 : tie.Need-returns-2
 unfolding disjoint

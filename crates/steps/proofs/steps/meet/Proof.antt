@@ -1,10 +1,10 @@
--- `engine::steps::meet` meets its contract: no row has the predicate and nothing changes, or the first one that has is given up and met.
+-- `steps::steps::meet` meets its contract: no row has the predicate and nothing changes, or the first one that has is given up and met.
 use Prim.Native.Nat.{_<_}
 use mathlib.Core.Path.{sym, ap₂, _∙_}
 use native.Mathlib.Omega.{arith}
 use lib.ListN.{length}
 use Rattle.steps.specs.Steps.{meet}
-use Rattle.state.specs.code.Tables.{datum, datumIn}
+use Rattle.state.specs.code.Tables.{datum, datumOf, datumIn}
 use Rattle.steps.proofs.StepLaws.{meet-none, meet-met, meet-without, table-zero}
 use borrow.Author.Needs.{needs}
 use Rattle.steps.proofs.steps.meet.Statement.{statement}
@@ -16,7 +16,7 @@ find-same-requires c κs = c .before .before .before .before .before .before .pr
 returns : tie.Need-returns
 returns c =
     let a = c .before .before .before .before .before .before .before .before in
-    let none = meet-none (a .args .h) (a .args .lefts .now) (a .args .rights .now) (a .args .held .now) (a .args .terms .now) (datum (a .args .left) (a .args .right) (a .args .p .now)) _ (c .before .find-same .ensures) (c .if1 .taken) in
+    let none = meet-none (a .args .h) (a .args .lefts .now) (a .args .rights .now) (a .args .held .now) (a .args .terms .now) (datumOf (a .args .new) (a .args .p .now)) _ (c .before .find-same .ensures) (c .if1 .taken) in
     (sym (none .0), (sym (none .1), a .pre .0 .table))
 
 returns-2 : tie.Need-returns-2
@@ -24,7 +24,7 @@ unfolding meet datumIn
 returns-2 c =
     let at-find = c .before .before .before .before .before in
     let a = at-find .before .before .before .before .before .before .before in
-    let n = datum (a .args .left) (a .args .right) (a .args .p .now) in
+    let n = datumOf (a .args .new) (a .args .p .now) in
     let r = at-find .find-same .ensures in
     let near : at-find .find-same .result < a .args .h = omega (arith, r .within, c .before .before .before .before .if1 .left) in
     let long : at-find .find-same .result < length (a .args .held .now) = omega (arith, a .pre .0 .table .counted) in (

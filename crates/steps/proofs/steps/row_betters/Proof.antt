@@ -1,4 +1,4 @@
--- `engine::steps::row_betters` meets its contract: a row of no terms has been given up; else its part of the array is tested.
+-- `steps::steps::row_betters` meets its contract: a row of no terms has been given up; else its part of the array is tested.
 use Rattle.state.specs.code.Tables.{datumIn}
 use Rattle.state.proofs.RowLaws.{row-lent, row-empty}
 use Rattle.state.proofs.RowLaws.{row-full}

@@ -1,4 +1,4 @@
--- `engine::steps::same` meets its contract: lists of different lengths differ; else the loop stops at the first difference.
+-- `steps::steps::same` meets its contract: lists of different lengths differ; else the loop stops at the first difference.
 -- Invariant: the answer for all terms is the answer from term i on. Measure: the terms still to compare.
 use Prim.Native.Nat.{_-_}
 use mathlib.Core.Path.{_≡_, refl, sym, _∙_}

@@ -1,4 +1,4 @@
--- `engine::tables::explained` meets its contract: p's mark is made, and the loop stops at the first row that implies p.
+-- `steps::tables::explained` meets its contract: p's mark is made, and the loop stops at the first row that implies p.
 -- Invariant: no row before i does. Measure: the rows still to try.
 use Prim.Native.Nat.{_-_, _≤_}
 use mathlib.Core.Path.{_≡_, refl, sym, _∙_}

@@ -1,4 +1,4 @@
--- `engine::tables::forget` meets its contract: row by row, a row that e implies is given up.
+-- `steps::tables::forget` meets its contract: row by row, a row that e implies is given up.
 -- Invariant: the rows before i have been tested, all others are as they were. Measure: the rows still to test.
 use Prim.Native.Nat.{_-_, _≤_, _<_}
 use mathlib.Core.Path.{_≡_, refl, sym, ap, _∙_}
@@ -32,7 +32,7 @@ implies-row-requires c κs =
     let same : getD (head .loop .counts) i 0 ≡ getD (a .args .counts .now) i 0 = ap (λ l. getD l i 0) (head .loop .inv .2) ∙ given-up-at _ _ i in
     let near = c .before .loop-test .taken in (
       (omega (arith, a .pre .0 .0 .counted), omega (arith, same, table-room 16 _ _ _ (a .pre .0 .0) i near), omega (arith, a .pre .0 .1 .reach)),
-      (a .pre .1 .0, λ f. a .pre .0 .1 .mark i near (λ z. f (same ∙ z)) ∙ ap markOf (sym (row-count 16 i _ _ _ same)), a .pre .1 .1),
+      ((a .pre .1 .0, a .pre .1 .1), λ f. a .pre .0 .1 .mark i near (λ z. f (same ∙ z)) ∙ ap markOf (sym (row-count 16 i _ _ _ same))),
     )
 
 loop-again : tie.Need-loop-again Inv-loop μ-loop

@@ -1,4 +1,4 @@
--- `engine::tables::implies_row` meets its contract: e implies no row whose mark lacks a name of its own (`apart-row`), and none of no terms (`implies-none`);
+-- `steps::tables::implies_row` meets its contract: e implies no row whose mark lacks a name of its own (`apart-row`), and none of no terms (`implies-none`);
 -- else the row's part of the array is tested.
 use mathlib.Core.Path.{sym, _∙_}
 use borrow.Author.Tests.{not-true}
@@ -11,12 +11,12 @@ use Rattle.steps.proofs.tables.implies_row.Tie as tie
 returns : tie.Need-returns
 returns c =
     let a = c .before .before .before .before .before .before .before in
-    sym (apart-row _ _ _ _ _ _ (a .pre .1 .1) (a .pre .1 .0) (a .pre .1 .2) (c .before .may-imply .ensures .1) (sym (c .before .may-imply .ensures .0) ∙ not-true _ (c .if1 .taken)))
+    sym (apart-row _ _ _ _ _ _ (a .pre .1 .1) (a .pre .1 .0 .0) (a .pre .1 .0 .1) (c .before .may-imply .ensures .1) (sym (c .before .may-imply .ensures .0) ∙ not-true _ (c .if1 .taken)))
 
 returns-2 : tie.Need-returns-2
 returns-2 c =
     let a = c .before .before .before .before .before .before .before .before .before in
-    sym (implies-none _ 16 _ _ _ (a .pre .1 .2) (c .if2 .taken))
+    sym (implies-none _ 16 _ _ _ (a .pre .1 .0 .1) (c .if2 .taken))
 
 implies-requires : tie.Need-implies-requires
 implies-requires c κs =

@@ -1,4 +1,4 @@
--- `engine::tables::mark_rows` meets its contract: turn i makes the mark of row i.
+-- `steps::tables::mark_rows` meets its contract: turn i makes the mark of row i.
 -- Invariant: the rows before i have their marks. Measure: the rows still to mark.
 use Prim.Native.Nat.{_-_, _≤_}
 use mathlib.Core.Path.{_≡_, refl}

@@ -1,4 +1,4 @@
--- `engine::tables::row_implies` meets its contract: a row whose mark has a name more than that of p does not imply p (`row-apart`), and one of no terms has
+-- `steps::tables::row_implies` meets its contract: a row whose mark has a name more than that of p does not imply p (`row-apart`), and one of no terms has
 -- been given up; else its part of the array is tested.
 use mathlib.Core.Path.{sym, _∙_}
 use borrow.Author.Tests.{not-true}

@@ -1,4 +1,4 @@
--- `engine::tables::row_mark` meets its contract: the row is a part of the array.
+-- `steps::tables::row_mark` meets its contract: the row is a part of the array.
 use Rattle.state.proofs.RowLaws.{row-lent}
 use borrow.Author.Needs.{needs}
 use Rattle.steps.proofs.tables.row_mark.Statement.{statement}

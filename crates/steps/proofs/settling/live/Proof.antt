@@ -1,4 +1,4 @@
--- `engine::steps::live` meets its contract. Invariant: the rows before i have been counted. Measure: the rows still to look at.
+-- `steps::settling::live` meets its contract. Invariant: the rows before i have been counted. Measure: the rows still to look at.
 use Prim.Native.Nat.{_-_, _≤_}
 use mathlib.Core.Path.{_≡_, refl}
 use mathlib.Core.Logic.{⊎-elim}
@@ -6,8 +6,8 @@ use native.Mathlib.Omega.{arith}
 use Rattle.steps.specs.code.Rows.{liveBelow}
 use Rattle.steps.proofs.StepLaws.{live-pass, live-count}
 use borrow.Author.Needs.{needs}
-use Rattle.steps.proofs.steps.live.Statement.{statement}
-use Rattle.steps.proofs.steps.live.Tie as tie
+use Rattle.steps.proofs.settling.live.Statement.{statement}
+use Rattle.steps.proofs.settling.live.Tie as tie
 
 abbrev Inv-loop : tie.InvT-loop
 Inv-loop counts n rows₀ i₀ rows i = (i ≤ n) × (rows ≤ i) × (rows ≡ liveBelow i counts)
