@@ -6,7 +6,7 @@ ghost use lib.ListN.{length};
 ghost use Rattle.numbers.specs.Numbers.{put};
 ghost use Rattle.message.specs.Words.{word, masks};
 ghost use Rattle.message.specs.Read.{readWords};
-ghost use Rattle.message.specs.Write.{front, messageWords, rewritten};
+ghost use Rattle.message.specs.Write.{endWords, messageWords, rewritten};
 use super::Reading;
 
 fn put_word(out: &mut [u32], at: usize, kind: u32, x: u32)
@@ -25,14 +25,13 @@ fn put_end(out: &mut [u32], at: usize, kind: u32, end: u64)
     put_word(out, at + 1, kind, (end % 536870912) as u32);
 }
 
-// Writes the head and the ends.
-fn put_front(out: &mut [u32], sender: u32, left: u64, right: u64, count: u32)
-    requires { ⌜ (sender < 32) × (left < 2 ^ 58) × (right < 2 ^ 58) × (count ≤ 8) × (5 ≤ length (now out)) ⌝ }
-    ensures { λ _. ⌜ now (out .exit) ≡ put 0 (front sender left right count) (now (out .entry)) ⌝ }
+// Writes both ends from place `at` on.
+fn put_ends(out: &mut [u32], at: usize, left: u64, right: u64)
+    requires { ⌜ (at + 4 ≤ length (now out)) × (left < 2 ^ 58) × (right < 2 ^ 58) ⌝ }
+    ensures { λ _. ⌜ now (out .exit) ≡ put at (endWords left right) (now (out .entry)) ⌝ }
 {
-    put_word(out, 0, 1, sender + 32 * count);
-    put_end(out, 1, 2, left);
-    put_end(out, 3, 3, right);
+    put_end(out, at, 2, left);
+    put_end(out, at + 2, 3, right);
 }
 
 // Writes the words of kind 6 for the low 29 bits of each term, from place `at` on.
@@ -47,15 +46,20 @@ fn put_terms(out: &mut [u32], at: usize, terms: &[u32])
     }
 }
 
-// Writes a message in ends form; its terms are the low 29 bits of `terms`, masks or term words.
-pub fn write(out: &mut [u32], sender: u32, left: u64, right: u64, terms: &[u32])
-    requires { ⌜ (sender < 32) × (left < 2 ^ 58) × (right < 2 ^ 58) × (length (now terms) ≤ 8) × (length (now terms) + 6 ≤ length (now out)) ⌝ }
-    ensures { λ _. ⌜ now (out .exit) ≡ put 0 (messageWords sender left right (masks (now (terms .entry)))) (now (out .entry)) ⌝ }
+// Writes a message in ends form, `more` right behind its head; its terms are the low 29 bits of `terms`, masks or term words.
+pub fn write(out: &mut [u32], sender: u32, more: &[u32], left: u64, right: u64, terms: &[u32])
+    requires { ⌜ (sender < 32) × (left < 2 ^ 58) × (right < 2 ^ 58) × (length (now terms) ≤ 8) ⌝ }
+    requires { ⌜ length (now more) + length (now terms) + 6 ≤ length (now out) ⌝ }
+    ensures { λ _. ⌜ now (out .exit) ≡
+        put 0 (messageWords sender (now (more .entry)) left right (masks (now (terms .entry)))) (now (out .entry)) ⌝ }
 {
     let count = terms.len();
-    put_front(out, sender, left, right, count as u32);
-    put_terms(out, 5, terms);
-    let last = count + 5;
+    let at = more.len() + 1;
+    put_word(out, 0, 1, sender + 32 * count as u32);
+    predicates::sums::copy(out, 1, more);
+    put_ends(out, at, left, right);
+    put_terms(out, at + 4, terms);
+    let last = at + 4 + count;
     let sum = super::read::check_of(&out[..last]);
     put_word(out, last, 7, sum);
 }
@@ -71,6 +75,6 @@ pub fn rewrite(words: &[u32], out: &mut [u32]) -> Reading
         return got;
     };
     let terms = super::read::term_words(words, got);
-    write(out, sender, left, right, terms);
+    write(out, sender, &words[1..1], left, right, terms);
     got
 }

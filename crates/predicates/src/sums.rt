@@ -40,7 +40,7 @@ pub fn strike(terms: &mut [u32], n: usize, name: u32) -> usize
 }
 
 // Copies the terms of p to the places from `at` on.
-fn copy(terms: &mut [u32], at: usize, p: &[u32])
+pub fn copy(terms: &mut [u32], at: usize, p: &[u32])
     requires { ⌜ at + length (now p) ≤ length (now terms) ⌝ }
     ensures { λ _. ⌜ now (terms .exit) ≡ sets (now (terms .entry)) at (now (p .entry)) ⌝ }
 {
