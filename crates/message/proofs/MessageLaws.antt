@@ -16,7 +16,7 @@ use Rattle.numbers.specs.Numbers.{Words}
 use Rattle.predicates.specs.Predicates.{isNormal}
 use Rattle.predicates.proofs.ListLaws.{both-l, both-r, T-true, true-T}
 use Rattle.predicates.proofs.LoopLaws.{drop-next}
-use Rattle.message.specs.Words.{kindOf, payload, word, ofKind, masks, check}
+use Rattle.message.specs.Words.{payloadSize, endsLimit, termsMost, wordsMost, kindOf, payload, word, ofKind, masks, check}
 use Rattle.message.specs.Read.{isEnds, width, start, spanKinds, middle, kindsFit, checkFits, pair, span, readFrom, readWords, termWords}
 use Rattle.message.specs.Write.{endWords, front, body, messageWords, rewrittenAs, rewritten}
 use Rattle.message.specs.declared.Interval.the-variants.{Span, Bad}
@@ -26,21 +26,21 @@ use Rattle.message.proofs.ReadLaws.{Taken, NoTerms, from-in, from-out, 
 
 -- each term is a mask of 29 bits
 abbrev pub Masks : List ℕ → Type 0
-Masks ts = (i : ℕ) → getD ts i 0 < 2 ^ 29
+Masks ts = (i : ℕ) → getD ts i 0 < payloadSize
 
 -- ---- words, and the terms that they carry
 
-word-kind : (k x : ℕ) → x < 2 ^ 29 → eqb (kindOf (word k x)) k ≡ true
+word-kind : (k x : ℕ) → x < payloadSize → eqb (kindOf (word k x)) k ≡ true
 word-kind k x h = eq-eqb (kindOf (word k x)) k (omega arith)
 
-payload-word : (k x : ℕ) → x < 2 ^ 29 → payload (word k x) ≡ x
+payload-word : (k x : ℕ) → x < payloadSize → payload (word k x) ≡ x
 payload-word k x h = omega arith
 
 -- an end in two words
-pair-word : (k x : ℕ) → x < 2 ^ 58 → payload (word k (x / 2 ^ 29)) * 2 ^ 29 + payload (word k (x % 2 ^ 29)) ≡ x
-pair-word k x h = rw (payload-word k (x / 2 ^ 29) (omega arith), payload-word k (x % 2 ^ 29) (omega arith)) (omega arith)
+pair-word : (k x : ℕ) → x < endsLimit → payload (word k (x / payloadSize)) * payloadSize + payload (word k (x % payloadSize)) ≡ x
+pair-word k x h = rw (payload-word k (x / payloadSize) (omega arith), payload-word k (x % payloadSize) (omega arith)) (omega arith)
 
-check-lt : (ws : List ℕ) → check ws < 2 ^ 29
+check-lt : (ws : List ℕ) → check ws < payloadSize
 unfolding check
 check-lt ws = omega arith
 
@@ -132,7 +132,7 @@ module _ (s : ℕ) (more : List ℕ) (l r : ℕ) (ts : List ℕ) where
       ∙ drop-at (front s more l r (length ts)) (map (λ t. word 6 t) ts) (1 + length more + 4) (omega (arith, length-front))
 
   -- what is written is taken
-  module _ (a : s ≤ 28) (b : l ≤ r) (c : r < 2 ^ 58) (d : length ts ≤ 8) (e : T (isNormal ts)) (m : Masks ts) where
+  module _ (a : s ≤ 28) (b : l ≤ r) (c : r < endsLimit) (d : length ts ≤ termsMost) (e : T (isNormal ts)) (m : Masks ts) where
     ends-fit : T (spanKinds (1 + length more) true (messageWords s more l r ts))
     unfolding spanKinds ofKind endWords
     ends-fit =
@@ -144,10 +144,10 @@ module _ (s : ℕ) (more : List ℕ) (l r : ℕ) (ts : List ℕ) where
           left,
           part-at at 2 4 ws fits,
           ends-message,
-          word-kind 2 (l / 2 ^ 29) (omega arith),
-          word-kind 2 (l % 2 ^ 29) (omega arith),
-          word-kind 3 (r / 2 ^ 29) (omega arith),
-          word-kind 3 (r % 2 ^ 29) (omega arith),
+          word-kind 2 (l / payloadSize) (omega arith),
+          word-kind 2 (l % payloadSize) (omega arith),
+          word-kind 3 (r / payloadSize) (omega arith),
+          word-kind 3 (r % payloadSize) (omega arith),
         ) tt
 
     message-kinds : T (kindsFit (1 + length more) true (messageWords s more l r ts))
@@ -180,7 +180,7 @@ module _ (s : ℕ) (more : List ℕ) (l r : ℕ) (ts : List ℕ) where
     unfolding isEnds messageWords body front endWords width
     taken-message =
         let at = 1 + length more in
-        let first : getD (messageWords s more l r ts) at 0 ≡ word 2 (l / 2 ^ 29) =
+        let first : getD (messageWords s more l r ts) at 0 ≡ word 2 (l / payloadSize) =
         rw add-zero at (sym (getD-drop at (messageWords s more l r ts) 0 0)) ∙ rw ends-message in
         record {
           form = eq-eqb (kindOf (getD (messageWords s more l r ts) at 0)) 2 (omega (arith, first));
@@ -210,7 +210,7 @@ module _ (s l r : ℕ) (ts : List ℕ) where
   pub length-message : length (messageWords s [] l r ts) ≡ length ts + 6
   length-message = omega (arith, length-message-more s [] l r ts)
 
-  module _ (a : s ≤ 28) (b : l ≤ r) (c : r < 2 ^ 58) (d : length ts ≤ 8) (e : T (isNormal ts)) (m : Masks ts) where
+  module _ (a : s ≤ 28) (b : l ≤ r) (c : r < endsLimit) (d : length ts ≤ termsMost) (e : T (isNormal ts)) (m : Masks ts) where
     pub read-write : readWords (messageWords s [] l r ts) ≡ Message s l r (length ts)
     read-write = read-in (taken-message s [] l r ts a b c d e m)
 
@@ -237,7 +237,7 @@ words-terms : (ts : List ℕ) → Masks ts → Words (map (λ t. word 6 t) ts)
 words-terms [] m = words-none
 words-terms (t ∷ ts) m = words-cons _ _ (omega (arith, m 0)) (words-terms ts (λ i. m (suc i)))
 
-pub words-message-more : (s : ℕ) (more : List ℕ) (l r : ℕ) (ts : List ℕ) → s ≤ 28 → l ≤ r → r < 2 ^ 58 → length ts ≤ 8 → Masks ts → Words more
+pub words-message-more : (s : ℕ) (more : List ℕ) (l r : ℕ) (ts : List ℕ) → s ≤ 28 → l ≤ r → r < endsLimit → length ts ≤ termsMost → Masks ts → Words more
     → Words (messageWords s more l r ts)
 unfolding messageWords body front endWords
 words-message-more s more l r ts a b c d m w =
@@ -247,7 +247,7 @@ words-message-more s more l r ts a b c d m w =
     (words-append (front s more l r (length ts)) _ (words-cons _ _ (omega arith) (words-append more _ w ends)) (words-terms ts m))
     (words-cons _ _ (omega (arith, check-lt (body s more l r ts))) words-none)
 
-pub words-message : (s l r : ℕ) (ts : List ℕ) → s ≤ 28 → l ≤ r → r < 2 ^ 58 → length ts ≤ 8 → Masks ts → Words (messageWords s [] l r ts)
+pub words-message : (s l r : ℕ) (ts : List ℕ) → s ≤ 28 → l ≤ r → r < endsLimit → length ts ≤ termsMost → Masks ts → Words (messageWords s [] l r ts)
 words-message s l r ts a b c d m = words-message-more s [] l r ts a b c d m words-none
 
 -- ---- an accepted message in ends form is written again as the same words
@@ -259,7 +259,7 @@ span-ends false x y l r e = ((cc), (cc))
 
 -- the two words of an end that was read are those it is written in
 word-pair : (k x i j : ℕ) (ws : List ℕ) → j ≡ i + 2 → j ≤ length ws → T (ofKind k (slice i j ws)) → pair ws i ≡ x →
-    (word k (x / 2 ^ 29) ≡ getD ws i 0) × (word k (x % 2 ^ 29) ≡ getD ws (i + 1) 0)
+    (word k (x / payloadSize) ≡ getD ws i 0) × (word k (x % payloadSize) ≡ getD ws (i + 1) 0)
 unfolding pair
 word-pair k x i j ws e h t p =
     let high = kind-at k i j i ws t (omega arith) (omega arith) h in
@@ -385,11 +385,11 @@ module _ {s l r n : ℕ} (ws : List ℕ) (e : readWords ws ≡ Message s l r n) 
       (masks-terms ts (masks-lt _))
 
 -- what is rewritten, or the nothing of a refused message, is at most 14 words below 2 ^ 32
-pub length-rewritten : (ws : List ℕ) → length (rewritten ws) ≤ 14
+pub length-rewritten : (ws : List ℕ) → length (rewritten ws) ≤ wordsMost
 unfolding rewritten rewrittenAs width
 length-rewritten ws = by (readWords ws) refl
   where
-    by : (x : Reading) → readWords ws ≡ x → length (rewritten ws) ≤ 14
+    by : (x : Reading) → readWords ws ≡ x → length (rewritten ws) ≤ wordsMost
     by (Refused k) e = rw e (omega arith)
     by (Message s l r n) e = omega (arith, taken-rewritten ws e)
 

@@ -2,7 +2,7 @@
 -- join them to `readFrom`, `read-out` and `read-in` to `readWords`.
 -- The idea: each refusal that did not come is a fact. Kinds fix the top bits of every word, so a taken message needs no further bound on
 -- its words, and the words of kind 6 are those between the interval and the last. No contract cites this file. Assumes nothing.
-use Prim.Native.Nat.{ℕ, zero, suc, _+_, _*_, _-_, _/_, _^_, _≤_, _<_}
+use Prim.Native.Nat.{ℕ, zero, suc, _+_, _*_, _-_, _/_, _≤_, _<_}
 use mathlib.Core.Path.{_≡_, refl, sym, ap, subst, _∙_}
 use mathlib.Core.Bool.{Bool, true, false, _||_, not, cond}
 use mathlib.Core.List.{List, [], _∷_, _++_, append-nil}
@@ -14,7 +14,7 @@ use borrow.Author.Tests.{le-ltb, le-leb, eq-eqb}
 use Rattle.predicates.specs.Lists.{all, keep}
 use Rattle.predicates.specs.Predicates.{isNormal}
 use Rattle.predicates.proofs.ListLaws.{both-l, both-r, T-true, cond-ind}
-use Rattle.message.specs.Words.{kindOf, payload, word, ofKind, masks}
+use Rattle.message.specs.Words.{endsLimit, termsMost, wordsLeast, wordsMost, kindOf, payload, word, ofKind, masks}
 use Rattle.message.specs.Read.{opens, senderOf, countOf, headFits, isEnds, width, start, spanKinds, middle, kindsFit, checkFits, pair, span, withSpan, readForm, readFrom, readWords, termWords}
 use Rattle.message.specs.declared.Interval.{Interval}
 use Rattle.message.specs.declared.Interval.the-variants.{Span, Bad}
@@ -29,29 +29,29 @@ pub record Taken (at : ℕ) (ends : Bool) (ws : List ℕ) (s l r n : ℕ) : Type
   pub sender : s ≡ senderOf (getD ws 0 0)
   pub count : n ≡ countOf (getD ws 0 0)
   pub sender-le : s ≤ 28
-  pub count-le : n ≤ 8
+  pub count-le : n ≤ termsMost
   pub kinds : T (kindsFit at ends ws)
   pub sum : T (checkFits ws)
   pub interval : span at ends ws ≡ Span l r
   pub left-le : l ≤ r
-  pub right-lt : r < 2 ^ 58
+  pub right-lt : r < endsLimit
   pub normal : T (isNormal (masks (middle at ends ws)))
 
 -- ---- the head
 
-head-out : (h : ℕ) → T (headFits h) → (h ≡ word 1 (senderOf h + 32 * countOf h)) × (senderOf h ≤ 28) × (countOf h ≤ 8)
+head-out : (h : ℕ) → T (headFits h) → (h ≡ word 1 (senderOf h + 32 * countOf h)) × (senderOf h ≤ 28) × (countOf h ≤ termsMost)
 unfolding headFits
 head-out h t =
     let a : T (eqb (kindOf h) 1) = search both-l depth 9 in
     let b : T (leb (senderOf h) 28) = search (both-l, both-r) depth 9 in
-    let c : T (leb (countOf h) 8) = search (both-l, both-r) depth 9 in
+    let c : T (leb (countOf h) termsMost) = search (both-l, both-r) depth 9 in
     let d : T (eqb (payload h / 1024) 0) = search (both-l, both-r) depth 9 in
     omega (arith, eqb→eq, leb→le)
 
-head-in : (h s n : ℕ) → h ≡ word 1 (s + 32 * n) → s ≤ 28 → n ≤ 8 → headFits h ≡ true
+head-in : (h s n : ℕ) → h ≡ word 1 (s + 32 * n) → s ≤ 28 → n ≤ termsMost → headFits h ≡ true
 unfolding headFits
 head-in h s n e a b =
-    rw (eq-eqb (kindOf h) 1 (omega arith), le-leb (senderOf h) 28 (omega arith), le-leb (countOf h) 8 (omega arith), eq-eqb (payload h / 1024) 0 (omega arith))
+    rw (eq-eqb (kindOf h) 1 (omega arith), le-leb (senderOf h) 28 (omega arith), le-leb (countOf h) termsMost (omega arith), eq-eqb (payload h / 1024) 0 (omega arith))
 
 -- ---- the kinds
 
@@ -78,7 +78,7 @@ start-bounds at false = omega arith
 -- the ends of an interval that is good
 abbrev Fits : Interval → Type 0
 Fits Bad = Unit
-Fits (Span left right) = (left ≤ right) × (right < 2 ^ 58)
+Fits (Span left right) = (left ≤ right) × (right < endsLimit)
 
 span-fits : (at : ℕ) (ends : Bool) (ws : List ℕ) → Fits (span at ends ws)
 unfolding span pair
@@ -86,7 +86,7 @@ span-fits at true ws = cond-ind Fits (leb (pair ws at) (pair ws (at + 2))) _ Bad
 span-fits at false ws =
     let half = payload (getD ws (at + 2) 0) in
     cond-ind Fits (leb half (pair ws at)) _ Bad
-    (λ t. cond-ind Fits (ltb (pair ws at + half) (2 ^ 58)) _ Bad (λ u. omega (arith, leb→le, ltb→lt)) (λ u. tt)) (λ t. tt)
+    (λ t. cond-ind Fits (ltb (pair ws at + half) endsLimit) _ Bad (λ u. omega (arith, leb→le, ltb→lt)) (λ u. tt)) (λ t. tt)
 
 -- ---- from the reading to its facts
 
@@ -136,7 +136,7 @@ module _ {s l r n : ℕ} where
 
   pub read-out : (ws : List ℕ) → readWords ws ≡ Message s l r n → Taken 1 (isEnds 1 ws) ws s l r n
   unfolding readWords
-  read-out ws e = from-out 1 ws (past (ltb (length ws) 5 || ltb 14 (length ws)) 10 _ e)
+  read-out ws e = from-out 1 ws (past (ltb (length ws) wordsLeast || ltb wordsMost (length ws)) 10 _ e)
 
 -- ---- from the facts to the reading
 
@@ -169,7 +169,7 @@ module _ {ends : Bool} {ws : List ℕ} {s l r n : ℕ} where
   unfolding readWords
   read-in t =
       let known = start-bounds 1 ends in
-      rw (le-ltb (length ws) 5 (omega arith), le-ltb 14 (length ws) (omega arith)) (from-in t)
+      rw (le-ltb (length ws) wordsLeast (omega arith), le-ltb wordsMost (length ws) (omega arith)) (from-in t)
 
 -- ---- the term words
 

@@ -1,6 +1,6 @@
 -- Reading a message (document 01, "The radio message" and "Who can cause which refusal"): sender, ends and term count, or the first
 -- refusal of 10, 12, 11, 13 to 17. Assumes nothing: these are definitions.
-use Prim.Native.Nat.{ℕ, _+_, _*_, _-_, _/_, _%_, _^_}
+use Prim.Native.Nat.{ℕ, _+_, _*_, _-_, _/_, _%_}
 use mathlib.Core.Bool.{Bool, cond, not, _&&_, _||_}
 use mathlib.Core.List.{List, []}
 use lib.ListN.{length, getD, take, drop}
@@ -8,7 +8,7 @@ use lib.Seq.{slice}
 use lib.Dec.{ltb, leb, eqb}
 use Rattle.predicates.specs.Lists.{keep}
 use Rattle.predicates.specs.Predicates.{isNormal}
-use Rattle.message.specs.Words.{kindOf, payload, ofKind, masks, check}
+use Rattle.message.specs.Words.{payloadSize, endsLimit, termsMost, wordsLeast, wordsMost, kindOf, payload, ofKind, masks, check}
 use Rattle.message.specs.declared.Interval.{Interval}
 use Rattle.message.specs.declared.Interval.the-variants.{Span, Bad}
 use Rattle.message.specs.declared.Reading.{Reading}
@@ -24,7 +24,7 @@ countOf head = head / 32 % 32
 
 -- 12: "head not of kind 1, sender above 28, term count above 8 or bits 10–28 not zero"
 unfoldable pub headFits : ℕ → Bool
-headFits head = eqb (kindOf head) 1 && (leb (senderOf head) 28 && (leb (countOf head) 8 && eqb (payload head / 1024) 0))
+headFits head = eqb (kindOf head) 1 && (leb (senderOf head) 28 && (leb (countOf head) termsMost && eqb (payload head / 1024) 0))
 
 -- ---- the forms: "ends form: two words of kind 2 and two of kind 3; or centre form: two of kind 4, one of kind 5"
 -- The interval's first word is at place `at`: document 01 puts it right behind the head, at place 1.
@@ -67,7 +67,7 @@ checkFits ws = eqb (payload (getD ws (length ws - 1) 0)) (check (take (length ws
 
 -- the number in two words, "high 29 bits then low"
 unfoldable pub pair : List ℕ → ℕ → ℕ
-pair ws i = payload (getD ws i 0) * 2 ^ 29 + payload (getD ws (i + 1) 0)
+pair ws i = payload (getD ws i 0) * payloadSize + payload (getD ws (i + 1) 0)
 
 -- 16: "left above right, or an end below 0 or above 2^58 − 1"; two words never pass 2^58 − 1
 abbrev pub spanOf : ℕ → ℕ → Interval
@@ -75,7 +75,7 @@ spanOf left right = cond (leb left right) (Span left right) Bad
 
 -- "the ends being centre less and plus half width"
 abbrev pub spanAround : ℕ → ℕ → Interval
-spanAround centre half = cond (leb half centre) (cond (ltb (centre + half) (2 ^ 58)) (Span (centre - half) (centre + half)) Bad) Bad
+spanAround centre half = cond (leb half centre) (cond (ltb (centre + half) endsLimit) (Span (centre - half) (centre + half)) Bad) Bad
 
 unfoldable pub span : ℕ → Bool → List ℕ → Interval
 span at ends ws = cond ends (spanOf (pair ws at) (pair ws (at + 2))) (spanAround (pair ws at) (payload (getD ws (at + 2) 0)))
@@ -105,7 +105,7 @@ readFrom at ws =
 
 -- 10: "word count outside 5 to 14"; then the rest, the interval right behind the head
 unfoldable pub readWords : List ℕ → Reading
-readWords ws = cond (ltb (length ws) 5 || ltb 14 (length ws)) (Refused 10) (readFrom 1 ws)
+readWords ws = cond (ltb (length ws) wordsLeast || ltb wordsMost (length ws)) (Refused 10) (readFrom 1 ws)
 
 -- "hands back the term words": the words of kind 6 of a message that is taken
 unfoldable pub termWords : Reading → List ℕ → List ℕ

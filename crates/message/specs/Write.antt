@@ -1,15 +1,15 @@
 -- Writing a message in ends form, and rewriting one (document 01, "The radio message"). Assumes nothing: these are definitions.
-use Prim.Native.Nat.{ℕ, _+_, _*_, _/_, _%_, _^_}
+use Prim.Native.Nat.{ℕ, _+_, _*_, _/_, _%_}
 use mathlib.Core.List.{List, [], _∷_, _++_, map}
 use lib.ListN.{length}
-use Rattle.message.specs.Words.{word, masks, check}
+use Rattle.message.specs.Words.{payloadSize, word, masks, check}
 use Rattle.message.specs.Read.{readWords, termWords}
 use Rattle.message.specs.declared.Reading.{Reading}
 use Rattle.message.specs.declared.Reading.the-variants.{Message, Refused}
 
 -- "two words of kind 2 (left end, high 29 bits then low) and two of kind 3 (right end)"
 unfoldable pub endWords : ℕ → ℕ → List ℕ
-endWords left right = word 2 (left / 2 ^ 29) ∷ word 2 (left % 2 ^ 29) ∷ word 3 (right / 2 ^ 29) ∷ word 3 (right % 2 ^ 29) ∷ []
+endWords left right = word 2 (left / payloadSize) ∷ word 2 (left % payloadSize) ∷ word 3 (right / payloadSize) ∷ word 3 (right % payloadSize) ∷ []
 
 -- the head, the words `more` right behind it, and the ends
 unfoldable pub front : ℕ → List ℕ → ℕ → ℕ → ℕ → List ℕ

@@ -1,23 +1,28 @@
 // Reading: a function for each test of document 01, in its order 10, 12, 11, 13 to 17.
 ghost use mathlib.Core.Path.{_≡_};
-ghost use Prim.Native.Nat.{_+_, _≤_, _<_, _^_};
+ghost use Prim.Native.Nat.{_+_, _≤_, _<_};
 ghost use lib.ListN.{length};
-ghost use Rattle.message.specs.Words.{kindOf, payload as Words·payload, ofKind, check};
+ghost use Rattle.message.specs.Words.{payloadSize, endsLimit, kindOf, payload as Words·payload, ofKind, check};
 ghost use Rattle.message.specs.Read.{headFits, width as Read·width, start, spanKinds, kindsFit, checkFits, pair as Read·pair};
 ghost use Rattle.message.specs.Read.{span as Read·span, readForm, readFrom, readWords, termWords, numberOf};
+use super::ENDS_LIMIT;
 use super::Interval;
+use super::PAYLOAD_SIZE;
 use super::Reading;
+use super::TERMS_MOST;
+use super::WORDS_LEAST;
+use super::WORDS_MOST;
 
 fn kind(w: u32) -> u32
     ensures { λ r. ⌜ (r ≡ kindOf w) × (r < 8) ⌝ }
 {
-    w / 536870912
+    w / PAYLOAD_SIZE
 }
 
 fn payload(w: u32) -> u32
-    ensures { λ r. ⌜ (r ≡ Words·payload w) × (r < 2 ^ 29) ⌝ }
+    ensures { λ r. ⌜ (r ≡ Words·payload w) × (r < payloadSize) ⌝ }
 {
-    w % 536870912
+    w % PAYLOAD_SIZE
 }
 
 // Whether each word is of kind k.
@@ -35,7 +40,7 @@ fn of_kind(words: &[u32], k: u32) -> bool
 
 // The check word's payload: the sum of the words, wrapping, modulo 2^29.
 pub fn check_of(words: &[u32]) -> u32
-    ensures { λ r. ⌜ (r ≡ check (now (words .entry))) × (r < 2 ^ 29) ⌝ }
+    ensures { λ r. ⌜ (r ≡ check (now (words .entry))) × (r < payloadSize) ⌝ }
 {
     let mut sum: u32 = 0;
     let mut from: usize = 0;
@@ -43,13 +48,15 @@ pub fn check_of(words: &[u32]) -> u32
         sum = std::num::wrapping_add_u32(sum, words[from]);
         from += 1;
     }
-    sum % 536870912
+    sum % PAYLOAD_SIZE
 }
 
 fn head_fits(head: u32) -> bool
     ensures { λ r. ⌜ r ≡ headFits head ⌝ }
 {
-    (kind(head) == 1) & ((head % 32 <= 28) & ((head / 32 % 32 <= 8) & (payload(head) / 1024 == 0)))
+    (kind(head) == 1)
+        & ((head % 32 <= 28)
+            & ((head / 32 % 32 <= TERMS_MOST as u32) & (payload(head) / 1024 == 0)))
 }
 
 // How many words the interval has.
@@ -95,9 +102,9 @@ fn check_fits(words: &[u32]) -> bool
 // The number in the words at i and i + 1.
 fn pair(words: &[u32], i: usize) -> u64
     requires { ⌜ i + 1 < length (now words) ⌝ }
-    ensures { λ r. ⌜ (r ≡ Read·pair (now (words .entry)) i) × (r < 2 ^ 58) ⌝ }
+    ensures { λ r. ⌜ (r ≡ Read·pair (now (words .entry)) i) × (r < endsLimit) ⌝ }
 {
-    (payload(words[i]) as u64) * 536870912 + (payload(words[i + 1]) as u64)
+    (payload(words[i]) as u64) * (PAYLOAD_SIZE as u64) + (payload(words[i + 1]) as u64)
 }
 
 // The interval that begins at place `at`.
@@ -115,7 +122,7 @@ fn span(words: &[u32], at: usize, ends: bool) -> Interval
     }
     let half = payload(words[at + 2]) as u64;
     if half <= a {
-        if a + half < 288230376151711744 {
+        if a + half < ENDS_LIMIT {
             return Interval::Span(a - half, a + half);
         }
     }
@@ -173,10 +180,10 @@ pub fn read(words: &[u32]) -> Reading
     ensures { λ r. ⌜ r ≡ readWords (now (words .entry)) ⌝ }
 {
     let n = words.len();
-    if n < 5 {
+    if n < WORDS_LEAST {
         return Reading::Refused(10);
     }
-    if 14 < n {
+    if WORDS_MOST < n {
         return Reading::Refused(10);
     }
     read_from(words, 1)

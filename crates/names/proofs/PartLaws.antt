@@ -12,7 +12,7 @@ use borrow.Author.Tests.{eq-eqb}
 use lib.Arith.{bin-ind}
 use lib.Bits.{bitAnd, and-step, and-comm, and-self, and-le-l, and-mask, or-add-and}
 use lib.Count.{ones, ones-step}
-use Rattle.names.specs.Sets.{subset, union, has, shared, less, others, lowest, digit}
+use Rattle.names.specs.Sets.{noSet, subset, union, has, shared, less, others, lowest, digit}
 use Rattle.names.proofs.SetLaws.{test-ext, digit-lt, digit-single-same, digit-single-other, digit-zero, digit-suc, digit-and, digit-union, digit-empty, subset-and, and-subset, subset-out, subset-in, digits-ext, subset-trans, subset-antisym, subset-empty, subset-le, union-left, union-right, union-least, ones-empty, ones-none, ones-mono, ones-union, halves, has-in, has-out}
 
 -- ---- what both hold
@@ -246,14 +246,14 @@ without-one s c x one h f = adds-none s x (go (ℕ-discrete (less x s) 0))
 -- ---- all names but one
 
 -- a set of names 0 to 28 without n
-pub others-in : (n s : ℕ) → s < 2 ^ 29 → T (not (has n s)) → T (subset s (others n))
+pub others-in : (n s : ℕ) → s < noSet → T (not (has n s)) → T (subset s (others n))
 unfolding others
 others-in n s h f =
-    let whole : bitAnd s (2 ^ 29 - 1) ≡ s = and-mask s 29 ∙ mod-eq-of-lt h in
-    let all : T (subset s (2 ^ 29 - 1)) = and-subset s (2 ^ 29 - 1) whole in
-    subset-in s (less (2 ^ 29 - 1) (2 ^ n)) (λ m. go m (ℕ-discrete n m) (subset-out s (2 ^ 29 - 1) all m))
+    let whole : bitAnd s (noSet - 1) ≡ s = and-mask s 29 ∙ mod-eq-of-lt h in
+    let all : T (subset s (noSet - 1)) = and-subset s (noSet - 1) whole in
+    subset-in s (less (noSet - 1) (2 ^ n)) (λ m. go m (ℕ-discrete n m) (subset-out s (noSet - 1) all m))
   where
-    go : (m : ℕ) → Dec (n ≡ m) → digit s m ≤ digit (2 ^ 29 - 1) m → digit s m ≤ digit (less (2 ^ 29 - 1) (2 ^ n)) m
+    go : (m : ℕ) → Dec (n ≡ m) → digit s m ≤ digit (noSet - 1) m → digit s m ≤ digit (less (noSet - 1) (2 ^ n)) m
     go m (yes e) k =
         let zero : digit s n ≡ 0 = without (ℕ-discrete (digit s n) 1) in
         omega (arith, ap (λ (x : ℕ). digit s x) e)
@@ -261,14 +261,14 @@ others-in n s h f =
         without : Dec (digit s n ≡ 1) → digit s n ≡ 0
         without (yes q) = absurd (T-not (has n s) f (has-in n s q))
         without (no q) = omega (arith, digit-lt s n)
-    go m (no g) k = omega (arith, digit-less (2 ^ 29 - 1) (2 ^ n) m, digit-single-other n m g)
+    go m (no g) k = omega (arith, digit-less (noSet - 1) (2 ^ n) m, digit-single-other n m g)
 
-pub others-lt : (n s : ℕ) → T (subset s (others n)) → s < 2 ^ 29
+pub others-lt : (n s : ℕ) → T (subset s (others n)) → s < noSet
 unfolding others
-others-lt n s h = omega (arith, subset-le s (2 ^ 29 - 1) (subset-trans s (less (2 ^ 29 - 1) (2 ^ n)) (2 ^ 29 - 1) h (less-subset (2 ^ 29 - 1) (2 ^ n))))
+others-lt n s h = omega (arith, subset-le s (noSet - 1) (subset-trans s (less (noSet - 1) (2 ^ n)) (noSet - 1) h (less-subset (noSet - 1) (2 ^ n))))
 
 pub others-out : (n s : ℕ) → T (subset s (others n)) → T (not (has n s))
 unfolding others
 others-out n s h =
     not-T (has n s) (λ t.
-    absurd (omega (arith, has-out n s t, subset-out s (less (2 ^ 29 - 1) (2 ^ n)) h n, digit-less (2 ^ 29 - 1) (2 ^ n) n, digit-single-same n, digit-lt (2 ^ 29 - 1) n)))
+    absurd (omega (arith, has-out n s t, subset-out s (less (noSet - 1) (2 ^ n)) h n, digit-less (noSet - 1) (2 ^ n) n, digit-single-same n, digit-lt (noSet - 1) n)))

@@ -5,6 +5,10 @@ use mathlib.Core.Bool.{Bool, not}
 use lib.Dec.{eqb}
 use lib.Bits.{bitAnd, bitOr}
 
+-- the mask of no set, more than every set of names: 29 names, "0 to 28"
+abbrev pub noSet : ℕ
+noSet = 2 ^ 29
+
 -- every name of t is in s
 unfoldable pub subset : ℕ → ℕ → Bool
 subset t s = eqb (bitAnd t s) t
@@ -21,9 +25,9 @@ shared s t = bitAnd s t
 unfoldable pub less : ℕ → ℕ → ℕ
 less s t = s - bitAnd s t
 
--- all names, "0 to 28", but n
+-- all names but n
 unfoldable pub others : ℕ → ℕ
-others n = less (2 ^ 29 - 1) (2 ^ n)
+others n = less (noSet - 1) (2 ^ n)
 
 -- the least name of s, as a set of its own
 unfoldable pub lowest : ℕ → ℕ

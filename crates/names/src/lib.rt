@@ -6,6 +6,9 @@ ghost use lib.Count.{ones};
 ghost use lib.Dec.{leb};
 ghost use Rattle.names.specs.Sets.{subset as Sets·subset, union as Sets·union, shared as Sets·shared, less as Sets·less, others as Sets·others, lowest as Sets·lowest, has as Sets·has};
 
+// The mask of no set: more than every set of names.
+pub const NO_SET: u32 = 536_870_912;
+
 // Whether each name of t is in s.
 pub fn subset(t: u32, s: u32) -> bool
     ensures { λ r. ⌜ r ≡ Sets·subset t s ⌝ }
@@ -72,7 +75,7 @@ pub fn others(n: u32) -> u32
     requires { ⌜ n < 32 ⌝ }
     ensures { λ r. ⌜ r ≡ Sets·others n ⌝ }
 {
-    less(536870911, single(n))
+    less(NO_SET - 1, single(n))
 }
 
 // Whether s holds the name n: the own-name test.

@@ -9,4 +9,4 @@ unfolding headFits
 returns c = rw (c .before .kind .ensures .0, c .payload .ensures .0)
 
 pub head-fits-spec : {M : Type 1} → statement M
-head-fits-spec = tie.close (tie.spec (λ c κs. search needs) (λ c κs. search needs) returns)
+head-fits-spec = tie.close (tie.spec (λ c κs. search needs) (λ c. search needs) (λ c κs. search needs) returns)
