@@ -16,8 +16,8 @@ use Rattle.numbers.specs.Numbers.{Words}
 use Rattle.predicates.specs.Predicates.{isNormal}
 use Rattle.predicates.proofs.ListLaws.{both-l, both-r, T-true, true-T}
 use Rattle.predicates.proofs.LoopLaws.{drop-next}
-use Rattle.message.specs.Words.{payloadSize, endsLimit, termsMost, wordsMost, kindOf, payload, word, ofKind, masks, check}
-use Rattle.message.specs.Read.{isEnds, width, start, spanKinds, middle, kindsFit, checkFits, pair, span, readFrom, readWords, termWords}
+use Rattle.message.specs.Words.{payloadSize, endsLimit, termsMost, kindOf, payload, word, ofKind, masks, check}
+use Rattle.message.specs.Read.{isEnds, width, spanKinds, middle, kindsFit, checkFits, pair, span, readFrom, readWords, termWords}
 use Rattle.message.specs.Write.{endWords, front, body, messageWords, rewrittenAs, rewritten}
 use Rattle.message.specs.declared.Interval.the-variants.{Span, Bad}
 use Rattle.message.specs.declared.Reading.{Reading}
@@ -384,15 +384,7 @@ module _ {s l r n : ℕ} (ws : List ℕ) (e : readWords ws ≡ Message s l r n) 
       rw (rewrite-reads, e, terms-middle taken-rewritten, terms-middle (read-out ws e), written, middle-message s [] l r ts)
       (masks-terms ts (masks-lt _))
 
--- what is rewritten, or the nothing of a refused message, is at most 14 words below 2 ^ 32
-pub length-rewritten : (ws : List ℕ) → length (rewritten ws) ≤ wordsMost
-unfolding rewritten rewrittenAs width
-length-rewritten ws = by (readWords ws) refl
-  where
-    by : (x : Reading) → readWords ws ≡ x → length (rewritten ws) ≤ wordsMost
-    by (Refused k) e = rw e (omega arith)
-    by (Message s l r n) e = omega (arith, taken-rewritten ws e)
-
+-- what is rewritten, or the nothing of a refused message, is words below 2 ^ 32
 pub words-rewritten : (ws : List ℕ) → Words (rewritten ws)
 unfolding rewritten rewrittenAs
 words-rewritten ws = by (readWords ws) refl

@@ -15,7 +15,7 @@ use Rattle.predicates.specs.Lists.{all, keep}
 use Rattle.predicates.specs.Predicates.{isNormal}
 use Rattle.predicates.proofs.ListLaws.{both-l, both-r, T-true, cond-ind}
 use Rattle.message.specs.Words.{endsLimit, termsMost, wordsLeast, wordsMost, kindOf, payload, word, ofKind, masks}
-use Rattle.message.specs.Read.{opens, senderOf, countOf, headFits, isEnds, width, start, spanKinds, middle, kindsFit, checkFits, pair, span, withSpan, readForm, readFrom, readWords, termWords}
+use Rattle.message.specs.Read.{opens, senderOf, countOf, headWordFits, isEnds, width, start, spanKinds, middle, kindsFit, checkFits, pair, span, withSpan, readForm, readFrom, readWords, termWords}
 use Rattle.message.specs.declared.Interval.{Interval}
 use Rattle.message.specs.declared.Interval.the-variants.{Span, Bad}
 use Rattle.message.specs.declared.Reading.{Reading}
@@ -39,8 +39,8 @@ pub record Taken (at : ℕ) (ends : Bool) (ws : List ℕ) (s l r n : ℕ) : Type
 
 -- ---- the head
 
-head-out : (h : ℕ) → T (headFits h) → (h ≡ word 1 (senderOf h + 32 * countOf h)) × (senderOf h ≤ 28) × (countOf h ≤ termsMost)
-unfolding headFits
+head-out : (h : ℕ) → T (headWordFits h) → (h ≡ word 1 (senderOf h + 32 * countOf h)) × (senderOf h ≤ 28) × (countOf h ≤ termsMost)
+unfolding headWordFits
 head-out h t =
     let a : T (eqb (kindOf h) 1) = search both-l depth 9 in
     let b : T (leb (senderOf h) 28) = search (both-l, both-r) depth 9 in
@@ -48,8 +48,8 @@ head-out h t =
     let d : T (eqb (payload h / 1024) 0) = search (both-l, both-r) depth 9 in
     omega (arith, eqb→eq, leb→le)
 
-head-in : (h s n : ℕ) → h ≡ word 1 (s + 32 * n) → s ≤ 28 → n ≤ termsMost → headFits h ≡ true
-unfolding headFits
+head-in : (h s n : ℕ) → h ≡ word 1 (s + 32 * n) → s ≤ 28 → n ≤ termsMost → headWordFits h ≡ true
+unfolding headWordFits
 head-in h s n e a b =
     rw (eq-eqb (kindOf h) 1 (omega arith), le-leb (senderOf h) 28 (omega arith), le-leb (countOf h) termsMost (omega arith), eq-eqb (payload h / 1024) 0 (omega arith))
 
@@ -111,7 +111,7 @@ module _ {s l r n : ℕ} where
   from-out at ws e =
       let w = getD ws 0 0 in
       let ends = isEnds at ws in
-      let a = passed (headFits w) 12 _ e in
+      let a = passed (headWordFits w) 12 _ e in
       let b = passed (eqb (length ws) (start at ends + countOf w + 1)) 13 _ (passed (opens at ws) 11 _ (a .1) .1) in
       let c = passed (kindsFit at ends ws) 14 _ (b .1) in
       let d = passed (checkFits ws) 15 _ (c .1) in

@@ -15,12 +15,12 @@ use lib.Seq.{slice, take-nil, take-all}
 use Rattle.names.specs.Sets.{subset}
 use Rattle.names.proofs.SetLaws.{test-ext}
 use Rattle.predicates.specs.Lists.{all}
-use Rattle.predicates.specs.Predicates.{before, isNormal}
+use Rattle.predicates.specs.Predicates.{precedes, isNormal}
 use Rattle.predicates.proofs.ListLaws.{both-l, both-r, true-T}
 use Rattle.predicates.proofs.LoopLaws.{drop-next}
 use Rattle.numbers.specs.Numbers.{put}
 use Rattle.numbers.proofs.NumberLaws.{put-then, take-put}
-use Rattle.message.specs.Words.{kindOf, payload, word, ofKind, masks, sum, check}
+use Rattle.message.specs.Words.{kindOf, payload, word, ofKind, masks, wordSum, check}
 use Rattle.message.specs.Read.{start, middle, kindsFit}
 use Rattle.message.specs.Write.{endWords, front, body, messageWords}
 
@@ -59,15 +59,15 @@ module _ (a b : ℕ) (e : kindOf a ≡ kindOf b) where
       (λ h. let l = eqb→eq (bitAnd (payload a) (payload b)) (payload a) h in true-T _ (eq-eqb (bitAnd a b) a (omega arith)))
       (λ h. let l = eqb→eq (bitAnd a b) a h in true-T _ (eq-eqb (bitAnd (payload a) (payload b)) (payload a) (omega arith)))
 
-  before-payload : before (payload a) (payload b) ≡ before a b
-  before-payload = ap₂ (λ (x y : Bool). x && not y) payload-less payload-subset
+  precedes-payload : precedes (payload a) (payload b) ≡ precedes a b
+  precedes-payload = ap₂ (λ (x y : Bool). x && not y) payload-less payload-subset
 
-before-payloads : (k w : ℕ) (ws : List ℕ) → kindOf w ≡ k → T (ofKind k ws) → all (λ u. before (payload w) u) (masks ws) ≡ all (λ u. before w u) ws
+precedes-payloads : (k w : ℕ) (ws : List ℕ) → kindOf w ≡ k → T (ofKind k ws) → all (λ u. precedes (payload w) u) (masks ws) ≡ all (λ u. precedes w u) ws
 unfolding ofKind masks
-before-payloads k w [] e t = refl
-before-payloads k w (u ∷ ws) e t =
+precedes-payloads k w [] e t = refl
+precedes-payloads k w (u ∷ ws) e t =
     let here = eqb→eq (kindOf u) k (both-l (eqb (kindOf u) k) (ofKind k ws) t) in
-    ap₂ (λ (x y : Bool). x && y) (before-payload w u (omega arith)) (before-payloads k w ws e (both-r (eqb (kindOf u) k) (ofKind k ws) t))
+    ap₂ (λ (x y : Bool). x && y) (precedes-payload w u (omega arith)) (precedes-payloads k w ws e (both-r (eqb (kindOf u) k) (ofKind k ws) t))
 
 -- words of one kind are in normal form where the terms they carry are
 pub normal-words : (k : ℕ) (ws : List ℕ) → T (ofKind k ws) → isNormal (masks ws) ≡ isNormal ws
@@ -76,7 +76,7 @@ normal-words k [] t = refl
 normal-words k (w ∷ ws) t =
     let here = eqb→eq (kindOf w) k (both-l (eqb (kindOf w) k) (ofKind k ws) t) in
     let rest = both-r (eqb (kindOf w) k) (ofKind k ws) t in
-    ap₂ (λ (x y : Bool). x && y) (before-payloads k w ws here rest) (normal-words k ws rest)
+    ap₂ (λ (x y : Bool). x && y) (precedes-payloads k w ws here rest) (normal-words k ws rest)
 
 -- the code tests the words between the interval and the last one, kinds included
 pub normal-middle : (at : ℕ) (ends : Bool) (ws : List ℕ) (from : ℕ) → from ≡ start at ends → T (kindsFit at ends ws) →
@@ -90,17 +90,17 @@ normal-middle at ends ws from e t =
 
 -- a turn of the loop: r is the sum so far with one word more
 pub sum-next : (acc i r t : ℕ) (ws : List ℕ) → i < length ws → r ≡ (acc + getD ws i 0) % 2 ^ 32
-    → (acc + sum (drop i ws)) % 2 ^ 32 ≡ t → (r + sum (drop (i + 1) ws)) % 2 ^ 32 ≡ t
-unfolding sum
+    → (acc + wordSum (drop i ws)) % 2 ^ 32 ≡ t → (r + wordSum (drop (i + 1) ws)) % 2 ^ 32 ≡ t
+unfolding wordSum
 sum-next acc i r t ws h e p =
-    rw (e, mod-add-mod (acc + getD ws i 0) (2 ^ 32) (sum (drop (i + 1) ws)), add-assoc acc (getD ws i 0) (sum (drop (i + 1) ws))) (rw (drop-next ws i h) at p)
+    rw (e, mod-add-mod (acc + getD ws i 0) (2 ^ 32) (wordSum (drop (i + 1) ws)), add-assoc acc (getD ws i 0) (wordSum (drop (i + 1) ws))) (rw (drop-next ws i h) at p)
 
 -- at its end: what wrapping lost lies above the low 29 bits
-pub sum-done : (acc i : ℕ) (ws : List ℕ) → length ws ≤ i → (acc + sum (drop i ws)) % 2 ^ 32 ≡ sum ws % 2 ^ 32 → acc % 2 ^ 29 ≡ check ws
-unfolding sum check
+pub sum-done : (acc i : ℕ) (ws : List ℕ) → length ws ≤ i → (acc + wordSum (drop i ws)) % 2 ^ 32 ≡ wordSum ws % 2 ^ 32 → acc % 2 ^ 29 ≡ check ws
+unfolding wordSum check
 sum-done acc i ws h e =
-    let f : acc % 2 ^ 32 ≡ sum ws % 2 ^ 32 = rw (drop-of-length-le ws {i = i} h, add-zero) at e in
-    sym (mod-mod-pow acc 3 29) ∙ ap (λ (x : ℕ). x % 2 ^ 29) f ∙ mod-mod-pow (sum ws) 3 29
+    let f : acc % 2 ^ 32 ≡ wordSum ws % 2 ^ 32 = rw (drop-of-length-le ws {i = i} h, add-zero) at e in
+    sym (mod-mod-pow acc 3 29) ∙ ap (λ (x : ℕ). x % 2 ^ 29) f ∙ mod-mod-pow (wordSum ws) 3 29
 
 -- ---- writing
 

@@ -23,8 +23,8 @@ abbrev pub countOf : ℕ → ℕ
 countOf head = head / 32 % 32
 
 -- 12: "head not of kind 1, sender above 28, term count above 8 or bits 10–28 not zero"
-unfoldable pub headFits : ℕ → Bool
-headFits head = eqb (kindOf head) 1 && (leb (senderOf head) 28 && (leb (countOf head) termsMost && eqb (payload head / 1024) 0))
+unfoldable pub headWordFits : ℕ → Bool
+headWordFits head = eqb (kindOf head) 1 && (leb (senderOf head) 28 && (leb (countOf head) termsMost && eqb (payload head / 1024) 0))
 
 -- ---- the forms: "ends form: two words of kind 2 and two of kind 3; or centre form: two of kind 4, one of kind 5"
 -- The interval's first word is at place `at`: document 01 puts it right behind the head, at place 1.
@@ -100,7 +100,7 @@ readForm at ends ws =
 -- head and that place.
 unfoldable pub readFrom : ℕ → List ℕ → Reading
 readFrom at ws =
-    cond (not (headFits (getD ws 0 0))) (Refused 12)
+    cond (not (headWordFits (getD ws 0 0))) (Refused 12)
     (cond (not (opens at ws)) (Refused 11) (readForm at (isEnds at ws) ws))
 
 -- 10: "word count outside 5 to 14"; then the rest, the interval right behind the head
@@ -113,6 +113,6 @@ termWords (Refused number) ws = []
 termWords (Message sender left right count) ws = keep (λ w. eqb (kindOf w) 6) ws
 
 -- "A refusal is its number alone. 0 means taken."
-unfoldable pub numberOf : Reading → ℕ
-numberOf (Refused number) = number
-numberOf (Message sender left right count) = 0
+unfoldable pub readingNumber : Reading → ℕ
+readingNumber (Refused number) = number
+readingNumber (Message sender left right count) = 0

@@ -52,10 +52,10 @@ ofKind kind ws = all (λ w. eqb (kindOf w) kind) ws
 unfoldable pub masks : List ℕ → List ℕ
 masks ws = map (λ w. payload w) ws
 
-unfoldable pub sum : List ℕ → ℕ
-sum [] = 0
-sum (w ∷ ws) = w + sum ws
+unfoldable pub wordSum : List ℕ → ℕ
+wordSum [] = 0
+wordSum (w ∷ ws) = w + wordSum ws
 
 -- "the sum of all earlier words, wrapping, modulo 2^29"
 unfoldable pub check : List ℕ → ℕ
-check ws = sum ws % payloadSize
+check ws = wordSum ws % payloadSize

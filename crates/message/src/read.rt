@@ -3,8 +3,8 @@ ghost use mathlib.Core.Path.{_≡_};
 ghost use Prim.Native.Nat.{_+_, _≤_, _<_};
 ghost use lib.ListN.{length};
 ghost use Rattle.message.specs.Words.{payloadSize, endsLimit, kindOf, payload as Words·payload, ofKind, check};
-ghost use Rattle.message.specs.Read.{headFits, width as Read·width, start, spanKinds, kindsFit, checkFits, pair as Read·pair};
-ghost use Rattle.message.specs.Read.{span as Read·span, readForm, readFrom, readWords, termWords, numberOf};
+ghost use Rattle.message.specs.Read.{headWordFits, width as Read·width, start, spanKinds, kindsFit, checkFits, pair as Read·pair};
+ghost use Rattle.message.specs.Read.{span as Read·span, readForm, readFrom, readWords, termWords, readingNumber};
 use super::ENDS_LIMIT;
 use super::Interval;
 use super::PAYLOAD_SIZE;
@@ -51,8 +51,8 @@ pub fn check_of(words: &[u32]) -> u32
     sum % PAYLOAD_SIZE
 }
 
-fn head_fits(head: u32) -> bool
-    ensures { λ r. ⌜ r ≡ headFits head ⌝ }
+fn head_word_fits(head: u32) -> bool
+    ensures { λ r. ⌜ r ≡ headWordFits head ⌝ }
 {
     (kind(head) == 1)
         & ((head % 32 <= 28)
@@ -163,7 +163,7 @@ pub fn read_from(words: &[u32], at: usize) -> Reading
     requires { ⌜ at < length (now words) ⌝ }
     ensures { λ r. ⌜ r ≡ readFrom at (now (words .entry)) ⌝ }
 {
-    let head = head_fits(words[0]);
+    let head = head_word_fits(words[0]);
     let opening = kind(words[at]);
     let form = (opening == 2) | (opening == 4);
     if !head {
@@ -191,7 +191,7 @@ pub fn read(words: &[u32]) -> Reading
 
 // The number of a refusal, 0 for a message that is taken.
 pub fn refusal(got: Reading) -> u32
-    ensures { λ r. ⌜ r ≡ numberOf got ⌝ }
+    ensures { λ r. ⌜ r ≡ readingNumber got ⌝ }
 {
     match got {
         Reading::Refused(number) => number,
