@@ -10,7 +10,9 @@ use Rattle.message.proofs.read.read_from.Tie as tie
 
 returns : tie.Need-returns
 unfolding readFrom
-returns c = rw (sym (c .before .before .before .head-word-fits .ensures) ∙ not-true _ (c .if1 .taken))
+returns c =
+    let fits = c .before .before .before .head-word-fits in
+    rw (sym (fits .ensures) ∙ not-true (fits .result) (c .if1 .taken))
 
 returns-2 : tie.Need-returns-2
 unfolding readFrom opens isEnds
@@ -18,7 +20,8 @@ returns-2 c =
     let at-kind = c .before .before in
     let opening = at-kind .kind .result in
     let neither : (eqb opening 2 || eqb opening 4) ≡ false = not-true _ (c .if2 .taken) in
-    rw (sym (at-kind .before .before .head-word-fits .ensures) ∙ not-false _ (c .before .if1 .left), ← (at-kind .kind .ensures .0), neither)
+    let fits = at-kind .before .before .head-word-fits in
+    rw (sym (fits .ensures) ∙ not-false (fits .result) (c .before .if1 .left), ← (at-kind .kind .ensures .0), neither)
 
 returns-3 : tie.Need-returns-3
 unfolding readFrom opens isEnds
@@ -26,7 +29,8 @@ returns-3 c =
     let at-kind = c .before .before .before in
     let opening = at-kind .kind .result in
     let one : (eqb opening 2 || eqb opening 4) ≡ true = not-false _ (c .before .if2 .left) in
-    rw (sym (at-kind .before .before .head-word-fits .ensures) ∙ not-false _ (c .before .before .if1 .left), ← (at-kind .kind .ensures .0), one)
+    let fits = at-kind .before .before .head-word-fits in
+    rw (sym (fits .ensures) ∙ not-false (fits .result) (c .before .before .if1 .left), ← (at-kind .kind .ensures .0), one)
     (c .read-form .ensures)
 
 pub read-from-spec : {M : Type 1} → statement M
