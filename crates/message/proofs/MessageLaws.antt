@@ -1,5 +1,6 @@
 -- The laws of demand 2 about messages: what is written is read back, an accepted message in ends form is rewritten as the same words,
 -- and any accepted message is rewritten in ends form with the same sender, interval and terms.
+-- The laws named `-more` and `again-` are for words between head and interval; document 01 has none, and the others are those of none.
 -- The idea: `Taken` of `proofs.ReadLaws` holds of every written message, and in ends form it leaves each word no choice.
 -- No contract cites this file. Assumes nothing.
 use Prim.Native.Nat.{ℕ, zero, suc, _+_, _*_, _-_, _/_, _%_, _^_, _≤_, _<_}

@@ -39,7 +39,7 @@ pub fn strike(terms: &mut [u32], n: usize, name: u32) -> usize
     kept
 }
 
-// Copies the terms of p to the places from `at` on.
+// Copies p, terms or words, to the places from `at` on.
 pub fn copy(terms: &mut [u32], at: usize, p: &[u32])
     requires { ⌜ at + length (now p) ≤ length (now terms) ⌝ }
     ensures { λ _. ⌜ now (terms .exit) ≡ sets (now (terms .entry)) at (now (p .entry)) ⌝ }
