@@ -11,7 +11,7 @@ use lib.ListN.{length, getD, take, drop}
 use lib.Seq.{sets, sets-eq, take-at}
 use Rattle.numbers.specs.Numbers.{put, Bytes}
 use Rattle.predicates.specs.Lists.{any, all, padded}
-use Rattle.predicates.specs.Predicates.{isNormal, isTrue, formed, before}
+use Rattle.predicates.specs.Predicates.{isNormal, isTrue, formed, precedes}
 use Rattle.predicates.proofs.ListLaws.{both-l, both-r}
 use Rattle.state.specs.Model.{endLimit}
 use Rattle.state.specs.Layout.{stateBytes, stateOf, headOf, storeOf}
@@ -35,18 +35,18 @@ row-front m z r h e =
 pub true-first : (p : List ℕ) → T (isNormal p) → 0 < length p → isTrue p ≡ eqb (getD p 0 0) 0
 unfolding isTrue isNormal
 true-first [] n h = absurd (omega arith)
-true-first (t ∷ p) n h = go (eqb t 0) (later p (both-l (all (λ u. before t u) p) (isNormal p) n))
+true-first (t ∷ p) n h = go (eqb t 0) (later p (both-l (all (λ u. precedes t u) p) (isNormal p) n))
   where
     go : (b : Bool) → any (λ u. eqb u 0) p ≡ false → b || any (λ u. eqb u 0) p ≡ b
     go true e = refl
     go false e = e
 
-    later : (q : List ℕ) → T (all (λ u. before t u) q) → any (λ u. eqb u 0) q ≡ false
+    later : (q : List ℕ) → T (all (λ u. precedes t u) q) → any (λ u. eqb u 0) q ≡ false
     later [] a = refl
     later (u ∷ q) a =
-        let first = both-l (before t u) (all (λ v. before t v) q) a in
+        let first = both-l (precedes t u) (all (λ v. precedes t v) q) a in
         let less : t < u = ltb→lt t u (both-l (ltb t u) _ first) in
-        ap (λ (b : Bool). b || any (λ v. eqb v 0) q) (ne-eqb u 0 (λ e. omega arith)) ∙ later q (both-r (before t u) (all (λ v. before t v) q) a)
+        ap (λ (b : Bool). b || any (λ v. eqb v 0) q) (ne-eqb u 0 (λ e. omega arith)) ∙ later q (both-r (precedes t u) (all (λ v. precedes t v) q) a)
 
 pub formed-true : (own sender : ℕ) (p : List ℕ) → isTrue (formed own sender p) ≡ eqb (getD (formed own sender p) 0 0) 0
 formed-true own sender p = true-first (formed own sender p) (formed-normal own sender p) (formed-some own sender p)

@@ -1,56 +1,57 @@
--- What a taken reading tells of its words, and the way back: `Taken` holds the facts, `read-out` and `read-in` join them to `readWords`.
+-- What a taken reading tells of its words, and the way back: `Taken` holds the facts, `from-out` and `from-in`
+-- join them to `readFrom`, `read-out` and `read-in` to `readWords`.
 -- The idea: each refusal that did not come is a fact. Kinds fix the top bits of every word, so a taken message needs no further bound on
 -- its words, and the words of kind 6 are those between the interval and the last. No contract cites this file. Assumes nothing.
-use Prim.Native.Nat.{ℕ, zero, suc, _+_, _*_, _-_, _/_, _^_, _≤_, _<_}
+use Prim.Native.Nat.{ℕ, zero, suc, _+_, _*_, _-_, _/_, _≤_, _<_}
 use mathlib.Core.Path.{_≡_, refl, sym, ap, subst, _∙_}
 use mathlib.Core.Bool.{Bool, true, false, _||_, not, cond}
 use mathlib.Core.List.{List, [], _∷_, _++_, append-nil}
 use native.Mathlib.Omega.{arith}
 use lib.Dec.{T, eqb, eqb→eq, leb, leb→le, ltb, ltb→lt}
 use lib.ListN.{length, getD, take, drop, take-append-drop}
-use lib.Seq.{slice, getD-take, getD-drop, length-slice}
+use lib.Seq.{slice, slice-empty, getD-take, getD-drop, length-slice}
 use borrow.Author.Tests.{le-ltb, le-leb, eq-eqb}
 use Rattle.predicates.specs.Lists.{all, keep}
 use Rattle.predicates.specs.Predicates.{isNormal}
 use Rattle.predicates.proofs.ListLaws.{both-l, both-r, T-true, cond-ind}
-use Rattle.message.specs.Words.{kindOf, payload, word, ofKind, masks}
-use Rattle.message.specs.Read.{opens, senderOf, countOf, headFits, isEnds, start, spanKinds, middle, kindsFit, checkFits, pair, span, withSpan, readForm, readWords, termWords}
+use Rattle.message.specs.Words.{endsLimit, termsMost, wordsLeast, wordsMost, kindOf, payload, word, ofKind, masks}
+use Rattle.message.specs.Read.{opens, senderOf, countOf, headWordFits, isEnds, width, start, spanKinds, middle, kindsFit, checkFits, pair, span, withSpan, readForm, readFrom, readWords, termWords}
 use Rattle.message.specs.declared.Interval.{Interval}
 use Rattle.message.specs.declared.Interval.the-variants.{Span, Bad}
 use Rattle.message.specs.declared.Reading.{Reading}
 use Rattle.message.specs.declared.Reading.the-variants.{Message, Refused}
 
--- the facts of a message that is taken
-pub record Taken (ends : Bool) (ws : List ℕ) (s l r n : ℕ) : Type 0 where
-  pub form : isEnds ws ≡ ends
-  pub size : length ws ≡ start ends + n + 1
+-- the facts of a message that is taken, whose interval begins at place `at`
+pub record Taken (at : ℕ) (ends : Bool) (ws : List ℕ) (s l r n : ℕ) : Type 0 where
+  pub form : isEnds at ws ≡ ends
+  pub size : length ws ≡ start at ends + n + 1
   pub head : getD ws 0 0 ≡ word 1 (s + 32 * n)
   pub sender : s ≡ senderOf (getD ws 0 0)
   pub count : n ≡ countOf (getD ws 0 0)
   pub sender-le : s ≤ 28
-  pub count-le : n ≤ 8
-  pub kinds : T (kindsFit ends ws)
+  pub count-le : n ≤ termsMost
+  pub kinds : T (kindsFit at ends ws)
   pub sum : T (checkFits ws)
-  pub interval : span ends ws ≡ Span l r
+  pub interval : span at ends ws ≡ Span l r
   pub left-le : l ≤ r
-  pub right-lt : r < 2 ^ 58
-  pub normal : T (isNormal (masks (middle ends ws)))
+  pub right-lt : r < endsLimit
+  pub normal : T (isNormal (masks (middle at ends ws)))
 
 -- ---- the head
 
-head-out : (h : ℕ) → T (headFits h) → (h ≡ word 1 (senderOf h + 32 * countOf h)) × (senderOf h ≤ 28) × (countOf h ≤ 8)
-unfolding headFits
+head-out : (h : ℕ) → T (headWordFits h) → (h ≡ word 1 (senderOf h + 32 * countOf h)) × (senderOf h ≤ 28) × (countOf h ≤ termsMost)
+unfolding headWordFits
 head-out h t =
     let a : T (eqb (kindOf h) 1) = search both-l depth 9 in
     let b : T (leb (senderOf h) 28) = search (both-l, both-r) depth 9 in
-    let c : T (leb (countOf h) 8) = search (both-l, both-r) depth 9 in
+    let c : T (leb (countOf h) termsMost) = search (both-l, both-r) depth 9 in
     let d : T (eqb (payload h / 1024) 0) = search (both-l, both-r) depth 9 in
     omega (arith, eqb→eq, leb→le)
 
-head-in : (h s n : ℕ) → h ≡ word 1 (s + 32 * n) → s ≤ 28 → n ≤ 8 → headFits h ≡ true
-unfolding headFits
+head-in : (h s n : ℕ) → h ≡ word 1 (s + 32 * n) → s ≤ 28 → n ≤ termsMost → headWordFits h ≡ true
+unfolding headWordFits
 head-in h s n e a b =
-    rw (eq-eqb (kindOf h) 1 (omega arith), le-leb (senderOf h) 28 (omega arith), le-leb (countOf h) 8 (omega arith), eq-eqb (payload h / 1024) 0 (omega arith))
+    rw (eq-eqb (kindOf h) 1 (omega arith), le-leb (senderOf h) 28 (omega arith), le-leb (countOf h) termsMost (omega arith), eq-eqb (payload h / 1024) 0 (omega arith))
 
 -- ---- the kinds
 
@@ -67,25 +68,25 @@ kind-at k a b i ws t p q h =
     at (w ∷ l) zero t h = eqb→eq (kindOf w) k (both-l (eqb (kindOf w) k) (all (λ w. eqb (kindOf w) k) l) t)
     at (w ∷ l) (suc j) t h = at l j (both-r (eqb (kindOf w) k) (all (λ w. eqb (kindOf w) k) l) t) (omega arith)
 
-start-bounds : (ends : Bool) → (4 ≤ start ends) × (start ends ≤ 5)
-unfolding start
-start-bounds true = omega arith
-start-bounds false = omega arith
+pub start-bounds : (at : ℕ) (ends : Bool) → (at + 3 ≤ start at ends) × (start at ends ≤ at + 4)
+unfolding width
+start-bounds at true = omega arith
+start-bounds at false = omega arith
 
 -- ---- the interval
 
 -- the ends of an interval that is good
 abbrev Fits : Interval → Type 0
 Fits Bad = Unit
-Fits (Span left right) = (left ≤ right) × (right < 2 ^ 58)
+Fits (Span left right) = (left ≤ right) × (right < endsLimit)
 
-span-fits : (ends : Bool) (ws : List ℕ) → Fits (span ends ws)
+span-fits : (at : ℕ) (ends : Bool) (ws : List ℕ) → Fits (span at ends ws)
 unfolding span pair
-span-fits true ws = cond-ind Fits (leb (pair ws 1) (pair ws 3)) _ Bad (λ t. omega (arith, leb→le)) (λ t. tt)
-span-fits false ws =
-    let half = payload (getD ws 3 0) in
-    cond-ind Fits (leb half (pair ws 1)) _ Bad
-    (λ t. cond-ind Fits (ltb (pair ws 1 + half) (2 ^ 58)) _ Bad (λ u. omega (arith, leb→le, ltb→lt)) (λ u. tt)) (λ t. tt)
+span-fits at true ws = cond-ind Fits (leb (pair ws at) (pair ws (at + 2))) _ Bad (λ t. omega (arith, leb→le)) (λ t. tt)
+span-fits at false ws =
+    let half = payload (getD ws (at + 2) 0) in
+    cond-ind Fits (leb half (pair ws at)) _ Bad
+    (λ t. cond-ind Fits (ltb (pair ws at + half) endsLimit) _ Bad (λ u. omega (arith, leb→le, ltb→lt)) (λ u. tt)) (λ t. tt)
 
 -- ---- from the reading to its facts
 
@@ -105,18 +106,18 @@ module _ {s l r n : ℕ} where
   withSpan-out s′ n′ true (Span a b) e = ((cc), tt, (cc), (cc))
   withSpan-out s′ n′ false (Span a b) e = let z : _≡_ {A = ℕ} 0 1 = cc in absurd (omega arith)
 
-  pub read-out : (ws : List ℕ) → readWords ws ≡ Message s l r n → Taken (isEnds ws) ws s l r n
-  unfolding readWords readForm
-  read-out ws e =
+  pub from-out : (at : ℕ) (ws : List ℕ) → readFrom at ws ≡ Message s l r n → Taken at (isEnds at ws) ws s l r n
+  unfolding readFrom readForm
+  from-out at ws e =
       let w = getD ws 0 0 in
-      let ends = isEnds ws in
-      let a = passed (headFits w) 12 _ (past (ltb (length ws) 5 || ltb 14 (length ws)) 10 _ e) in
-      let b = passed (eqb (length ws) (start ends + countOf w + 1)) 13 _ (passed (opens ws) 11 _ (a .1) .1) in
-      let c = passed (kindsFit ends ws) 14 _ (b .1) in
+      let ends = isEnds at ws in
+      let a = passed (headWordFits w) 12 _ e in
+      let b = passed (eqb (length ws) (start at ends + countOf w + 1)) 13 _ (passed (opens at ws) 11 _ (a .1) .1) in
+      let c = passed (kindsFit at ends ws) 14 _ (b .1) in
       let d = passed (checkFits ws) 15 _ (c .1) in
-      let known = withSpan-out (senderOf w) (countOf w) (isNormal (masks (middle ends ws))) (span ends ws) (d .1) in
+      let known = withSpan-out (senderOf w) (countOf w) (isNormal (masks (middle at ends ws))) (span at ends ws) (d .1) in
       let top = head-out w (a .0) in
-      let good : Fits (Span l r) = subst Fits (known .0) (span-fits ends ws) in
+      let good : Fits (Span l r) = subst Fits (known .0) (span-fits at ends ws) in
       record {
         form = refl;
         size = omega (arith, eqb→eq);
@@ -133,34 +134,42 @@ module _ {s l r n : ℕ} where
         normal = known .1;
       }
 
+  pub read-out : (ws : List ℕ) → readWords ws ≡ Message s l r n → Taken 1 (isEnds 1 ws) ws s l r n
+  unfolding readWords
+  read-out ws e = from-out 1 ws (past (ltb (length ws) wordsLeast || ltb wordsMost (length ws)) 10 _ e)
+
 -- ---- from the facts to the reading
 
-opens-in : (ends : Bool) (ws : List ℕ) → isEnds ws ≡ ends → T (kindsFit ends ws) → 3 ≤ length ws → opens ws ≡ true
+opens-in : (at : ℕ) (ends : Bool) (ws : List ℕ) → isEnds at ws ≡ ends → T (kindsFit at ends ws) → at + 2 ≤ length ws → opens at ws ≡ true
 unfolding opens kindsFit spanKinds
-opens-in true ws e t h = rw e
-opens-in false ws e t h =
-    let centre : T (ofKind 4 (slice 1 3 ws)) = search (both-l, both-r) depth 9 in
-    rw (e, eq-eqb (kindOf (getD ws 1 0)) 4 (kind-at 4 1 3 1 ws centre (omega arith) (omega arith) h))
+opens-in at true ws e t h = rw e
+opens-in at false ws e t h =
+    let centre : T (ofKind 4 (slice at (at + 2) ws)) = search (both-l, both-r) depth 9 in
+    rw (e, eq-eqb (kindOf (getD ws at 0)) 4 (kind-at 4 at (at + 2) at ws centre (omega arith) (omega arith) h))
 
-module _ {s l r n : ℕ} where
-  pub read-in : {ends : Bool} {ws : List ℕ} → Taken ends ws s l r n → readWords ws ≡ Message s l r n
-  unfolding readWords readForm withSpan
-  read-in {ends} {ws} t =
-      let known = start-bounds ends in
+module _ {ends : Bool} {ws : List ℕ} {s l r n : ℕ} where
+  pub from-in : {at : ℕ} → Taken at ends ws s l r n → readFrom at ws ≡ Message s l r n
+  unfolding readFrom readForm withSpan
+  from-in {at} t =
+      let known = start-bounds at ends in
       rw (
-        le-ltb (length ws) 5 (omega arith),
-        le-ltb 14 (length ws) (omega arith),
         head-in _ s n (t .head) (t .sender-le) (t .count-le),
-        opens-in ends ws (t .form) (t .kinds) (omega arith),
+        opens-in at ends ws (t .form) (t .kinds) (omega arith),
         t .form,
-        eq-eqb (length ws) (start ends + countOf (getD ws 0 0) + 1) (omega arith),
-        T-true (kindsFit ends ws) (t .kinds),
+        eq-eqb (length ws) (start at ends + countOf (getD ws 0 0) + 1) (omega arith),
+        T-true (kindsFit at ends ws) (t .kinds),
         T-true (checkFits ws) (t .sum),
         t .interval,
-        T-true (isNormal (masks (middle ends ws))) (t .normal),
+        T-true (isNormal (masks (middle at ends ws))) (t .normal),
         ← (t .sender),
         ← (t .count),
       )
+
+  pub read-in : Taken 1 ends ws s l r n → readWords ws ≡ Message s l r n
+  unfolding readWords
+  read-in t =
+      let known = start-bounds 1 ends in
+      rw (le-ltb (length ws) wordsLeast (omega arith), le-ltb wordsMost (length ws) (omega arith)) (from-in t)
 
 -- ---- the term words
 
@@ -195,32 +204,50 @@ six-head : (ws : List ℕ) → kindOf (getD ws 0 0) ≡ 1 → six ws ≡ six (dr
 six-head [] e = refl
 six-head (w ∷ ws) e = rw e
 
-six-span : (ends : Bool) (ws : List ℕ) → T (spanKinds ends ws) → six (drop 1 ws) ≡ six (drop (start ends) ws)
-unfolding spanKinds start
-six-span true ws t =
-    six-past 2 1 3 ws refl (omega arith) (search both-l) ∙ six-past 3 3 5 ws refl (omega arith) (search (both-l, both-r))
-six-span false ws t =
-    six-past 4 1 3 ws refl (omega arith) (search both-l) ∙ six-past 5 3 4 ws refl (omega arith) (search (both-l, both-r))
+six-span : (at : ℕ) (ends : Bool) (ws : List ℕ) → T (spanKinds at ends ws) → six (drop at ws) ≡ six (drop (start at ends) ws)
+unfolding spanKinds width
+six-span at true ws t =
+    six-past 2 at (at + 2) ws refl (omega arith) (search both-l) ∙ six-past 3 (at + 2) (at + 4) ws refl (omega arith) (search (both-l, both-r))
+six-span at false ws t =
+    six-past 4 at (at + 2) ws refl (omega arith) (search both-l) ∙ six-past 5 (at + 2) (at + 3) ws refl (omega arith) (search (both-l, both-r))
 
-module _ {ends : Bool} {ws : List ℕ} {s l r n : ℕ} (t : Taken ends ws s l r n) where
-  -- the term words are those between the interval and the last word
-  pub terms-middle : termWords (Message s l r n) ws ≡ middle ends ws
+-- none of the words is of kind 6
+abbrev pub NoTerms : List ℕ → Type 0
+NoTerms ws = six ws ≡ []
+
+none-past : (b : Bool) (w : ℕ) (l m : List ℕ) → (NoTerms l → six (l ++ m) ≡ six m) → cond b (w ∷ six l) (six l) ≡ []
+    → cond b (w ∷ six (l ++ m)) (six (l ++ m)) ≡ six m
+none-past true w l m f e = let z : _≡_ {A = ℕ} 0 1 = cc in absurd (omega arith)
+none-past false w l m f e = f e
+
+six-none : (l m : List ℕ) → NoTerms l → six (l ++ m) ≡ six m
+six-none [] m e = refl
+six-none (w ∷ l) m e = none-past (eqb (kindOf w) 6) w l m (λ f. six-none l m f) e
+
+module _ {at : ℕ} {ends : Bool} {ws : List ℕ} {s l r n : ℕ} (t : Taken at ends ws s l r n) where
+  -- the term words are those between the interval and the last word, where none stands between head and interval
+  pub terms-middle-from : 0 < at → NoTerms (slice 1 at ws) → termWords (Message s l r n) ws ≡ middle at ends ws
   unfolding termWords middle kindsFit
-  terms-middle =
+  terms-middle-from p none =
       let kinds = t .kinds in
-      let between : T (ofKind 6 (middle ends ws)) = search (both-l, both-r) depth 9 in
+      let between : T (ofKind 6 (middle at ends ws)) = search (both-l, both-r) depth 9 in
       let last : six (drop (length ws - 1) ws) ≡ [] =
       ap six (sym (append-nil (drop (length ws - 1) ws))) ∙ six-other 7 (drop (length ws - 1) ws) [] refl (search (both-l, both-r) depth 9) in
-      six-head ws (omega arith) ∙ six-span ends ws (search both-l depth 9)
-      ∙ rw (drop-cut (start ends) (length ws - 1) ws (omega arith), six-same (middle ends ws) _ between, last, append-nil)
+      let near : six (drop 1 ws) ≡ six (drop at ws) = rw (drop-cut 1 at ws p) (six-none (slice 1 at ws) (drop at ws) none) in
+      six-head ws (omega arith) ∙ near ∙ six-span at ends ws (search both-l depth 9)
+      ∙ rw (drop-cut (start at ends) (length ws - 1) ws (omega arith), six-same (middle at ends ws) _ between, last, append-nil)
 
   -- the same, counted from the end
-  pub terms-slice : termWords (Message s l r n) ws ≡ slice (length ws - 1 - n) (length ws - 1) ws
+  pub middle-slice : middle at ends ws ≡ slice (length ws - 1 - n) (length ws - 1) ws
   unfolding middle
-  terms-slice =
-      let at : length ws - 1 - n ≡ start ends = omega arith in
-      rw at terms-middle
+  middle-slice =
+      let from : length ws - 1 - n ≡ start at ends = omega arith in
+      rw from
 
-  pub length-middle : length (middle ends ws) ≡ n
+  pub length-middle : length (middle at ends ws) ≡ n
   unfolding middle
-  length-middle = length-slice (start ends) (length ws - 1) ws (omega arith) ∙ omega arith
+  length-middle = length-slice (start at ends) (length ws - 1) ws (omega arith) ∙ omega arith
+
+-- where the interval stands right behind the head
+pub terms-middle : {ends : Bool} {ws : List ℕ} {s l r n : ℕ} → Taken 1 ends ws s l r n → termWords (Message s l r n) ws ≡ middle 1 ends ws
+terms-middle {ends} {ws} t = terms-middle-from t (omega arith) (ap six (slice-empty 1 ws))

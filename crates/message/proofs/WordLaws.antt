@@ -1,6 +1,6 @@
 -- Laws of a message's words, on plain values: parts of a message, its terms, one turn of each loop, and what the writers leave.
 -- No contract cites this file. Assumes nothing.
-use Prim.Native.Nat.{ℕ, zero, suc, _+_, _-_, _/_, _%_, _^_, _≤_, _<_}
+use Prim.Native.Nat.{ℕ, zero, suc, _+_, _*_, _-_, _/_, _%_, _^_, _≤_, _<_}
 use mathlib.Core.Path.{_≡_, refl, sym, ap, ap₂, _∙_}
 use mathlib.Core.Bool.{Bool, _&&_, not}
 use mathlib.Core.List.{List, [], _∷_, map}
@@ -10,19 +10,19 @@ use lib.Dec.{T, eqb, eqb→eq, ltb, ltb→lt, lt→ltb}
 use borrow.Author.Tests.{eq-eqb}
 use lib.Bits.{bitAnd, and-shr, and-mod, and-self}
 use lib.Pow.{mod-mod-pow}
-use lib.ListN.{length, getD, take, drop, set, length-drop, length-map, drop-of-length-le}
+use lib.ListN.{length, getD, take, drop, set, length-drop, length-map, length-append, drop-of-length-le}
 use lib.Seq.{slice, take-nil, take-all}
 use Rattle.names.specs.Sets.{subset}
 use Rattle.names.proofs.SetLaws.{test-ext}
 use Rattle.predicates.specs.Lists.{all}
-use Rattle.predicates.specs.Predicates.{before, isNormal}
+use Rattle.predicates.specs.Predicates.{precedes, isNormal}
 use Rattle.predicates.proofs.ListLaws.{both-l, both-r, true-T}
 use Rattle.predicates.proofs.LoopLaws.{drop-next}
 use Rattle.numbers.specs.Numbers.{put}
 use Rattle.numbers.proofs.NumberLaws.{put-then, take-put}
-use Rattle.message.specs.Words.{kindOf, payload, word, ofKind, masks, sum, check}
+use Rattle.message.specs.Words.{kindOf, payload, word, ofKind, masks, wordSum, check}
 use Rattle.message.specs.Read.{start, middle, kindsFit}
-use Rattle.message.specs.Write.{front, body, messageWords}
+use Rattle.message.specs.Write.{endWords, front, body, messageWords}
 
 -- ---- a part of a slice
 
@@ -59,15 +59,15 @@ module _ (a b : ℕ) (e : kindOf a ≡ kindOf b) where
       (λ h. let l = eqb→eq (bitAnd (payload a) (payload b)) (payload a) h in true-T _ (eq-eqb (bitAnd a b) a (omega arith)))
       (λ h. let l = eqb→eq (bitAnd a b) a h in true-T _ (eq-eqb (bitAnd (payload a) (payload b)) (payload a) (omega arith)))
 
-  before-payload : before (payload a) (payload b) ≡ before a b
-  before-payload = ap₂ (λ (x y : Bool). x && not y) payload-less payload-subset
+  precedes-payload : precedes (payload a) (payload b) ≡ precedes a b
+  precedes-payload = ap₂ (λ (x y : Bool). x && not y) payload-less payload-subset
 
-before-payloads : (k w : ℕ) (ws : List ℕ) → kindOf w ≡ k → T (ofKind k ws) → all (λ u. before (payload w) u) (masks ws) ≡ all (λ u. before w u) ws
+precedes-payloads : (k w : ℕ) (ws : List ℕ) → kindOf w ≡ k → T (ofKind k ws) → all (λ u. precedes (payload w) u) (masks ws) ≡ all (λ u. precedes w u) ws
 unfolding ofKind masks
-before-payloads k w [] e t = refl
-before-payloads k w (u ∷ ws) e t =
+precedes-payloads k w [] e t = refl
+precedes-payloads k w (u ∷ ws) e t =
     let here = eqb→eq (kindOf u) k (both-l (eqb (kindOf u) k) (ofKind k ws) t) in
-    ap₂ (λ (x y : Bool). x && y) (before-payload w u (omega arith)) (before-payloads k w ws e (both-r (eqb (kindOf u) k) (ofKind k ws) t))
+    ap₂ (λ (x y : Bool). x && y) (precedes-payload w u (omega arith)) (precedes-payloads k w ws e (both-r (eqb (kindOf u) k) (ofKind k ws) t))
 
 -- words of one kind are in normal form where the terms they carry are
 pub normal-words : (k : ℕ) (ws : List ℕ) → T (ofKind k ws) → isNormal (masks ws) ≡ isNormal ws
@@ -76,31 +76,31 @@ normal-words k [] t = refl
 normal-words k (w ∷ ws) t =
     let here = eqb→eq (kindOf w) k (both-l (eqb (kindOf w) k) (ofKind k ws) t) in
     let rest = both-r (eqb (kindOf w) k) (ofKind k ws) t in
-    ap₂ (λ (x y : Bool). x && y) (before-payloads k w ws here rest) (normal-words k ws rest)
+    ap₂ (λ (x y : Bool). x && y) (precedes-payloads k w ws here rest) (normal-words k ws rest)
 
 -- the code tests the words between the interval and the last one, kinds included
-pub normal-middle : (ends : Bool) (ws : List ℕ) (from : ℕ) → from ≡ start ends → T (kindsFit ends ws) →
-    isNormal (take (length ws - 1 - from) (drop from ws)) ≡ isNormal (masks (middle ends ws))
+pub normal-middle : (at : ℕ) (ends : Bool) (ws : List ℕ) (from : ℕ) → from ≡ start at ends → T (kindsFit at ends ws) →
+    isNormal (take (length ws - 1 - from) (drop from ws)) ≡ isNormal (masks (middle at ends ws))
 unfolding kindsFit middle
-normal-middle ends ws from e t =
-    let six : T (ofKind 6 (slice (start ends) (length ws - 1) ws)) = search (both-l, both-r) depth 9 in
-    rw (e, part-slice (start ends) (length ws - 1) ws) (sym (normal-words 6 (slice (start ends) (length ws - 1) ws) six))
+normal-middle at ends ws from e t =
+    let six : T (ofKind 6 (slice (start at ends) (length ws - 1) ws)) = search (both-l, both-r) depth 9 in
+    rw (e, part-slice (start at ends) (length ws - 1) ws) (sym (normal-words 6 (slice (start at ends) (length ws - 1) ws) six))
 
 -- ---- the sum, wrapping
 
 -- a turn of the loop: r is the sum so far with one word more
 pub sum-next : (acc i r t : ℕ) (ws : List ℕ) → i < length ws → r ≡ (acc + getD ws i 0) % 2 ^ 32
-    → (acc + sum (drop i ws)) % 2 ^ 32 ≡ t → (r + sum (drop (i + 1) ws)) % 2 ^ 32 ≡ t
-unfolding sum
+    → (acc + wordSum (drop i ws)) % 2 ^ 32 ≡ t → (r + wordSum (drop (i + 1) ws)) % 2 ^ 32 ≡ t
+unfolding wordSum
 sum-next acc i r t ws h e p =
-    rw (e, mod-add-mod (acc + getD ws i 0) (2 ^ 32) (sum (drop (i + 1) ws)), add-assoc acc (getD ws i 0) (sum (drop (i + 1) ws))) (rw (drop-next ws i h) at p)
+    rw (e, mod-add-mod (acc + getD ws i 0) (2 ^ 32) (wordSum (drop (i + 1) ws)), add-assoc acc (getD ws i 0) (wordSum (drop (i + 1) ws))) (rw (drop-next ws i h) at p)
 
 -- at its end: what wrapping lost lies above the low 29 bits
-pub sum-done : (acc i : ℕ) (ws : List ℕ) → length ws ≤ i → (acc + sum (drop i ws)) % 2 ^ 32 ≡ sum ws % 2 ^ 32 → acc % 2 ^ 29 ≡ check ws
-unfolding sum check
+pub sum-done : (acc i : ℕ) (ws : List ℕ) → length ws ≤ i → (acc + wordSum (drop i ws)) % 2 ^ 32 ≡ wordSum ws % 2 ^ 32 → acc % 2 ^ 29 ≡ check ws
+unfolding wordSum check
 sum-done acc i ws h e =
-    let f : acc % 2 ^ 32 ≡ sum ws % 2 ^ 32 = rw (drop-of-length-le ws {i = i} h, add-zero) at e in
-    sym (mod-mod-pow acc 3 29) ∙ ap (λ (x : ℕ). x % 2 ^ 29) f ∙ mod-mod-pow (sum ws) 3 29
+    let f : acc % 2 ^ 32 ≡ wordSum ws % 2 ^ 32 = rw (drop-of-length-le ws {i = i} h, add-zero) at e in
+    sym (mod-mod-pow acc 3 29) ∙ ap (λ (x : ℕ). x % 2 ^ 29) f ∙ mod-mod-pow (wordSum ws) 3 29
 
 -- ---- writing
 
@@ -117,14 +117,23 @@ pub length-masks : (ws : List ℕ) → length (masks ws) ≡ length ws
 unfolding masks
 length-masks ws = length-map ws (λ w. payload w)
 
--- what the writer's calls leave: the front, the terms behind it, and the check word behind these
-pub message-put : (s l r k : ℕ) (ts o a b c : List ℕ) → length ts + 6 ≤ length o → a ≡ put 0 (front s l r (length ts)) o
-    → b ≡ put 5 (map (λ t. word 6 t) (masks ts)) a → k ≡ check (take (length ts + 5) b) → c ≡ put (length ts + 5) (word 7 k ∷ []) b
-    → c ≡ put 0 (messageWords s l r (masks ts)) o
-unfolding messageWords body front
-message-put s l r k ts o a b c h p q t u =
-    let whole = body s l r (masks ts) in
-    let e : b ≡ put 0 whole o = rw length-masks (put-then 5 0 5 (front s l r (length ts)) (map (λ t. word 6 t) (masks ts)) o a b refl refl p q) in
-    let n : length whole ≡ length ts + 5 = omega (arith, length-map (masks ts) (λ t. word 6 t), length-masks ts) in
-    let f : take (length ts + 5) b ≡ whole = rw e (take-put (length ts + 5) whole o n (omega arith)) in
-    put-then (length ts + 5) 0 (length ts + 5) whole (word 7 (check whole) ∷ []) o b c n (omega arith) e (u ∙ rw (t, f))
+-- what the writer's calls leave: the head, the words behind it, the ends, the terms, and the check word behind these
+pub message-put : (s l r k : ℕ) (more ts o a b d e f : List ℕ) → length more + length ts + 6 ≤ length o
+    → a ≡ put 0 (word 1 (s + 32 * length ts) ∷ []) o → b ≡ put 1 more a → d ≡ put (length more + 1) (endWords l r) b
+    → e ≡ put (length more + 1 + 4) (map (λ t. word 6 t) (masks ts)) d → k ≡ check (take (length more + 1 + 4 + length ts) e)
+    → f ≡ put (length more + 1 + 4 + length ts) (word 7 k ∷ []) e → f ≡ put 0 (messageWords s more l r (masks ts)) o
+unfolding messageWords body front endWords
+message-put s l r k more ts o a b d e f h p q t u v w =
+    let at = length more + 1 in
+    let head = word 1 (s + 32 * length ts) in
+    let whole = body s more l r (masks ts) in
+    let near : b ≡ put 0 (head ∷ more) o = put-then 1 0 1 (head ∷ []) more o a b refl refl p q in
+    let ends : d ≡ put 0 (front s more l r (length ts)) o = put-then at 0 at (head ∷ more) (endWords l r) o b d (omega arith) (omega arith) near t in
+    let long : length (front s more l r (length ts)) ≡ at + 4 = omega (arith, length-append more (endWords l r)) in
+    let all-but : e ≡ put 0 whole o =
+    rw length-masks (put-then (at + 4) 0 (at + 4) (front s more l r (length ts)) (map (λ t. word 6 t) (masks ts)) o d e long (omega arith) ends u) in
+    let n : length whole ≡ at + 4 + length ts =
+    length-append (front s more l r (length (masks ts))) (map (λ t. word 6 t) (masks ts))
+    ∙ omega (arith, length-append more (endWords l r), length-map (masks ts) (λ t. word 6 t), length-masks ts) in
+    let summed : take (at + 4 + length ts) e ≡ whole = rw all-but (take-put (at + 4 + length ts) whole o n (omega arith)) in
+    put-then (at + 4 + length ts) 0 (at + 4 + length ts) whole (word 7 (check whole) ∷ []) o e f n (omega arith) all-but (w ∙ rw (v, summed))

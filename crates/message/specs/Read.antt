@@ -1,6 +1,6 @@
 -- Reading a message (document 01, "The radio message" and "Who can cause which refusal"): sender, ends and term count, or the first
 -- refusal of 10, 12, 11, 13 to 17. Assumes nothing: these are definitions.
-use Prim.Native.Nat.{ℕ, _+_, _*_, _-_, _/_, _%_, _^_}
+use Prim.Native.Nat.{ℕ, _+_, _*_, _-_, _/_, _%_}
 use mathlib.Core.Bool.{Bool, cond, not, _&&_, _||_}
 use mathlib.Core.List.{List, []}
 use lib.ListN.{length, getD, take, drop}
@@ -8,7 +8,7 @@ use lib.Seq.{slice}
 use lib.Dec.{ltb, leb, eqb}
 use Rattle.predicates.specs.Lists.{keep}
 use Rattle.predicates.specs.Predicates.{isNormal}
-use Rattle.message.specs.Words.{kindOf, payload, ofKind, masks, check}
+use Rattle.message.specs.Words.{payloadSize, endsLimit, termsMost, wordsLeast, wordsMost, kindOf, payload, ofKind, masks, check}
 use Rattle.message.specs.declared.Interval.{Interval}
 use Rattle.message.specs.declared.Interval.the-variants.{Span, Bad}
 use Rattle.message.specs.declared.Reading.{Reading}
@@ -23,34 +23,41 @@ abbrev pub countOf : ℕ → ℕ
 countOf head = head / 32 % 32
 
 -- 12: "head not of kind 1, sender above 28, term count above 8 or bits 10–28 not zero"
-unfoldable pub headFits : ℕ → Bool
-headFits head = eqb (kindOf head) 1 && (leb (senderOf head) 28 && (leb (countOf head) 8 && eqb (payload head / 1024) 0))
+unfoldable pub headWordFits : ℕ → Bool
+headWordFits head = eqb (kindOf head) 1 && (leb (senderOf head) 28 && (leb (countOf head) termsMost && eqb (payload head / 1024) 0))
 
 -- ---- the forms: "ends form: two words of kind 2 and two of kind 3; or centre form: two of kind 4, one of kind 5"
+-- The interval's first word is at place `at`: document 01 puts it right behind the head, at place 1.
 
--- the second word opens ends form
-unfoldable pub isEnds : List ℕ → Bool
-isEnds ws = eqb (kindOf (getD ws 1 0)) 2
+-- the interval's first word opens ends form
+unfoldable pub isEnds : ℕ → List ℕ → Bool
+isEnds at ws = eqb (kindOf (getD ws at 0)) 2
 
--- the second word opens one of the forms; 11: "second word neither kind 2 nor 4"
-unfoldable pub opens : List ℕ → Bool
-opens ws = isEnds ws || eqb (kindOf (getD ws 1 0)) 4
+-- it opens one of the forms; 11: "second word neither kind 2 nor 4"
+unfoldable pub opens : ℕ → List ℕ → Bool
+opens at ws = isEnds at ws || eqb (kindOf (getD ws at 0)) 4
+
+-- how many words the interval has
+unfoldable pub width : Bool → ℕ
+width ends = cond ends 4 3
 
 -- the place of the first term word
-unfoldable pub start : Bool → ℕ
-start ends = cond ends 5 4
+abbrev pub start : ℕ → Bool → ℕ
+start at ends = at + width ends
 
 -- the words of the interval are of their kinds
-unfoldable pub spanKinds : Bool → List ℕ → Bool
-spanKinds ends ws = cond ends (ofKind 2 (slice 1 3 ws) && ofKind 3 (slice 3 5 ws)) (ofKind 4 (slice 1 3 ws) && ofKind 5 (slice 3 4 ws))
+unfoldable pub spanKinds : ℕ → Bool → List ℕ → Bool
+spanKinds at ends ws =
+    cond ends (ofKind 2 (slice at (at + 2) ws) && ofKind 3 (slice (at + 2) (at + 4) ws))
+    (ofKind 4 (slice at (at + 2) ws) && ofKind 5 (slice (at + 2) (at + 3) ws))
 
 -- the words between the interval and the last one
-unfoldable pub middle : Bool → List ℕ → List ℕ
-middle ends ws = slice (start ends) (length ws - 1) ws
+unfoldable pub middle : ℕ → Bool → List ℕ → List ℕ
+middle at ends ws = slice (start at ends) (length ws - 1) ws
 
 -- 14: "a later word of the wrong kind": the interval, then "the terms, kind 6", then kind 7
-unfoldable pub kindsFit : Bool → List ℕ → Bool
-kindsFit ends ws = spanKinds ends ws && (ofKind 6 (middle ends ws) && ofKind 7 (drop (length ws - 1) ws))
+unfoldable pub kindsFit : ℕ → Bool → List ℕ → Bool
+kindsFit at ends ws = spanKinds at ends ws && (ofKind 6 (middle at ends ws) && ofKind 7 (drop (length ws - 1) ws))
 
 -- 15: the payload of the last word is "the sum of all earlier words"
 unfoldable pub checkFits : List ℕ → Bool
@@ -60,7 +67,7 @@ checkFits ws = eqb (payload (getD ws (length ws - 1) 0)) (check (take (length ws
 
 -- the number in two words, "high 29 bits then low"
 unfoldable pub pair : List ℕ → ℕ → ℕ
-pair ws i = payload (getD ws i 0) * 2 ^ 29 + payload (getD ws (i + 1) 0)
+pair ws i = payload (getD ws i 0) * payloadSize + payload (getD ws (i + 1) 0)
 
 -- 16: "left above right, or an end below 0 or above 2^58 − 1"; two words never pass 2^58 − 1
 abbrev pub spanOf : ℕ → ℕ → Interval
@@ -68,10 +75,10 @@ spanOf left right = cond (leb left right) (Span left right) Bad
 
 -- "the ends being centre less and plus half width"
 abbrev pub spanAround : ℕ → ℕ → Interval
-spanAround centre half = cond (leb half centre) (cond (ltb (centre + half) (2 ^ 58)) (Span (centre - half) (centre + half)) Bad) Bad
+spanAround centre half = cond (leb half centre) (cond (ltb (centre + half) endsLimit) (Span (centre - half) (centre + half)) Bad) Bad
 
-unfoldable pub span : Bool → List ℕ → Interval
-span ends ws = cond ends (spanOf (pair ws 1) (pair ws 3)) (spanAround (pair ws 1) (payload (getD ws 3 0)))
+unfoldable pub span : ℕ → Bool → List ℕ → Interval
+span at ends ws = cond ends (spanOf (pair ws at) (pair ws (at + 2))) (spanAround (pair ws at) (payload (getD ws (at + 2) 0)))
 
 -- ---- the reading
 
@@ -81,20 +88,24 @@ withSpan sender count normal Bad = Refused 16
 withSpan sender count normal (Span left right) = cond normal (Message sender left right count) (Refused 17)
 
 -- 13: "word count not that of head and form"; then 14 to 17
-unfoldable pub readForm : Bool → List ℕ → Reading
-readForm ends ws =
+unfoldable pub readForm : ℕ → Bool → List ℕ → Reading
+readForm at ends ws =
     let head = getD ws 0 0 in
-    cond (not (eqb (length ws) (start ends + countOf head + 1))) (Refused 13)
-    (cond (not (kindsFit ends ws)) (Refused 14)
+    cond (not (eqb (length ws) (start at ends + countOf head + 1))) (Refused 13)
+    (cond (not (kindsFit at ends ws)) (Refused 14)
     (cond (not (checkFits ws)) (Refused 15)
-    (withSpan (senderOf head) (countOf head) (isNormal (masks (middle ends ws))) (span ends ws))))
+    (withSpan (senderOf head) (countOf head) (isNormal (masks (middle at ends ws))) (span at ends ws))))
 
--- 10: "word count outside 5 to 14"; 12; 11; then by the form
+-- all but 10, of a message whose interval begins at place `at`: 12; 11; then by the form. Nothing here tests the words between the
+-- head and that place.
+unfoldable pub readFrom : ℕ → List ℕ → Reading
+readFrom at ws =
+    cond (not (headWordFits (getD ws 0 0))) (Refused 12)
+    (cond (not (opens at ws)) (Refused 11) (readForm at (isEnds at ws) ws))
+
+-- 10: "word count outside 5 to 14"; then the rest, the interval right behind the head
 unfoldable pub readWords : List ℕ → Reading
-readWords ws =
-    cond (ltb (length ws) 5 || ltb 14 (length ws)) (Refused 10)
-    (cond (not (headFits (getD ws 0 0))) (Refused 12)
-    (cond (not (opens ws)) (Refused 11) (readForm (isEnds ws) ws)))
+readWords ws = cond (ltb (length ws) wordsLeast || ltb wordsMost (length ws)) (Refused 10) (readFrom 1 ws)
 
 -- "hands back the term words": the words of kind 6 of a message that is taken
 unfoldable pub termWords : Reading → List ℕ → List ℕ
@@ -102,6 +113,6 @@ termWords (Refused number) ws = []
 termWords (Message sender left right count) ws = keep (λ w. eqb (kindOf w) 6) ws
 
 -- "A refusal is its number alone. 0 means taken."
-unfoldable pub numberOf : Reading → ℕ
-numberOf (Refused number) = number
-numberOf (Message sender left right count) = 0
+unfoldable pub readingNumber : Reading → ℕ
+readingNumber (Refused number) = number
+readingNumber (Message sender left right count) = 0

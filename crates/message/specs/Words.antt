@@ -6,17 +6,43 @@ use mathlib.Core.List.{List, [], _∷_, map}
 use lib.Dec.{eqb}
 use Rattle.predicates.specs.Lists.{all}
 
+-- "the low 29 its payload": payloads are below this, and a word's kind counts in it
+abbrev pub payloadSize : ℕ
+payloadSize = 2 ^ 29
+
+-- "Stored ends lie from 0 to 2^58 − 1": the first end that two payloads cannot hold
+abbrev pub endsLimit : ℕ
+endsLimit = 2 ^ 58
+
+-- "term count (0 to 8)"
+abbrev pub termsMost : ℕ
+termsMost = 8
+
+-- "Ends form has 6 to 14 words, centre form 5 to 13": the fewest, the most, and the most in bytes
+abbrev pub wordsLeast : ℕ
+wordsLeast = 5
+
+abbrev pub wordsMost : ℕ
+wordsMost = 14
+
+abbrev pub bytesMost : ℕ
+bytesMost = wordsMost * 4
+
+-- ---- a word
+
 -- "its kind"
 abbrev pub kindOf : ℕ → ℕ
-kindOf w = w / 2 ^ 29
+kindOf w = w / payloadSize
 
 -- "its payload"
 abbrev pub payload : ℕ → ℕ
-payload w = w % 2 ^ 29
+payload w = w % payloadSize
 
--- the word of a kind with a payload below 2 ^ 29
+-- the word of a kind with a payload
 abbrev pub word : ℕ → ℕ → ℕ
-word kind x = kind * 2 ^ 29 + x
+word kind x = kind * payloadSize + x
+
+-- ---- words
 
 -- each word is of this kind
 unfoldable pub ofKind : ℕ → List ℕ → Bool
@@ -26,10 +52,10 @@ ofKind kind ws = all (λ w. eqb (kindOf w) kind) ws
 unfoldable pub masks : List ℕ → List ℕ
 masks ws = map (λ w. payload w) ws
 
-unfoldable pub sum : List ℕ → ℕ
-sum [] = 0
-sum (w ∷ ws) = w + sum ws
+unfoldable pub wordSum : List ℕ → ℕ
+wordSum [] = 0
+wordSum (w ∷ ws) = w + wordSum ws
 
 -- "the sum of all earlier words, wrapping, modulo 2^29"
 unfoldable pub check : List ℕ → ℕ
-check ws = sum ws % 2 ^ 29
+check ws = wordSum ws % payloadSize

@@ -1,22 +1,28 @@
 // Reading: a function for each test of document 01, in its order 10, 12, 11, 13 to 17.
 ghost use mathlib.Core.Path.{_≡_};
-ghost use Prim.Native.Nat.{_+_, _≤_, _<_, _^_};
+ghost use Prim.Native.Nat.{_+_, _≤_, _<_};
 ghost use lib.ListN.{length};
-ghost use Rattle.message.specs.Words.{kindOf, payload as Words·payload, ofKind, check};
-ghost use Rattle.message.specs.Read.{headFits, start as Read·start, spanKinds, kindsFit, checkFits, pair as Read·pair, span as Read·span, readForm, readWords, termWords, numberOf};
+ghost use Rattle.message.specs.Words.{payloadSize, endsLimit, kindOf, payload as Words·payload, ofKind, check};
+ghost use Rattle.message.specs.Read.{headWordFits, width as Read·width, start, spanKinds, kindsFit, checkFits, pair as Read·pair};
+ghost use Rattle.message.specs.Read.{span as Read·span, readForm, readFrom, readWords, termWords, readingNumber};
+use super::ENDS_LIMIT;
 use super::Interval;
+use super::PAYLOAD_SIZE;
 use super::Reading;
+use super::TERMS_MOST;
+use super::WORDS_LEAST;
+use super::WORDS_MOST;
 
 fn kind(w: u32) -> u32
     ensures { λ r. ⌜ (r ≡ kindOf w) × (r < 8) ⌝ }
 {
-    w / 536870912
+    w / PAYLOAD_SIZE
 }
 
 fn payload(w: u32) -> u32
-    ensures { λ r. ⌜ (r ≡ Words·payload w) × (r < 2 ^ 29) ⌝ }
+    ensures { λ r. ⌜ (r ≡ Words·payload w) × (r < payloadSize) ⌝ }
 {
-    w % 536870912
+    w % PAYLOAD_SIZE
 }
 
 // Whether each word is of kind k.
@@ -34,7 +40,7 @@ fn of_kind(words: &[u32], k: u32) -> bool
 
 // The check word's payload: the sum of the words, wrapping, modulo 2^29.
 pub fn check_of(words: &[u32]) -> u32
-    ensures { λ r. ⌜ (r ≡ check (now (words .entry))) × (r < 2 ^ 29) ⌝ }
+    ensures { λ r. ⌜ (r ≡ check (now (words .entry))) × (r < payloadSize) ⌝ }
 {
     let mut sum: u32 = 0;
     let mut from: usize = 0;
@@ -42,43 +48,47 @@ pub fn check_of(words: &[u32]) -> u32
         sum = std::num::wrapping_add_u32(sum, words[from]);
         from += 1;
     }
-    sum % 536870912
+    sum % PAYLOAD_SIZE
 }
 
-fn head_fits(head: u32) -> bool
-    ensures { λ r. ⌜ r ≡ headFits head ⌝ }
+fn head_word_fits(head: u32) -> bool
+    ensures { λ r. ⌜ r ≡ headWordFits head ⌝ }
 {
-    (kind(head) == 1) & ((head % 32 <= 28) & ((head / 32 % 32 <= 8) & (payload(head) / 1024 == 0)))
+    (kind(head) == 1)
+        & ((head % 32 <= 28)
+            & ((head / 32 % 32 <= TERMS_MOST as u32) & (payload(head) / 1024 == 0)))
 }
 
-fn start(ends: bool) -> usize
-    ensures { λ r. ⌜ (r ≡ Read·start ends) × (4 ≤ r) × (r ≤ 5) ⌝ }
-{
-    if ends {
-        return 5;
-    }
-    4
-}
-
-// Whether the words of the interval are of their kinds.
-fn span_kinds(words: &[u32], ends: bool) -> bool
-    requires { ⌜ 5 ≤ length (now words) ⌝ }
-    ensures { λ r. ⌜ r ≡ spanKinds ends (now (words .entry)) ⌝ }
+// How many words the interval has.
+fn width(ends: bool) -> usize
+    ensures { λ r. ⌜ (r ≡ Read·width ends) × (3 ≤ r) × (r ≤ 4) ⌝ }
 {
     if ends {
-        return of_kind(&words[1..3], 2) & of_kind(&words[3..5], 3);
+        return 4;
     }
-    of_kind(&words[1..3], 4) & of_kind(&words[3..4], 5)
+    3
 }
 
-// Whether each word behind the head is of its kind.
-fn kinds_fit(words: &[u32], ends: bool) -> bool
-    requires { ⌜ (5 ≤ length (now words)) × (Read·start ends + 1 ≤ length (now words)) ⌝ }
-    ensures { λ r. ⌜ r ≡ kindsFit ends (now (words .entry)) ⌝ }
+// Whether the words of the interval, which begins at place `at`, are of their kinds.
+fn span_kinds(words: &[u32], at: usize, ends: bool) -> bool
+    requires { ⌜ at + 4 ≤ length (now words) ⌝ }
+    ensures { λ r. ⌜ r ≡ spanKinds at ends (now (words .entry)) ⌝ }
 {
-    let from = start(ends);
+    let low = at + 2;
+    if ends {
+        return of_kind(&words[at..low], 2) & of_kind(&words[low..at + 4], 3);
+    }
+    of_kind(&words[at..low], 4) & of_kind(&words[low..at + 3], 5)
+}
+
+// Whether each word from the interval on is of its kind.
+fn kinds_fit(words: &[u32], at: usize, ends: bool) -> bool
+    requires { ⌜ (at + 4 ≤ length (now words)) × (start at ends + 1 ≤ length (now words)) ⌝ }
+    ensures { λ r. ⌜ r ≡ kindsFit at ends (now (words .entry)) ⌝ }
+{
+    let from = at + width(ends);
     let last = words.len() - 1;
-    span_kinds(words, ends) & (of_kind(&words[from..last], 6) & of_kind(&words[last..], 7))
+    span_kinds(words, at, ends) & (of_kind(&words[from..last], 6) & of_kind(&words[last..], 7))
 }
 
 fn check_fits(words: &[u32]) -> bool
@@ -92,26 +102,27 @@ fn check_fits(words: &[u32]) -> bool
 // The number in the words at i and i + 1.
 fn pair(words: &[u32], i: usize) -> u64
     requires { ⌜ i + 1 < length (now words) ⌝ }
-    ensures { λ r. ⌜ (r ≡ Read·pair (now (words .entry)) i) × (r < 2 ^ 58) ⌝ }
+    ensures { λ r. ⌜ (r ≡ Read·pair (now (words .entry)) i) × (r < endsLimit) ⌝ }
 {
-    (payload(words[i]) as u64) * 536870912 + (payload(words[i + 1]) as u64)
+    (payload(words[i]) as u64) * (PAYLOAD_SIZE as u64) + (payload(words[i + 1]) as u64)
 }
 
-fn span(words: &[u32], ends: bool) -> Interval
-    requires { ⌜ 5 ≤ length (now words) ⌝ }
-    ensures { λ r. ⌜ r ≡ Read·span ends (now (words .entry)) ⌝ }
+// The interval that begins at place `at`.
+fn span(words: &[u32], at: usize, ends: bool) -> Interval
+    requires { ⌜ at + 4 ≤ length (now words) ⌝ }
+    ensures { λ r. ⌜ r ≡ Read·span at ends (now (words .entry)) ⌝ }
 {
-    let a = pair(words, 1);
+    let a = pair(words, at);
     if ends {
-        let b = pair(words, 3);
+        let b = pair(words, at + 2);
         if a <= b {
             return Interval::Span(a, b);
         }
         return Interval::Bad;
     }
-    let half = payload(words[3]) as u64;
+    let half = payload(words[at + 2]) as u64;
     if half <= a {
-        if a + half < 288230376151711744 {
+        if a + half < ENDS_LIMIT {
             return Interval::Span(a - half, a + half);
         }
     }
@@ -119,31 +130,49 @@ fn span(words: &[u32], ends: bool) -> Interval
 }
 
 // From the word count on.
-fn read_form(words: &[u32], ends: bool) -> Reading
-    requires { ⌜ 5 ≤ length (now words) ⌝ }
-    ensures { λ r. ⌜ r ≡ readForm ends (now (words .entry)) ⌝ }
+fn read_form(words: &[u32], at: usize, ends: bool) -> Reading
+    requires { ⌜ at < length (now words) ⌝ }
+    ensures { λ r. ⌜ r ≡ readForm at ends (now (words .entry)) ⌝ }
 {
     let head = words[0];
     let last = words.len() - 1;
-    let from = start(ends);
+    let wide = width(ends);
     let count = head / 32 % 32;
-    if last != from + count as usize {
+    if last - at != wide + count as usize {
         return Reading::Refused(13);
     }
-    if !kinds_fit(words, ends) {
+    if !kinds_fit(words, at, ends) {
         return Reading::Refused(14);
     }
     if !check_fits(words) {
         return Reading::Refused(15);
     }
-    let interval = span(words, ends);
+    let interval = span(words, at, ends);
     let Interval::Span(left, right) = interval else {
         return Reading::Refused(16);
     };
+    let from = at + wide;
     if !predicates::is_normal(&words[from..last]) {
         return Reading::Refused(17);
     }
     Reading::Message(head % 32, left, right, count)
+}
+
+// The message in the words, or its first refusal, from the head on; the interval begins at place `at`.
+pub fn read_from(words: &[u32], at: usize) -> Reading
+    requires { ⌜ at < length (now words) ⌝ }
+    ensures { λ r. ⌜ r ≡ readFrom at (now (words .entry)) ⌝ }
+{
+    let head = head_word_fits(words[0]);
+    let opening = kind(words[at]);
+    let form = (opening == 2) | (opening == 4);
+    if !head {
+        return Reading::Refused(12);
+    }
+    if !form {
+        return Reading::Refused(11);
+    }
+    read_form(words, at, opening == 2)
 }
 
 // The message in the words, or its first refusal.
@@ -151,27 +180,18 @@ pub fn read(words: &[u32]) -> Reading
     ensures { λ r. ⌜ r ≡ readWords (now (words .entry)) ⌝ }
 {
     let n = words.len();
-    if n < 5 {
+    if n < WORDS_LEAST {
         return Reading::Refused(10);
     }
-    if 14 < n {
+    if WORDS_MOST < n {
         return Reading::Refused(10);
     }
-    let head = head_fits(words[0]);
-    let second = kind(words[1]);
-    let form = (second == 2) | (second == 4);
-    if !head {
-        return Reading::Refused(12);
-    }
-    if !form {
-        return Reading::Refused(11);
-    }
-    read_form(words, second == 2)
+    read_from(words, 1)
 }
 
 // The number of a refusal, 0 for a message that is taken.
 pub fn refusal(got: Reading) -> u32
-    ensures { λ r. ⌜ r ≡ numberOf got ⌝ }
+    ensures { λ r. ⌜ r ≡ readingNumber got ⌝ }
 {
     match got {
         Reading::Refused(number) => number,

@@ -112,7 +112,7 @@ module _ (s : List ℕ) (position : ℕ) (f : Held s position) where
   -- the words that are written
   pub words-written : (own left right : ℕ) (terms : List ℕ) → own ≡ num 0 4 s → left ≡ num (datumPlace position) 8 s
       → right ≡ num (datumPlace position + 8) 8 s → terms ≡ datumAt s position .terms
-      → messageWords own left right (masks terms) ≡ writtenWords s position
+      → messageWords own [] left right (masks terms) ≡ writtenWords s position
   unfolding writtenWords datumAt
   words-written own left right terms a b c d = rw (a, b, c, d, masks-same (datumAt s position .terms) (f .small))
 

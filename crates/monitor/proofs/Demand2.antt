@@ -40,12 +40,12 @@ module _ {s l r n : ℕ} (m : List ℕ) (e : readBytes m ≡ Message s l r n) wh
   back = ap wordsOf written ∙ words-bytes (rewritten (wordsOf m)) (words-rewritten (wordsOf m))
 
   -- "an accepted message in ends form is written again as the same words"
-  pub rewrite-same-bytes : Bytes m → T (isEnds (wordsOf m)) → rewrittenBytes m ≡ m
+  pub rewrite-same-bytes : Bytes m → T (isEnds 1 (wordsOf m)) → rewrittenBytes m ≡ m
   rewrite-same-bytes b h =
       written ∙ ap bytesOf (rewrite-ends (wordsOf m) words-read h) ∙ bytes-words m b (eqb-true (length m % 4) 0 whole)
 
   -- "Rewriting takes a message and writes it in ends form with the sender, interval and terms it has"
-  pub rewrite-ends-bytes : T (isEnds (wordsOf (rewrittenBytes m)))
+  pub rewrite-ends-bytes : T (isEnds 1 (wordsOf (rewrittenBytes m)))
   rewrite-ends-bytes = rw back (rewrite-form (wordsOf m) words-read)
 
   pub rewrite-read-bytes : readBytes (rewrittenBytes m) ≡ readBytes m

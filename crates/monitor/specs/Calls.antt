@@ -2,7 +2,7 @@
 -- "Who can cause which refusal"): for each call the number that it returns and the lent bytes afterwards. Assumes nothing: these are definitions.
 use Prim.Native.Nat.{ℕ}
 use mathlib.Core.Bool.{cond, not}
-use mathlib.Core.List.{List}
+use mathlib.Core.List.{List, []}
 use lib.ListN.{length}
 use lib.Dec.{ltb, leb, eqb}
 use Rattle.numbers.specs.Numbers.{num, put, bytesOf}
@@ -33,7 +33,7 @@ ageState s reading = cond (ltb (length s) stateSize) s (cond (not (inForm s)) s 
 
 -- "takes one held datum by its position (0 is the oldest), and gives the own name as sender"
 unfoldable pub writtenWords : List ℕ → ℕ → List ℕ
-writtenWords s position = messageWords (num 0 4 s) (datumAt s position .left) (datumAt s position .right) (datumAt s position .terms)
+writtenWords s position = messageWords (num 0 4 s) [] (datumAt s position .left) (datumAt s position .right) (datumAt s position .terms)
 
 unfoldable pub writtenBytes : List ℕ → ℕ → List ℕ
 writtenBytes s position = bytesOf (writtenWords s position)

@@ -50,7 +50,8 @@ fn datum_words(state: &[u8], position: usize, words: &mut [u32]) -> usize
     let count = numbers::get32(state, row) as usize;
     let mut masks = [0u32; 8];
     numbers::get_words(state, row + 4, &mut masks, 8);
-    message::write::write(words, own, left, right, &masks[..count]);
+    let none = [0u32; 0];
+    message::write::write(words, own, &none, left, right, &masks[..count]);
     count + 6
 }
 

@@ -12,7 +12,8 @@ use borrow.Author.Tests.{eq-eqb}
 use lib.Arith.{bin-ind}
 use lib.Bits.{bitAnd, and-step, and-comm, and-self, and-le-l, and-mask, or-add-and}
 use lib.Count.{ones, ones-step}
-use Rattle.names.specs.Sets.{subset, union, has, shared, less, others, lowest, digit}
+use Rattle.names.specs.Sets.{noSet, subset, union, has, digit}
+use Rattle.names.specs.code.Parts.{shared, minus, others, leastName}
 use Rattle.names.proofs.SetLaws.{test-ext, digit-lt, digit-single-same, digit-single-other, digit-zero, digit-suc, digit-and, digit-union, digit-empty, subset-and, and-subset, subset-out, subset-in, digits-ext, subset-trans, subset-antisym, subset-empty, subset-le, union-left, union-right, union-least, ones-empty, ones-none, ones-mono, ones-union, halves, has-in, has-out}
 
 -- ---- what both hold
@@ -32,28 +33,28 @@ shared-greatest u s t h k = subset-in u (shared s t) (λ n. omega (arith, digit-
 
 -- ---- without the names of another
 
-less-step : (s t : ℕ) → (less s t / 2 ≡ less (s / 2) (t / 2)) × (less s t % 2 ≡ s % 2 - t % 2)
-unfolding less
-less-step s t =
+minus-step : (s t : ℕ) → (minus s t / 2 ≡ minus (s / 2) (t / 2)) × (minus s t % 2 ≡ s % 2 - t % 2)
+unfolding minus
+minus-step s t =
     let h = and-le-l (s / 2) (t / 2) in
     (omega (arith, and-step s t), omega (arith, and-step s t))
 
-pub digit-less : (s t n : ℕ) → digit (less s t) n ≡ digit s n - digit t n
-digit-less s t zero = omega (arith, digit-zero (less s t), digit-zero s, digit-zero t, less-step s t .1)
-digit-less s t (suc n) =
-    digit-suc (less s t) n ∙ ap (λ (x : ℕ). digit x n) (less-step s t .0)
-    ∙ omega (arith, digit-less (s / 2) (t / 2) n, digit-suc s n, digit-suc t n)
+pub digit-minus : (s t n : ℕ) → digit (minus s t) n ≡ digit s n - digit t n
+digit-minus s t zero = omega (arith, digit-zero (minus s t), digit-zero s, digit-zero t, minus-step s t .1)
+digit-minus s t (suc n) =
+    digit-suc (minus s t) n ∙ ap (λ (x : ℕ). digit x n) (minus-step s t .0)
+    ∙ omega (arith, digit-minus (s / 2) (t / 2) n, digit-suc s n, digit-suc t n)
 
-pub less-subset : (s t : ℕ) → T (subset (less s t) s)
-less-subset s t = subset-in (less s t) s (λ n. omega (arith, digit-less s t n))
+pub minus-subset : (s t : ℕ) → T (subset (minus s t) s)
+minus-subset s t = subset-in (minus s t) s (λ n. omega (arith, digit-minus s t n))
 
-pub less-mono : (u m s : ℕ) → T (subset u m) → T (subset (less u s) (less m s))
-less-mono u m s h = subset-in (less u s) (less m s) (λ n. omega (arith, digit-less u s n, digit-less m s n, subset-out u m h n))
+pub minus-mono : (u m s : ℕ) → T (subset u m) → T (subset (minus u s) (minus m s))
+minus-mono u m s h = subset-in (minus u s) (minus m s) (λ n. omega (arith, digit-minus u s n, digit-minus m s n, subset-out u m h n))
 
 -- the names taken out, put back
-pub less-add : (s u : ℕ) → T (subset s u) → s + less u s ≡ u
-unfolding less
-less-add s u h = let e : bitAnd u s ≡ s = and-comm u s ∙ subset-and s u h in omega (arith, subset-le s u h)
+pub minus-add : (s u : ℕ) → T (subset s u) → s + minus u s ≡ u
+unfolding minus
+minus-add s u h = let e : bitAnd u s ≡ s = and-comm u s ∙ subset-and s u h in omega (arith, subset-le s u h)
 
 pub union-add : (s t : ℕ) → union s t ≤ s + t
 unfolding union
@@ -82,9 +83,9 @@ ones-more s u h f = go (decLe (ones u) (ones s))
     go (no k) = omega arith
 
 -- no name is in both
-pub less-apart : (u s c : ℕ) → T (subset c (less u s)) → T (subset c s) → ones c ≡ 1 → ⊥
-less-apart u s c h k e =
-    let empty : c ≡ 0 = digits-ext c 0 (λ n. omega (arith, subset-out c (less u s) h n, subset-out c s k n, digit-less u s n, digit-lt u n, digit-empty n)) in
+pub minus-apart : (u s c : ℕ) → T (subset c (minus u s)) → T (subset c s) → ones c ≡ 1 → ⊥
+minus-apart u s c h k e =
+    let empty : c ≡ 0 = digits-ext c 0 (λ n. omega (arith, subset-out c (minus u s) h n, subset-out c s k n, digit-minus u s n, digit-lt u n, digit-empty n)) in
     omega (arith, ap ones empty, ones-empty)
 
 -- ---- one name more
@@ -122,16 +123,16 @@ one-more s t u e h f = go (decLe (ones w) (ones s))
         (subst (λ (x : ℕ). T (subset x u)) same (union-least s (shared u t) u h (shared-left u t)))))
 
 -- so its names are free beside t's
-pub less-free : (s t u free : ℕ) → T (subset u (union s free)) → T (subset (shared u t) s) → T (subset u (union s (less free t)))
-less-free s t u free h k =
-    subset-in u (union s (less free t)) (λ n.
-    omega (arith, subset-out u (union s free) h n, subset-out (shared u t) s k n, digit-union s free n, digit-union s (less free t) n, digit-less free t n, digit-shared u t n, digit-lt u n, digit-lt t n, digit-lt free n, digit-lt s n))
+pub minus-free : (s t u free : ℕ) → T (subset u (union s free)) → T (subset (shared u t) s) → T (subset u (union s (minus free t)))
+minus-free s t u free h k =
+    subset-in u (union s (minus free t)) (λ n.
+    omega (arith, subset-out u (union s free) h n, subset-out (shared u t) s k n, digit-union s free n, digit-union s (minus free t) n, digit-minus free t n, digit-shared u t n, digit-lt u n, digit-lt t n, digit-lt free n, digit-lt s n))
 
 -- ---- the least name
 
-lowest-even : (s : ℕ) → s % 2 ≡ 0 → lowest s ≡ lowest (s / 2) * 2
-unfolding lowest
-lowest-even s e = go (ℕ-discrete s 0)
+least-name-even : (s : ℕ) → s % 2 ≡ 0 → leastName s ≡ leastName (s / 2) * 2
+unfolding leastName
+least-name-even s e = go (ℕ-discrete s 0)
   where
     go : Dec (s ≡ 0) → s - bitAnd s (s - 1) ≡ (s / 2 - bitAnd (s / 2) (s / 2 - 1)) * 2
     go (yes p) = omega arith
@@ -140,120 +141,120 @@ lowest-even s e = go (ℕ-discrete s 0)
         let step : bitAnd s (s - 1) ≡ bitAnd (s / 2) (s / 2 - 1) * 2 = omega (arith, and-step s (s - 1), ap (λ (x : ℕ). bitAnd (s / 2) x) half) in
         omega arith
 
-lowest-odd : (s : ℕ) → s % 2 ≡ 1 → lowest s ≡ 1
-unfolding lowest
-lowest-odd s e =
+least-name-odd : (s : ℕ) → s % 2 ≡ 1 → leastName s ≡ 1
+unfolding leastName
+least-name-odd s e =
     let half : (s - 1) / 2 ≡ s / 2 = omega arith in
     omega (arith, and-step s (s - 1), ap (λ (x : ℕ). bitAnd (s / 2) x) half, and-self (s / 2))
 
-pub lowest-least : (s u : ℕ) → T (subset u s) → 0 < u → lowest s ≤ u
-lowest-least =
-    bin-ind (λ (s : ℕ). (u : ℕ) → T (subset u s) → 0 < u → lowest s ≤ u)
+pub least-name-least : (s u : ℕ) → T (subset u s) → 0 < u → leastName s ≤ u
+least-name-least =
+    bin-ind (λ (s : ℕ). (u : ℕ) → T (subset u s) → 0 < u → leastName s ≤ u)
     (λ u h k. let e = subset-empty u h in absurd (omega arith))
     (λ s ih u h k. go s ih u h k (ℕ-discrete (s % 2) 0))
   where
-    go : (s : ℕ) → ((u : ℕ) → T (subset u (s / 2)) → 0 < u → lowest (s / 2) ≤ u) → (u : ℕ) → T (subset u s) → 0 < u → Dec (s % 2 ≡ 0) → lowest s ≤ u
+    go : (s : ℕ) → ((u : ℕ) → T (subset u (s / 2)) → 0 < u → leastName (s / 2) ≤ u) → (u : ℕ) → T (subset u s) → 0 < u → Dec (s % 2 ≡ 0) → leastName s ≤ u
     go s ih u h k (yes e) =
         let half = halves u s h in
-        omega (arith, lowest-even s e, ih (u / 2) (half .0) (omega (arith, half .1)), half .1)
-    go s ih u h k (no f) = omega (arith, lowest-odd s (omega arith))
+        omega (arith, least-name-even s e, ih (u / 2) (half .0) (omega (arith, half .1)), half .1)
+    go s ih u h k (no f) = omega (arith, least-name-odd s (omega arith))
 
-pub lowest-in : (s : ℕ) → T (subset (lowest s) s)
-unfolding lowest less
-lowest-in s = less-subset s (s - 1)
+pub least-name-in : (s : ℕ) → T (subset (leastName s) s)
+unfolding leastName minus
+least-name-in s = minus-subset s (s - 1)
 
-pub lowest-one : (s : ℕ) → 0 < s → ones (lowest s) ≡ 1
-lowest-one =
-    bin-ind (λ (s : ℕ). 0 < s → ones (lowest s) ≡ 1) (λ k. absurd (omega arith)) (λ s ih k. go s ih k (ℕ-discrete (s % 2) 0))
+pub least-name-one : (s : ℕ) → 0 < s → ones (leastName s) ≡ 1
+least-name-one =
+    bin-ind (λ (s : ℕ). 0 < s → ones (leastName s) ≡ 1) (λ k. absurd (omega arith)) (λ s ih k. go s ih k (ℕ-discrete (s % 2) 0))
   where
-    go : (s : ℕ) → (0 < s / 2 → ones (lowest (s / 2)) ≡ 1) → 0 < s → Dec (s % 2 ≡ 0) → ones (lowest s) ≡ 1
+    go : (s : ℕ) → (0 < s / 2 → ones (leastName (s / 2)) ≡ 1) → 0 < s → Dec (s % 2 ≡ 0) → ones (leastName s) ≡ 1
     go s ih k (yes e) =
-        let same : lowest s / 2 ≡ lowest (s / 2) = omega (arith, lowest-even s e) in
-        omega (arith, ones-step (lowest s), ap ones same, ih (omega arith), lowest-even s e)
+        let same : leastName s / 2 ≡ leastName (s / 2) = omega (arith, least-name-even s e) in
+        omega (arith, ones-step (leastName s), ap ones same, ih (omega arith), least-name-even s e)
     go s ih k (no f) =
-        let same : lowest s / 2 ≡ 0 = omega (arith, lowest-odd s (omega arith)) in
-        omega (arith, ones-step (lowest s), ap ones same, ones-empty, lowest-odd s (omega arith))
+        let same : leastName s / 2 ≡ 0 = omega (arith, least-name-odd s (omega arith)) in
+        omega (arith, ones-step (leastName s), ap ones same, ones-empty, least-name-odd s (omega arith))
 
 -- ---- at most one name
 
 -- a set of one name is its least name
-pub lowest-only : (s : ℕ) → 0 < s → eqb (bitAnd s (s - 1)) 0 ≡ leb (ones s) 1
-unfolding lowest
-lowest-only s k =
-    let one = lowest-one s k in
+pub least-name-only : (s : ℕ) → 0 < s → eqb (bitAnd s (s - 1)) 0 ≡ leb (ones s) 1
+unfolding leastName
+least-name-only s k =
+    let one = least-name-one s k in
     let below = and-le-l s (s - 1) in
     test-ext (eqb (bitAnd s (s - 1)) 0) (leb (ones s) 1)
     (λ h. let e = eqb→eq (bitAnd s (s - 1)) 0 h in
-    let same : lowest s ≡ s = omega (arith, e) in le→leb (ones s) 1 (omega (arith, ap ones same, one)))
+    let same : leastName s ≡ s = omega (arith, e) in le→leb (ones s) 1 (omega (arith, ap ones same, one)))
     (λ h. let few = leb→le (ones s) 1 h in
-    let same : lowest s ≡ s = subset-same (lowest s) s (lowest-in s) (omega (arith, one, few)) in
+    let same : leastName s ≡ s = subset-same (leastName s) s (least-name-in s) (omega (arith, one, few)) in
     subst (λ (b : Bool). T b) (sym (eq-eqb (bitAnd s (s - 1)) 0 (omega (arith, same, below)))) tt)
 
 -- ---- what a set t adds to another
 
 -- nothing exactly where the set holds it
-pub adds-none : (s t : ℕ) → less t s ≡ 0 → T (subset t s)
-adds-none s t e = subset-in t s (λ n. omega (arith, digit-less t s n, digit-empty n, ap (λ (x : ℕ). digit x n) e))
+pub adds-none : (s t : ℕ) → minus t s ≡ 0 → T (subset t s)
+adds-none s t e = subset-in t s (λ n. omega (arith, digit-minus t s n, digit-empty n, ap (λ (x : ℕ). digit x n) e))
 
-pub adds-some : (s t : ℕ) → (less t s ≡ 0 → ⊥) → T (subset t s) → ⊥
-adds-some s t f h = f (digits-ext (less t s) 0 (λ n. omega (arith, digit-less t s n, digit-empty n, subset-out t s h n)))
+pub adds-some : (s t : ℕ) → (minus t s ≡ 0 → ⊥) → T (subset t s) → ⊥
+adds-some s t f h = f (digits-ext (minus t s) 0 (λ n. omega (arith, digit-minus t s n, digit-empty n, subset-out t s h n)))
 
-pub added : (s t : ℕ) → union s (less t s) ≡ union s t
+pub added : (s t : ℕ) → union s (minus t s) ≡ union s t
 added s t =
-    digits-ext (union s (less t s)) (union s t) (λ n.
-    omega (arith, digit-union s (less t s) n, digit-union s t n, digit-less t s n, digit-lt s n, digit-lt t n))
+    digits-ext (union s (minus t s)) (union s t) (λ n.
+    omega (arith, digit-union s (minus t s) n, digit-union s t n, digit-minus t s n, digit-lt s n, digit-lt t n))
 
--- one name exactly where the lowest of what it adds is all of it
-pub adds-one : (s t : ℕ) → 0 < less t s → less t s ≡ lowest (less t s) → ones (union s t) ≤ ones s + 1
-adds-one s t h e = omega (arith, ones-union s (less t s), ap ones (added s t), ap ones e, lowest-one (less t s) h)
+-- one name exactly where the least of what it adds is all of it
+pub adds-one : (s t : ℕ) → 0 < minus t s → minus t s ≡ leastName (minus t s) → ones (union s t) ≤ ones s + 1
+adds-one s t h e = omega (arith, ones-union s (minus t s), ap ones (added s t), ap ones e, least-name-one (minus t s) h)
 
-pub one-added : (s t : ℕ) → 0 < less t s → ones (union s t) ≤ ones s + 1 → less t s ≡ lowest (less t s)
+pub one-added : (s t : ℕ) → 0 < minus t s → ones (union s t) ≤ ones s + 1 → minus t s ≡ leastName (minus t s)
 one-added s t h few =
-    subset-antisym (less t s) c (subset-in (less t s) c (λ n.
-    omega (arith, digit-less t s n, digit-union s c n, digit-union s t n, ap (λ (x : ℕ). digit x n) same, digit-lt s n, digit-lt t n, digit-lt c n)))
-    (lowest-in (less t s))
+    subset-antisym (minus t s) c (subset-in (minus t s) c (λ n.
+    omega (arith, digit-minus t s n, digit-union s c n, digit-union s t n, ap (λ (x : ℕ). digit x n) same, digit-lt s n, digit-lt t n, digit-lt c n)))
+    (least-name-in (minus t s))
   where
     c : ℕ
-    c = lowest (less t s)
+    c = leastName (minus t s)
 
     part : T (subset (union s c) (union s t))
     part =
         union-least s c (union s t) (union-left s t)
-        (subset-trans c t (union s t) (subset-trans c (less t s) t (lowest-in (less t s)) (less-subset t s)) (union-right s t))
+        (subset-trans c t (union s t) (subset-trans c (minus t s) t (least-name-in (minus t s)) (minus-subset t s)) (union-right s t))
 
     more : ones s < ones (union s c)
     more =
         ones-more s (union s c) (union-left s c) (λ q.
-        less-apart t s c (lowest-in (less t s)) (subst (λ (x : ℕ). T (subset c x)) (sym q) (union-right s c)) (lowest-one (less t s) h))
+        minus-apart t s c (least-name-in (minus t s)) (subst (λ (x : ℕ). T (subset c x)) (sym q) (union-right s c)) (least-name-one (minus t s) h))
 
     same : union s c ≡ union s t
     same = subset-same (union s c) (union s t) part (omega (arith, more))
 
 -- what lies in a set and one name more, and lacks that name, lies in the set
 pub without-one : (s c x : ℕ) → ones c ≡ 1 → T (subset x (union s c)) → (T (subset c x) → ⊥) → T (subset x s)
-without-one s c x one h f = adds-none s x (go (ℕ-discrete (less x s) 0))
+without-one s c x one h f = adds-none s x (go (ℕ-discrete (minus x s) 0))
   where
-    part : T (subset (less x s) c)
-    part = subset-in (less x s) c (λ n. omega (arith, digit-less x s n, digit-union s c n, subset-out x (union s c) h n, digit-lt x n, digit-lt s n))
+    part : T (subset (minus x s) c)
+    part = subset-in (minus x s) c (λ n. omega (arith, digit-minus x s n, digit-union s c n, subset-out x (union s c) h n, digit-lt x n, digit-lt s n))
 
-    go : Dec (less x s ≡ 0) → less x s ≡ 0
+    go : Dec (minus x s ≡ 0) → minus x s ≡ 0
     go (yes e) = e
     go (no e) =
-        let some : ones (less x s) ≡ 0 → ⊥ = λ z. e (ones-none (less x s) z) in
-        let same : less x s ≡ c = subset-same (less x s) c part (omega (arith, some)) in
-        absurd (f (subst (λ (y : ℕ). T (subset y x)) same (less-subset x s)))
+        let some : ones (minus x s) ≡ 0 → ⊥ = λ z. e (ones-none (minus x s) z) in
+        let same : minus x s ≡ c = subset-same (minus x s) c part (omega (arith, some)) in
+        absurd (f (subst (λ (y : ℕ). T (subset y x)) same (minus-subset x s)))
 
 -- ---- all names but one
 
 -- a set of names 0 to 28 without n
-pub others-in : (n s : ℕ) → s < 2 ^ 29 → T (not (has n s)) → T (subset s (others n))
+pub others-in : (n s : ℕ) → s < noSet → T (not (has n s)) → T (subset s (others n))
 unfolding others
 others-in n s h f =
-    let whole : bitAnd s (2 ^ 29 - 1) ≡ s = and-mask s 29 ∙ mod-eq-of-lt h in
-    let all : T (subset s (2 ^ 29 - 1)) = and-subset s (2 ^ 29 - 1) whole in
-    subset-in s (less (2 ^ 29 - 1) (2 ^ n)) (λ m. go m (ℕ-discrete n m) (subset-out s (2 ^ 29 - 1) all m))
+    let whole : bitAnd s (noSet - 1) ≡ s = and-mask s 29 ∙ mod-eq-of-lt h in
+    let all : T (subset s (noSet - 1)) = and-subset s (noSet - 1) whole in
+    subset-in s (minus (noSet - 1) (2 ^ n)) (λ m. go m (ℕ-discrete n m) (subset-out s (noSet - 1) all m))
   where
-    go : (m : ℕ) → Dec (n ≡ m) → digit s m ≤ digit (2 ^ 29 - 1) m → digit s m ≤ digit (less (2 ^ 29 - 1) (2 ^ n)) m
+    go : (m : ℕ) → Dec (n ≡ m) → digit s m ≤ digit (noSet - 1) m → digit s m ≤ digit (minus (noSet - 1) (2 ^ n)) m
     go m (yes e) k =
         let zero : digit s n ≡ 0 = without (ℕ-discrete (digit s n) 1) in
         omega (arith, ap (λ (x : ℕ). digit s x) e)
@@ -261,14 +262,14 @@ others-in n s h f =
         without : Dec (digit s n ≡ 1) → digit s n ≡ 0
         without (yes q) = absurd (T-not (has n s) f (has-in n s q))
         without (no q) = omega (arith, digit-lt s n)
-    go m (no g) k = omega (arith, digit-less (2 ^ 29 - 1) (2 ^ n) m, digit-single-other n m g)
+    go m (no g) k = omega (arith, digit-minus (noSet - 1) (2 ^ n) m, digit-single-other n m g)
 
-pub others-lt : (n s : ℕ) → T (subset s (others n)) → s < 2 ^ 29
+pub others-lt : (n s : ℕ) → T (subset s (others n)) → s < noSet
 unfolding others
-others-lt n s h = omega (arith, subset-le s (2 ^ 29 - 1) (subset-trans s (less (2 ^ 29 - 1) (2 ^ n)) (2 ^ 29 - 1) h (less-subset (2 ^ 29 - 1) (2 ^ n))))
+others-lt n s h = omega (arith, subset-le s (noSet - 1) (subset-trans s (minus (noSet - 1) (2 ^ n)) (noSet - 1) h (minus-subset (noSet - 1) (2 ^ n))))
 
 pub others-out : (n s : ℕ) → T (subset s (others n)) → T (not (has n s))
 unfolding others
 others-out n s h =
     not-T (has n s) (λ t.
-    absurd (omega (arith, has-out n s t, subset-out s (less (2 ^ 29 - 1) (2 ^ n)) h n, digit-less (2 ^ 29 - 1) (2 ^ n) n, digit-single-same n, digit-lt (2 ^ 29 - 1) n)))
+    absurd (omega (arith, has-out n s t, subset-out s (minus (noSet - 1) (2 ^ n)) h n, digit-minus (noSet - 1) (2 ^ n) n, digit-single-same n, digit-lt (noSet - 1) n)))

@@ -182,20 +182,7 @@ ones-above n s h =
     let one : 1 * 2 ^ n ≡ 2 ^ n = omega arith in
     omega (arith, ap (λ (x : ℕ). ones (x + s)) one, ones-cat n 1 s h)
 
--- ---- one name: as a digit, as a subset, as the code tests it
-
-pub single-in : (n s : ℕ) → digit s n ≡ 1 → T (subset (2 ^ n) s)
-single-in n s e = subset-in (2 ^ n) s each
-  where
-    each : (m : ℕ) → digit (2 ^ n) m ≤ digit s m
-    each m = go (ℕ-discrete n m)
-      where
-        go : Dec (n ≡ m) → digit (2 ^ n) m ≤ digit s m
-        go (yes p) = subst (λ (k : ℕ). digit (2 ^ n) k ≤ digit s k) p (omega (arith, digit-single-same n))
-        go (no f) = omega (arith, digit-single-other n m f)
-
-pub single-out : (n s : ℕ) → T (subset (2 ^ n) s) → digit s n ≡ 1
-single-out n s h = omega (arith, subset-out (2 ^ n) s h n, digit-single-same n, digit-lt s n)
+-- ---- one name: as a digit, as the code tests it
 
 and-single : (n s : ℕ) → digit (bitAnd s (2 ^ n)) n ≡ digit s n
 and-single n s = omega (arith, digit-and s (2 ^ n) n, digit-single-same n, digit-lt s n)
@@ -224,10 +211,6 @@ has-in n s e =
     let z : bitAnd s (2 ^ n) ≡ 0 = eqb→eq (bitAnd s (2 ^ n)) 0 t in
     let one : _≡_ {A = ℕ} 1 0 = sym e ∙ sym (and-single n s) ∙ ap (λ (x : ℕ). digit x n) z ∙ digit-empty n in
     omega arith)
-
--- as a set of its own
-pub single-has : (n s : ℕ) → subset (2 ^ n) s ≡ has n s
-single-has n s = test-ext (subset (2 ^ n) s) (has n s) (λ h. has-in n s (single-out n s h)) (λ h. single-in n s (has-out n s h))
 
 pub has-mono : (n t s : ℕ) → T (subset t s) → T (has n t) → T (has n s)
 has-mono n t s h k = has-in n s (omega (arith, subset-out t s h n, has-out n t k, digit-lt s n))

@@ -1,11 +1,11 @@
 -- Sets of names (document 01, "Instants, names, predicates"): a mask in which the name n is the bit of value 2 ^ n.
 -- How many names a set holds is `lib.Count.ones`. Assumes nothing: these are definitions.
-use Prim.Native.Nat.{ℕ, _-_, _^_, _/_, _%_}
+use Prim.Native.Nat.{ℕ, _^_, _/_, _%_}
 use mathlib.Core.Bool.{Bool, not}
 use lib.Dec.{eqb}
 use lib.Bits.{bitAnd, bitOr}
 
--- the mask of no set: more than every set of names, "0 to 28"
+-- the mask of no set, more than every set of names: 29 names, "0 to 28"
 abbrev pub noSet : ℕ
 noSet = 2 ^ 29
 
@@ -16,22 +16,6 @@ subset t s = eqb (bitAnd t s) t
 -- the names of s and those of t
 unfoldable pub union : ℕ → ℕ → ℕ
 union s t = bitOr s t
-
--- the names of s that are in t
-unfoldable pub shared : ℕ → ℕ → ℕ
-shared s t = bitAnd s t
-
--- the names of s that are not in t
-unfoldable pub less : ℕ → ℕ → ℕ
-less s t = s - bitAnd s t
-
--- all names but n
-unfoldable pub others : ℕ → ℕ
-others n = less (noSet - 1) (2 ^ n)
-
--- the least name of s, as a set of its own
-unfoldable pub lowest : ℕ → ℕ
-lowest s = s - bitAnd s (s - 1)
 
 -- the name n is in s
 unfoldable pub has : ℕ → ℕ → Bool

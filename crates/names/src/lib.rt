@@ -4,13 +4,11 @@ ghost use mathlib.Core.Path.{_≡_};
 ghost use Prim.Native.Nat.{_<_, _≤_, _^_};
 ghost use lib.Count.{ones};
 ghost use lib.Dec.{leb};
-ghost use Rattle.names.specs.Sets.{subset as Sets·subset, union as Sets·union, shared as Sets·shared, less as Sets·less, others as Sets·others, lowest as Sets·lowest, has as Sets·has};
+ghost use Rattle.names.specs.Sets.{subset as Sets·subset, union as Sets·union, has as Sets·has};
+ghost use Rattle.names.specs.code.Parts.{shared as Parts·shared, minus as Parts·minus, others as Parts·others, leastName};
 
 // The mask of no set: more than every set of names.
 pub const NO_SET: u32 = 536_870_912;
-
-// The set of all names.
-pub const ALL_NAMES: u32 = NO_SET - 1;
 
 // Whether each name of t is in s.
 pub fn subset(t: u32, s: u32) -> bool
@@ -28,22 +26,22 @@ pub fn union(s: u32, t: u32) -> u32
 
 // The names of s that are in t.
 pub fn shared(s: u32, t: u32) -> u32
-    ensures { λ r. ⌜ r ≡ Sets·shared s t ⌝ }
+    ensures { λ r. ⌜ r ≡ Parts·shared s t ⌝ }
 {
     s & t
 }
 
 // The names of s that are not in t.
-pub fn less(s: u32, t: u32) -> u32
-    ensures { λ r. ⌜ r ≡ Sets·less s t ⌝ }
+pub fn minus(s: u32, t: u32) -> u32
+    ensures { λ r. ⌜ r ≡ Parts·minus s t ⌝ }
 {
     s - (s & t)
 }
 
 // The least name of s as a set of its own.
-pub fn lowest(s: u32) -> u32
+pub fn least_name(s: u32) -> u32
     requires { ⌜ 0 < s ⌝ }
-    ensures { λ r. ⌜ r ≡ Sets·lowest s ⌝ }
+    ensures { λ r. ⌜ r ≡ leastName s ⌝ }
 {
     s - (s & (s - 1))
 }
@@ -76,9 +74,9 @@ pub fn single(n: u32) -> u32
 // All names but n.
 pub fn others(n: u32) -> u32
     requires { ⌜ n < 32 ⌝ }
-    ensures { λ r. ⌜ r ≡ Sets·others n ⌝ }
+    ensures { λ r. ⌜ r ≡ Parts·others n ⌝ }
 {
-    less(ALL_NAMES, single(n))
+    minus(NO_SET - 1, single(n))
 }
 
 // Whether s holds the name n: the own-name test.

@@ -3,6 +3,6 @@ pub mod ListLaws
 pub mod EachLaws
 pub mod PredicateLaws
 pub mod LoopLaws
-pub mod MaskLaws
+pub mod MarkLaws
 pub mod PlaceLaws
 pub mod SumLaws

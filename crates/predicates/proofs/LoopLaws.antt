@@ -9,7 +9,7 @@ use lib.ListN.{length, getD, take, drop, drop-of-length-le, length-drop}
 use lib.Seq.{drop-cons, take-all}
 use lib.Count.{ones}
 use Rattle.predicates.specs.Lists.{any, all}
-use Rattle.predicates.specs.Predicates.{degree, before, isNormal}
+use Rattle.predicates.specs.Predicates.{degree, precedes, isNormal}
 
 -- ---- a loop that tests the elements from i on
 
@@ -57,9 +57,9 @@ degree-done p i h = rw (drop-of-length-le p {i = i} h)
 
 -- ---- the test for normal form; r is the test of the term at i against the part behind it
 
-module _ (p : List ℕ) (i : ℕ) (h : i < length p) (r : Bool) (e : r ≡ all (λ u. before (getD p i 0) u) (take (length p - (i + 1)) (drop (i + 1) p))) where
-  behind : all (λ u. before (getD p i 0) u) (drop (i + 1) p) ≡ r
-  behind = ap (λ (q : List ℕ). all (λ u. before (getD p i 0) u) q) (sym (take-all (length p - (i + 1)) (drop (i + 1) p) (omega (arith, length-drop (i + 1) p)))) ∙ sym e
+module _ (p : List ℕ) (i : ℕ) (h : i < length p) (r : Bool) (e : r ≡ all (λ u. precedes (getD p i 0) u) (take (length p - (i + 1)) (drop (i + 1) p))) where
+  behind : all (λ u. precedes (getD p i 0) u) (drop (i + 1) p) ≡ r
+  behind = ap (λ (q : List ℕ). all (λ u. precedes (getD p i 0) u) q) (sym (take-all (length p - (i + 1)) (drop (i + 1) p) (omega (arith, length-drop (i + 1) p)))) ∙ sym e
 
   pub normal-stop : r ≡ false → isNormal (drop i p) ≡ false
   unfolding isNormal

@@ -11,10 +11,10 @@ use lib.Dec.{T, T-not, not-T, eqb, eqb→eq, leb, leb→le, nleb→lt, ltb, ltb�
 use lib.Count.{ones}
 use lib.ListN.{length}
 use Rattle.names.specs.Sets.{subset, has}
-use Rattle.names.proofs.SetLaws.{subset-refl, subset-trans, subset-antisym, subset-le, empty-subset, ones-mono, has-mono, single-has, test-ext}
-use Rattle.predicates.specs.Lists.{all, keep, In}
-use Rattle.predicates.specs.Predicates.{holds, implies, degree, isTrue, struck, before, isNormal, insert, rising, minimal, normal, formed}
-use Rattle.predicates.proofs.ListLaws.{both, both-l, both-r, or-l, or-r, or-cases, or-swap, cond-ind, in-cases, any-in, any-out, all-in, all-out, keep-in, keep-out}
+use Rattle.names.proofs.SetLaws.{subset-refl, subset-trans, subset-antisym, subset-le, empty-subset, ones-mono, test-ext}
+use Rattle.predicates.specs.Lists.{all, In}
+use Rattle.predicates.specs.Predicates.{holds, implies, degree, isTrue, struck, precedes, isNormal, insert, rising, minimal, normal, formed}
+use Rattle.predicates.proofs.ListLaws.{both, both-l, both-r, or-l, or-r, or-cases, or-swap, cond-ind, in-cases, any-in, any-out, all-in, all-out, keep-out}
 
 -- ---- holds
 
@@ -183,28 +183,28 @@ minimal-out kept (t ∷ p) a =
 
 -- ---- normal form: what the test says
 
-normal-head : (t : ℕ) (p : List ℕ) → T (isNormal (t ∷ p)) → (u : ℕ) → In u p → T (before t u)
+normal-head : (t : ℕ) (p : List ℕ) → T (isNormal (t ∷ p)) → (u : ℕ) → In u p → T (precedes t u)
 unfolding isNormal
-normal-head t p h u m = all-out (λ v. before t v) p (both-l (all (λ v. before t v) p) (isNormal p) h) u m
+normal-head t p h u m = all-out (λ v. precedes t v) p (both-l (all (λ v. precedes t v) p) (isNormal p) h) u m
 
 pub normal-tail : (t : ℕ) (p : List ℕ) → T (isNormal (t ∷ p)) → T (isNormal p)
 unfolding isNormal
-normal-tail t p h = both-r (all (λ v. before t v) p) (isNormal p) h
+normal-tail t p h = both-r (all (λ v. precedes t v) p) (isNormal p) h
 
-normal-cons : (t : ℕ) (p : List ℕ) → ((u : ℕ) → In u p → T (before t u)) → T (isNormal p) → T (isNormal (t ∷ p))
+normal-cons : (t : ℕ) (p : List ℕ) → ((u : ℕ) → In u p → T (precedes t u)) → T (isNormal p) → T (isNormal (t ∷ p))
 unfolding isNormal
-normal-cons t p f h = both (all (λ v. before t v) p) (isNormal p) (all-in (λ v. before t v) p f) h
+normal-cons t p f h = both (all (λ v. precedes t v) p) (isNormal p) (all-in (λ v. precedes t v) p f) h
 
 -- one more term, last
-normal-snoc : (p : List ℕ) (t : ℕ) → T (isNormal p) → ((u : ℕ) → In u p → T (before u t)) → T (isNormal (p ++ (t ∷ [])))
+normal-snoc : (p : List ℕ) (t : ℕ) → T (isNormal p) → ((u : ℕ) → In u p → T (precedes u t)) → T (isNormal (p ++ (t ∷ [])))
 unfolding isNormal
 normal-snoc [] t h f = tt
 normal-snoc (u ∷ p) t h f =
     normal-cons u (p ++ (t ∷ [])) (λ v m. ⊎-elim (λ k. normal-head u p h v k) (λ k. last v k) (in-cases v p (t ∷ []) m))
     (normal-snoc p t (normal-tail u p h) (λ v m. f v (inr m)))
   where
-    last : (v : ℕ) → In v (t ∷ []) → T (before u v)
-    last v (inl e) = subst (λ (w : ℕ). T (before u w)) (sym e) (f u (inl refl))
+    last : (v : ℕ) → In v (t ∷ []) → T (precedes u v)
+    last v (inl e) = subst (λ (w : ℕ). T (precedes u w)) (sym e) (f u (inl refl))
     last v (inr m) = absurd m
 
 minimal-normal : (kept p : List ℕ) → T (isNormal kept) → ((k u : ℕ) → In k kept → In u p → k ≤ u) → Rising p → T (isNormal (kept ++ minimal kept p))
@@ -216,7 +216,7 @@ minimal-normal kept (t ∷ p) n f r =
     (λ h. subst (λ (q : List ℕ). T (isNormal q)) (append-assoc kept (t ∷ []) (minimal (kept ++ (t ∷ [])) p))
     (minimal-normal (kept ++ (t ∷ [])) p (normal-snoc kept t n (λ k m. next h k m)) (λ k u a b. upto k u b (in-cases k kept (t ∷ []) a)) (r .1)))
   where
-    next : T (not (holds t kept)) → (k : ℕ) → In k kept → T (before k t)
+    next : T (not (holds t kept)) → (k : ℕ) → In k kept → T (precedes k t)
     next h k m =
         let apart : T (subset k t) → ⊥ = λ i. T-not (holds t kept) h (holds-in t kept k m i) in
         let other : k ≡ t → ⊥ = λ e. apart (subst (λ (w : ℕ). T (subset k w)) e (subset-refl k)) in
@@ -243,8 +243,8 @@ normal-out p t m = rising-out p t (minimal-out [] (rising p) t m)
 
 -- ---- and is the only one
 
-before-lt : (t u : ℕ) → T (before t u) → t < u
-before-lt t u b = ltb→lt t u (both-l (ltb t u) (not (subset t u)) b)
+precedes-lt : (t u : ℕ) → T (precedes t u) → t < u
+precedes-lt t u b = ltb→lt t u (both-l (ltb t u) (not (subset t u)) b)
 
 -- no term of a normal form contains another
 pub normal-apart : (p : List ℕ) → T (isNormal p) → (t u : ℕ) → In t p → In u p → T (subset t u) → t ≡ u
@@ -253,7 +253,7 @@ normal-apart (x ∷ p) n t u (inl e) (inl f) h = e ∙ sym f
 normal-apart (x ∷ p) n t u (inl e) (inr b) h =
     absurd (T-not (subset x u) (both-r (ltb x u) (not (subset x u)) (normal-head x p n u b)) (subst (λ (w : ℕ). T (subset w u)) e h))
 normal-apart (x ∷ p) n t u (inr a) (inl f) h =
-    let l = before-lt x t (normal-head x p n t a) in let g = subset-le t u h in omega arith
+    let l = precedes-lt x t (normal-head x p n t a) in let g = subset-le t u h in omega arith
 normal-apart (x ∷ p) n t u (inr a) (inr b) h = normal-apart p (normal-tail x p n) t u a b h
 
 -- the term of q inside a term of p is that term
@@ -276,17 +276,17 @@ same-terms (t ∷ p) (u ∷ q) n m f g =
     heads : (t ≡ u) ⊎ In t q → (u ≡ t) ⊎ In u p → t ≡ u
     heads (inl e) b = e
     heads (inr a) (inl e) = sym e
-    heads (inr a) (inr b) = omega (arith, before-lt u t (normal-head u q m t a), before-lt t u (normal-head t p n u b))
+    heads (inr a) (inr b) = omega (arith, precedes-lt u t (normal-head u q m t a), precedes-lt t u (normal-head t p n u b))
 
     same : t ≡ u
     same = heads (f t (inl refl)) (g u (inl refl))
 
     down : (v : ℕ) → In v p → (v ≡ u) ⊎ In v q → In v q
-    down v a (inl e) = let l = before-lt t v (normal-head t p n v a) in let c : ⊥ = omega (arith, same) in absurd c
+    down v a (inl e) = let l = precedes-lt t v (normal-head t p n v a) in let c : ⊥ = omega (arith, same) in absurd c
     down v a (inr b) = b
 
     up : (v : ℕ) → In v q → (v ≡ t) ⊎ In v p → In v p
-    up v b (inl e) = let l = before-lt u v (normal-head u q m v b) in let c : ⊥ = omega (arith, same) in absurd c
+    up v b (inl e) = let l = precedes-lt u v (normal-head u q m v b) in let c : ⊥ = omega (arith, same) in absurd c
     up v b (inr a) = a
 
 -- two predicates in normal form that imply each other are the same list
@@ -300,32 +300,11 @@ normal-only p q n f =
     (implies-in p (normal q) (λ s h. subst (λ (b : Bool). T b) (f s ∙ sym (holds-normal s q)) h))
     (implies-in (normal q) p (λ s h. subst (λ (b : Bool). T b) (holds-normal s q ∙ sym (f s)) h))
 
--- a predicate in normal form is its own normal form
-pub normal-same : (p : List ℕ) → T (isNormal p) → normal p ≡ p
-normal-same p n = sym (normal-only p p n (λ s. refl))
-
 -- ---- striking a name, and adding the sender
-
--- to a set without the name, striking it changes nothing
-pub holds-struck : (n s : ℕ) (p : List ℕ) → T (not (has n s)) → holds s (struck n p) ≡ holds s p
-unfolding struck
-holds-struck n s p f =
-    test-ext (holds s (keep (λ t. not (has n t)) p)) (holds s p)
-    (λ h. let r = holds-out s (keep (λ t. not (has n t)) p) h in
-    holds-in s p (r .0) (keep-out (λ t. not (has n t)) p (r .0) (r .1) .0) (r .2))
-    (λ h. let r = holds-out s p h in
-    holds-in s (keep (λ t. not (has n t)) p) (r .0)
-    (keep-in (λ t. not (has n t)) p (r .0) (r .1) (not-T (has n (r .0)) (λ k. T-not (has n s) f (has-mono n (r .0) s (r .2) k)))) (r .2))
 
 pub struck-free : (n : ℕ) (p : List ℕ) (t : ℕ) → In t (struck n p) → In t p × T (not (has n t))
 unfolding struck
 struck-free n p t m = keep-out (λ u. not (has n u)) p t m
-
--- the formed predicate, to a set without the own name: the sender has failed, or the sender's predicate is true
-pub holds-formed : (own sender s : ℕ) (p : List ℕ) → T (not (has own s)) → holds s (formed own sender p) ≡ has sender s || holds s p
-unfolding formed holds
-holds-formed own sender s p f =
-    holds-normal s (2 ^ sender ∷ struck own p) ∙ ap₂ (λ (a b : Bool). a || b) (single-has sender s) (holds-struck own s p f)
 
 -- where a term of the formed predicate comes from
 pub formed-out : (own sender : ℕ) (p : List ℕ) (t : ℕ) → In t (formed own sender p) → (t ≡ 2 ^ sender) ⊎ (In t p × T (not (has own t)))

@@ -1,6 +1,6 @@
 // Predicates over failed names (document 01, "Instants, names, predicates"): a predicate is a slice of masks, its terms.
 // Every function here is proved, and the crate assumes nothing of its own.
-pub mod masks;
+pub mod marks;
 pub mod normal;
 pub mod sums;
 
@@ -8,7 +8,8 @@ ghost use mathlib.Core.Path.{_≡_};
 ghost use Prim.Native.Nat.{_≤_};
 ghost use Rattle.names.specs.Sets.{subset};
 ghost use Rattle.predicates.specs.Lists.{any, all};
-ghost use Rattle.predicates.specs.Predicates.{before as Predicates·before, degree as Predicates·degree, holds as Predicates·holds, implies as Predicates·implies, isNormal};
+ghost use Rattle.predicates.specs.Predicates.{degree as Predicates·degree, holds as Predicates·holds, implies as Predicates·implies};
+ghost use Rattle.predicates.specs.Predicates.{precedes, isNormal};
 
 // Whether the set s makes p true.
 pub fn holds(p: &[u32], s: u32) -> bool
@@ -69,8 +70,8 @@ pub fn contained(t: u32, p: &[u32]) -> bool
 }
 
 // Whether t may stand before each term of p. Predicates are short: to stop at the first that fails is faster than to carry the test along.
-fn before_all(t: u32, p: &[u32]) -> bool
-    ensures { λ r. ⌜ r ≡ all (λ u. Predicates·before t u) (now (p .entry)) ⌝ }
+fn precedes_all(t: u32, p: &[u32]) -> bool
+    ensures { λ r. ⌜ r ≡ all (λ u. precedes t u) (now (p .entry)) ⌝ }
 {
     let mut i: usize = 0;
     while i < p.len() {
@@ -93,7 +94,7 @@ pub fn is_normal(p: &[u32]) -> bool
     let mut i: usize = 0;
     while i < p.len() {
         let next = i + 1;
-        if !before_all(p[i], &p[next..]) {
+        if !precedes_all(p[i], &p[next..]) {
             return false;
         }
         i = next;

@@ -1,7 +1,7 @@
 // Predicates made from others, in a lent array: struck, the sum of two, and what a receiver forms.
 ghost use mathlib.Core.Path.{_≡_};
-ghost use mathlib.Core.List.{_++_};
-ghost use Prim.Native.Nat.{_+_, _-_, _<_, _≤_};
+ghost use mathlib.Core.List.{List, _++_};
+ghost use Prim.Native.Nat.{ℕ, _+_, _-_, _<_, _≤_};
 ghost use lib.ListN.{length, take, drop, replicate};
 ghost use lib.Seq.{sets};
 ghost use Rattle.predicates.specs.Lists.{padded};
@@ -39,8 +39,8 @@ pub fn strike(terms: &mut [u32], n: usize, name: u32) -> usize
     kept
 }
 
-// Copies the terms of p to the places from `at` on.
-fn copy(terms: &mut [u32], at: usize, p: &[u32])
+// Copies p, terms or words, to the places from `at` on.
+pub fn copy(terms: &mut [u32], at: usize, p: &[u32])
     requires { ⌜ at + length (now p) ≤ length (now terms) ⌝ }
     ensures { λ _. ⌜ now (terms .exit) ≡ sets (now (terms .entry)) at (now (p .entry)) ⌝ }
 {
@@ -55,8 +55,11 @@ fn copy(terms: &mut [u32], at: usize, p: &[u32])
 // Answers how many terms it has.
 pub fn sum(terms: &mut [u32], p: &[u32], q: &[u32]) -> usize
     requires { ⌜ length (now p) + length (now q) ≤ length (now terms) ⌝ }
-    ensures { λ r. ⌜ (r ≡ length (Predicates·normal (now (p .entry) ++ now (q .entry)))) × (r ≤ length (now (p .entry)) + length (now (q .entry))) ⌝ }
-    ensures { λ _. ⌜ now (terms .exit) ≡ padded (length (now (p .entry)) + length (now (q .entry))) (Predicates·normal (now (p .entry) ++ now (q .entry))) ++ drop (length (now (p .entry)) + length (now (q .entry))) (now (terms .entry)) ⌝ }
+    ensures { λ r. ⌜ (let both : List ℕ = Predicates·normal (now (p .entry) ++ now (q .entry)) in
+        (r ≡ length both) × (r ≤ length (now (p .entry)) + length (now (q .entry)))) ⌝ }
+    ensures { λ _. ⌜ (let both : List ℕ = Predicates·normal (now (p .entry) ++ now (q .entry)) in
+        let n : ℕ = length (now (p .entry)) + length (now (q .entry)) in
+        now (terms .exit) ≡ padded n both ++ drop n (now (terms .entry))) ⌝ }
 {
     let n = p.len();
     copy(terms, 0, p);
@@ -69,7 +72,8 @@ pub fn sum(terms: &mut [u32], p: &[u32], q: &[u32]) -> usize
 pub fn form(terms: &mut [u32], n: usize, own: u32, sender: u32) -> usize
     requires { ⌜ (n < length (now terms)) × (own < 32) × (sender < 32) ⌝ }
     ensures { λ r. ⌜ (r ≡ length (Predicates·formed own sender (take n (now (terms .entry))))) × (r ≤ n + 1) ⌝ }
-    ensures { λ _. ⌜ now (terms .exit) ≡ padded (n + 1) (Predicates·formed own sender (take n (now (terms .entry)))) ++ drop (n + 1) (now (terms .entry)) ⌝ }
+    ensures { λ _. ⌜ (let formed : List ℕ = Predicates·formed own sender (take n (now (terms .entry))) in
+        now (terms .exit) ≡ padded (n + 1) formed ++ drop (n + 1) (now (terms .entry))) ⌝ }
 {
     terms[n] = 0;
     let kept = strike(terms, n, own);

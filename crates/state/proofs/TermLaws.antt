@@ -10,7 +10,7 @@ use lib.Seq.{take-all}
 use Rattle.names.specs.Sets.{subset, has}
 use Rattle.names.proofs.SetLaws.{test-ext}
 use Rattle.predicates.specs.Lists.{any, all, In}
-use Rattle.predicates.specs.Predicates.{before, isNormal}
+use Rattle.predicates.specs.Predicates.{precedes, isNormal}
 use Rattle.predicates.proofs.ListLaws.{both, both-l, both-r, true-T, T-false, any-in, any-out, all-in, all-out}
 use Rattle.predicates.proofs.LoopLaws.{drop-next}
 use Rattle.state.specs.Form.{termFits}
@@ -18,7 +18,7 @@ use Rattle.state.specs.Form.{termFits}
 none : (b : Bool) → (T b → ⊥) → b ≡ false
 none b f = T-false b (not-T b f)
 
--- ---- the terms of a row: in normal form, and each fits. `last` is the term before those of q, and 0 where there is none
+-- ---- the terms of a row: in normal form, and each fits. `last` is the term precedes those of q, and 0 where there is none
 
 module _ (own : ℕ) where
   -- "no empty term" aside, which is no question where masks rise from 0
@@ -39,14 +39,14 @@ module _ (own : ℕ) where
   -- what is said of the terms t and those behind it, by its parts
   module _ (last t : ℕ) (q : List ℕ) where
     following-out : T (following last (t ∷ q))
-        → T (ltb last t) × T (all (λ u. before t u) q) × T (isNormal q) × T (named t) × T (all (termFits own) q)
+        → T (ltb last t) × T (all (λ u. precedes t u) q) × T (isNormal q) × T (named t) × T (all (termFits own) q)
     unfolding following isNormal termFits named
     following-out h =
         let rises = both-l (ltb last t && all (λ u. ltb last u) q) _ h in
         let rest = both-r (ltb last t && all (λ u. ltb last u) q) _ h in
-        let normal = both-l (all (λ u. before t u) q && isNormal q) _ rest in
-        let fits = both-r (all (λ u. before t u) q && isNormal q) _ rest in
-        (both-l (ltb last t) _ rises, both-l (all (λ u. before t u) q) _ normal, both-r (all (λ u. before t u) q) _ normal, both-r (ltb 0 t) _ (both-l (termFits own t) _ fits), both-r (termFits own t) _ fits)
+        let normal = both-l (all (λ u. precedes t u) q && isNormal q) _ rest in
+        let fits = both-r (all (λ u. precedes t u) q && isNormal q) _ rest in
+        (both-l (ltb last t) _ rises, both-l (all (λ u. precedes t u) q) _ normal, both-r (all (λ u. precedes t u) q) _ normal, both-r (ltb 0 t) _ (both-l (termFits own t) _ fits), both-r (termFits own t) _ fits)
 
     pub following-low : t ≤ last → following last (t ∷ q) ≡ false
     following-low h = none (following last (t ∷ q)) (λ k. let l = ltb→lt last t (following-out k .0) in omega (arith, l, h))
@@ -58,23 +58,23 @@ module _ (own : ℕ) where
     following-inside e =
         none (following last (t ∷ q)) (λ k.
         let r = any-out (λ u. subset t u) q (true-T _ e) in
-        T-not (subset t (r .0)) (both-r (ltb t (r .0)) _ (all-out (λ u. before t u) q (following-out k .1) (r .0) (r .1))) (r .2))
+        T-not (subset t (r .0)) (both-r (ltb t (r .0)) _ (all-out (λ u. precedes t u) q (following-out k .1) (r .0) (r .1))) (r .2))
 
     pub following-next : last < t → named t ≡ true → any (λ u. subset t u) q ≡ false → following last (t ∷ q) ≡ following t q
     unfolding following isNormal termFits named
     following-next l n e =
         test-ext (following last (t ∷ q)) (following t q)
         (λ h. let k = following-out h in
-        both (all (λ u. ltb t u) q) _ (all-in (λ u. ltb t u) q (λ u m. both-l (ltb t u) _ (all-out (λ u. before t u) q (k .1) u m)))
+        both (all (λ u. ltb t u) q) _ (all-in (λ u. ltb t u) q (λ u m. both-l (ltb t u) _ (all-out (λ u. precedes t u) q (k .1) u m)))
         (both (isNormal q) _ (k .2) (k .4)))
         (λ h. let rises = both-l (all (λ u. ltb t u) q) _ h in
         let rest = both-r (all (λ u. ltb t u) q) _ h in
         let above : (u : ℕ) → In u q → t < u = λ u m. ltb→lt t u (all-out (λ u. ltb t u) q rises u m) in
         both (ltb last t && all (λ u. ltb last u) q) _
         (both (ltb last t) _ (lt→ltb last t l) (all-in (λ u. ltb last u) q (λ u m. lt→ltb last u (omega (arith, l, above u m)))))
-        (both (all (λ u. before t u) q && isNormal q) _
-        (both (all (λ u. before t u) q) _
-        (all-in (λ u. before t u) q (λ u m. both (ltb t u) _ (lt→ltb t u (above u m)) (not-T (subset t u) (λ i. subst (λ (b : Bool). T b) e (any-in (λ u. subset t u) q u m i)))))
+        (both (all (λ u. precedes t u) q && isNormal q) _
+        (both (all (λ u. precedes t u) q) _
+        (all-in (λ u. precedes t u) q (λ u m. both (ltb t u) _ (lt→ltb t u (above u m)) (not-T (subset t u) (λ i. subst (λ (b : Bool). T b) e (any-in (λ u. subset t u) q u m i)))))
         (both-l (isNormal q) _ rest))
         (both (termFits own t) _ (both (ltb 0 t) _ (lt→ltb 0 t (omega (arith, l))) (true-T (named t) n)) (both-r (isNormal q) _ rest))))
 

@@ -15,8 +15,8 @@ use Rattle.names.specs.Sets.{subset}
 use Rattle.numbers.specs.Numbers.{tab}
 use Rattle.numbers.proofs.NumberLaws.{length-tab, getD-tab, tab-cong, tab-suc}
 use Rattle.predicates.specs.Lists.{any, keep}
-use Rattle.predicates.specs.Predicates.{holds, implies, markOf}
-use Rattle.predicates.proofs.MaskLaws.{implies-not}
+use Rattle.predicates.specs.Predicates.{holds, implies}
+use Rattle.predicates.specs.code.Marks.{markOf, Apart}
 use Rattle.steps.specs.Steps.{explained, learn}
 use Rattle.state.specs.Model.{Datum}
 use Rattle.state.specs.Layout.{datumTerms}
@@ -190,19 +190,19 @@ implies-none (t ∷ e) w i counts masks h z = rw z
 
 -- a is the mark of row i, where it is still there
 module _ (i : ℕ) (counts masks p : List ℕ) (a b : ℕ) (f : (getD counts i 0 ≡ 0 → ⊥) → a ≡ markOf (rowOf 16 (table counts masks) i)) (g : b ≡ markOf p) where
-  pub row-apart : a < 2 ^ 32 → subset a b ≡ false → hasTerms (rowOf 16 (table counts masks) i) && implies (rowOf 16 (table counts masks) i) p ≡ false
-  row-apart l h = go (ℕ-discrete (getD counts i 0) 0)
+  pub row-apart : Apart a b → hasTerms (rowOf 16 (table counts masks) i) && implies (rowOf 16 (table counts masks) i) p ≡ false
+  row-apart h = go (ℕ-discrete (getD counts i 0) 0)
     where
       go : Dec (getD counts i 0 ≡ 0) → hasTerms (rowOf 16 (table counts masks) i) && implies (rowOf 16 (table counts masks) i) p ≡ false
       go (yes z) = rw (row-empty 16 i counts masks z)
-      go (no n) = rw (implies-not (rowOf 16 (table counts masks) i) p a b (f n) g l h) (and-false (hasTerms (rowOf 16 (table counts masks) i)))
+      go (no n) = rw (h (rowOf 16 (table counts masks) i) p (f n) g) (and-false (hasTerms (rowOf 16 (table counts masks) i)))
 
-  pub apart-row : 0 < length p → b < 2 ^ 32 → subset b a ≡ false → implies p (rowOf 16 (table counts masks) i) ≡ false
-  apart-row s l h = go (ℕ-discrete (getD counts i 0) 0)
+  pub apart-row : 0 < length p → Apart b a → implies p (rowOf 16 (table counts masks) i) ≡ false
+  apart-row s h = go (ℕ-discrete (getD counts i 0) 0)
     where
       go : Dec (getD counts i 0 ≡ 0) → implies p (rowOf 16 (table counts masks) i) ≡ false
       go (yes z) = implies-none p 16 i counts masks s z
-      go (no n) = implies-not p (rowOf 16 (table counts masks) i) b a g (f n) l h
+      go (no n) = h p (rowOf 16 (table counts masks) i) g (f n)
 
 pub explained-rows : (n : ℕ) (counts masks p : List ℕ) →
     explained (entriesIn n (table counts masks)) p ≡ anyBelow n (λ i. hasTerms (rowOf 16 (table counts masks) i) && implies (rowOf 16 (table counts masks) i) p)

@@ -6,7 +6,8 @@ ghost use mathlib.Core.List.{List};
 ghost use Prim.Native.Nat.{ℕ, _+_, _*_, _≤_, _<_};
 ghost use lib.ListN.{length, getD, set};
 ghost use lib.Seq.{sets};
-ghost use Rattle.predicates.specs.Predicates.{implies, markOf};
+ghost use Rattle.predicates.specs.Predicates.{implies};
+ghost use Rattle.predicates.specs.code.Marks.{markOf};
 ghost use Rattle.state.specs.Layout.{entryTerms};
 ghost use Rattle.state.specs.code.Tables.{Table, table, TableFits, rowOf, hasTerms, entriesIn};
 ghost use Rattle.steps.specs.code.Rows.{Marked, givenUp};
@@ -27,7 +28,7 @@ fn row_implies(
     ensures { λ r. ⌜ (let e : List ℕ = rowOf entryTerms (table (now (counts .entry)) (now (masks .entry))) i in
         r ≡ hasTerms e && implies e (now (p .entry))) ⌝ }
 {
-    if !predicates::masks::may_imply(marks[i], bound) {
+    if !predicates::marks::may_imply(marks[i], bound) {
         return false;
     }
     let count = counts[i] as usize;
@@ -36,7 +37,7 @@ fn row_implies(
     }
     let from = i * state::ENTRY_TERMS;
     let to = from + count;
-    predicates::masks::implies(&masks[from..to], p, bound)
+    predicates::marks::implies_by_mark(&masks[from..to], p, bound)
 }
 
 // Whether an entry of the table implies p. All of them are held against p, so its mark is made once, and for a table of no rows not at all.
@@ -47,7 +48,7 @@ pub fn explained(counts: &[u32], masks: &[u32], marks: &[u32], n: usize, p: &[u3
     if n == 0 {
         return false;
     }
-    let bound = predicates::masks::mark_of(p);
+    let bound = predicates::marks::mark_of(p);
     let mut i: usize = 0;
     while i < n {
         if row_implies(counts, masks, marks, i, p, bound) {
@@ -65,7 +66,7 @@ fn implies_row(e: &[u32], mark: u32, counts: &[u32], masks: &[u32], marks: &[u32
     requires { ⌜ ((getD (now counts) i 0 ≡ 0 → ⊥) → getD (now marks) i 0 ≡ markOf (rowOf entryTerms (table (now counts) (now masks)) i)) ⌝ }
     ensures { λ r. ⌜ r ≡ implies (now (e .entry)) (rowOf entryTerms (table (now (counts .entry)) (now (masks .entry))) i) ⌝ }
 {
-    if !predicates::masks::may_imply(mark, marks[i]) {
+    if !predicates::marks::may_imply(mark, marks[i]) {
         return false;
     }
     let count = counts[i] as usize;
@@ -74,7 +75,7 @@ fn implies_row(e: &[u32], mark: u32, counts: &[u32], masks: &[u32], marks: &[u32
     }
     let from = i * state::ENTRY_TERMS;
     let to = from + count;
-    predicates::masks::implies(e, &masks[from..to], marks[i])
+    predicates::marks::implies_by_mark(e, &masks[from..to], marks[i])
 }
 
 // Gives up the entries that e, which has terms, implies; e's mark is given.
@@ -122,7 +123,7 @@ pub fn learn(counts: &mut [u32], masks: &mut [u32], marks: &mut [u32], n: usize,
     if explained(counts, masks, marks, n, e) {
         return n;
     }
-    let mark = predicates::masks::mark_of(e);
+    let mark = predicates::marks::mark_of(e);
     forget(counts, masks, marks, n, e, mark);
     add_row(counts, masks, n, state::ENTRY_TERMS, e);
     marks[n] = mark;
@@ -136,7 +137,7 @@ fn row_mark(counts: &[u32], masks: &[u32], i: usize) -> u32
 {
     let from = i * state::ENTRY_TERMS;
     let to = from + counts[i] as usize;
-    predicates::masks::mark_of(&masks[from..to])
+    predicates::marks::mark_of(&masks[from..to])
 }
 
 // Makes the marks of the first n rows.

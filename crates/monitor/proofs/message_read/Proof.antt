@@ -3,7 +3,7 @@ use mathlib.Core.Path.{_≡_, sym, _∙_}
 use borrow.Author.Tests.{lt-ltb, le-ltb}
 use lib.Seq.{length-take-le}
 use Rattle.numbers.specs.Numbers.{bytes}
-use Rattle.message.specs.Read.{numberOf}
+use Rattle.message.specs.Read.{readingNumber}
 use Rattle.monitor.specs.Messages.{readBytes, readingBytes, answered, outputAfter, readNumber, readOutput}
 use Rattle.monitor.proofs.MessageCalls.{got-read}
 use borrow.Author.Needs.{needs}
@@ -20,7 +20,7 @@ same c =
     got-read _ _ _ _ (at-take .ensures .1) (at-take .ensures .0 .0) _ (c .read .ensures)
 
 returns : tie.Need-returns
-unfolding readNumber readOutput answered outputAfter numberOf
+unfolding readNumber readOutput answered outputAfter readingNumber
 returns c =
     let told = c .before .enum-told .given .1 in
     let e = sym (same (c .before .before .before)) ∙ told in

@@ -2,7 +2,7 @@
 use mathlib.Core.Path.{_≡_, sym, _∙_}
 use borrow.Author.Tests.{lt-ltb, le-ltb}
 use lib.Seq.{length-take-le}
-use Rattle.message.specs.Read.{numberOf}
+use Rattle.message.specs.Read.{readingNumber}
 use Rattle.monitor.specs.Messages.{readBytes, answered, outputAfter, rewriteNumber, rewriteOutput}
 use Rattle.monitor.proofs.MessageCalls.{got-read, words-taken, rewritten-few, length-rewritten-bytes, written-bytes}
 use borrow.Author.Needs.{needs}
@@ -19,7 +19,7 @@ same c =
     got-read _ _ _ _ (at-take .ensures .1) (at-take .ensures .0 .0) _ (c .rewrite .ensures .0)
 
 returns : tie.Need-returns
-unfolding rewriteNumber rewriteOutput answered outputAfter numberOf
+unfolding rewriteNumber rewriteOutput answered outputAfter readingNumber
 returns c =
     let told = c .before .enum-told .given .1 in
     let e = sym (same (c .before .before .before .before)) ∙ told in

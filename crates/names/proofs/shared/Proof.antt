@@ -1,5 +1,5 @@
 -- `names::shared` meets its contract: the code is the definition.
-use Rattle.names.specs.Sets.{shared}
+use Rattle.names.specs.code.Parts.{shared}
 use mathlib.Core.Path.{refl}
 use Rattle.names.proofs.shared.Statement.{statement}
 use Rattle.names.proofs.shared.Tie as tie

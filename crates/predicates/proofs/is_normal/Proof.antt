@@ -22,12 +22,12 @@ loop-holds c = refl
 returns : tie.Need-returns Inv-loop μ-loop
 returns c =
     let at-head = c .before .before .before .before .before .loop in
-    sym (at-head .inv ∙ normal-stop _ (at-head .i) (c .before .before .before .before .loop-test .taken) _ (c .before .before-all .ensures) (not-true _ (c .if1 .taken)))
+    sym (at-head .inv ∙ normal-stop _ (at-head .i) (c .before .before .before .before .loop-test .taken) _ (c .before .precedes-all .ensures) (not-true _ (c .if1 .taken)))
 
 loop-again : tie.Need-loop-again Inv-loop μ-loop
 loop-again c =
     let at-head = c .before .before .before .before .before .loop in
-    at-head .inv ∙ normal-next _ (at-head .i) (c .before .before .before .before .loop-test .taken) _ (c .before .before-all .ensures) (not-false _ (c .if1 .left))
+    at-head .inv ∙ normal-next _ (at-head .i) (c .before .before .before .before .loop-test .taken) _ (c .before .precedes-all .ensures) (not-false _ (c .if1 .left))
 
 returns-2 : tie.Need-returns-2 Inv-loop μ-loop
 returns-2 c = sym (c .before .loop .inv ∙ normal-done _ (c .before .loop .i) (c .loop-test .left))

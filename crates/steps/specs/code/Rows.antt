@@ -8,7 +8,7 @@ use mathlib.Core.Bool.{Bool, true, false, cond}
 use mathlib.Core.List.{List, _++_}
 use lib.ListN.{length, getD, drop}
 use Rattle.numbers.specs.Numbers.{tab}
-use Rattle.predicates.specs.Predicates.{markOf}
+use Rattle.predicates.specs.code.Marks.{markOf}
 use Rattle.state.specs.Layout.{entryTerms}
 use Rattle.state.specs.code.Tables.{Table, rowOf}
 

@@ -6,14 +6,14 @@ use mathlib.Core.Path.{_≡_}
 use native.Mathlib.Nat.{zero-add}
 use native.Mathlib.Omega.{arith}
 use lib.ListN.{length, drop}
-use Rattle.message.specs.Words.{sum as Words·sum}
+use Rattle.message.specs.Words.{wordSum}
 use Rattle.message.proofs.WordLaws.{sum-next, sum-done}
 use borrow.Author.Needs.{needs}
 use Rattle.message.proofs.read.check_of.Statement.{statement}
 use Rattle.message.proofs.read.check_of.Tie as tie
 
 abbrev Inv-loop : tie.InvT-loop
-Inv-loop words sum₀ from₀ sum from = (sum + Words·sum (drop from words)) % 2 ^ 32 ≡ Words·sum words % 2 ^ 32
+Inv-loop words sum₀ from₀ sum from = (sum + wordSum (drop from words)) % 2 ^ 32 ≡ wordSum words % 2 ^ 32
 
 abbrev μ-loop : tie.MeasureT-loop
 μ-loop words sum₀ from₀ sum from = length words - from

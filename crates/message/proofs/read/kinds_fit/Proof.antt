@@ -1,5 +1,5 @@
 -- `message::read::kinds_fit` meets its contract: the parts that are tested are the definition's.
-use Prim.Native.Nat.{ℕ, _-_}
+use Prim.Native.Nat.{ℕ, _+_, _-_}
 use mathlib.Core.Path.{ap, ap₂, _∙_}
 use mathlib.Core.Bool.{Bool, _&&_}
 use mathlib.Core.List.{List}
@@ -14,18 +14,20 @@ use Rattle.message.proofs.read.kinds_fit.Tie as tie
 returns : tie.Need-returns
 unfolding kindsFit middle
 returns c =
-    let at-start = c .before .before .before .before .before in
-    let words = at-start .before .before .args .words .now in
+    let at-width = c .before .before .before .before .before in
+    let a = at-width .before .before .args in
+    let words = a .words .now in
     let last = length words - 1 in
     let last-kind = c .of-kind2 .ensures ∙ ap (λ (l : List ℕ). ofKind 7 l) (part-rest last words) in
-    rw (← (at-start .start .ensures .0)) (ap₂ (λ (x y : Bool). x && y) (c .before .before .before .before .span-kinds .ensures)
-    (ap₂ (λ (x y : Bool). x && y) (part-kind 6 (at-start .start .result) last words (c .before .before .of-kind .ensures)) last-kind))
+    rw (← (at-width .width .ensures .0)) (ap₂ (λ (x y : Bool). x && y) (c .before .before .before .before .span-kinds .ensures)
+    (ap₂ (λ (x y : Bool). x && y) (part-kind 6 (a .at + at-width .width .result) last words (c .before .before .of-kind .ensures)) last-kind))
 
 pub kinds-fit-spec : {M : Type 1} → statement M
 kinds-fit-spec =
     tie.close
     (tie.spec
     (λ c κs. search needs)
+    (λ c. search needs)
     (λ c. search needs)
     (λ c κs. search needs)
     (λ c. search needs)

@@ -1,7 +1,7 @@
 -- `message::read::read_form` meets its contract: each return is a case of the definition's tests, in their order.
 -- The test for normal form is made on the term words themselves: being of one kind they stand in the order of their payloads.
-use Prim.Native.Nat.{_+_}
-use mathlib.Core.Path.{_≡_, sym, _∙_}
+use Prim.Native.Nat.{ℕ, _+_}
+use mathlib.Core.Path.{_≡_, sym, ap, _∙_}
 use mathlib.Core.Bool.{true}
 use native.Mathlib.Omega.{arith}
 use borrow.Author.Tests.{eq-eqb, ne-eqb, not-true, not-false}
@@ -18,15 +18,15 @@ use Rattle.message.proofs.read.read_form.Tie as tie
 
 -- the word count is that of head and form
 counted : (c : tie.Else1) → let a = c .before .before .before .before .args in
-    eqb (length (a .words .now)) (start (a .ends) + countOf (getD (a .words .now) 0 0) + 1) ≡ true
+    eqb (length (a .words .now)) (start (a .at) (a .ends) + countOf (getD (a .words .now) 0 0) + 1) ≡ true
 counted c =
     let a = c .before .before .before .before .args in
-    eq-eqb (length (a .words .now)) (start (a .ends) + countOf (getD (a .words .now) 0 0) + 1) (omega arith)
+    eq-eqb (length (a .words .now)) (start (a .at) (a .ends) + countOf (getD (a .words .now) 0 0) + 1) (omega arith)
 
 -- past the tests of count, kinds and check word
 checked : (c : tie.Else3) → let a = c .before .before .before .before .before .before .before .before .args in let words = a .words .now in
-    readForm (a .ends) words
-    ≡ withSpan (senderOf (getD words 0 0)) (countOf (getD words 0 0)) (isNormal (masks (middle (a .ends) words))) (span (a .ends) words)
+    readForm (a .at) (a .ends) words
+    ≡ withSpan (senderOf (getD words 0 0)) (countOf (getD words 0 0)) (isNormal (masks (middle (a .at) (a .ends) words))) (span (a .at) (a .ends) words)
 unfolding readForm
 checked c =
     let at-kinds = c .before .before in
@@ -34,17 +34,19 @@ checked c =
 
 -- the terms are in normal form where the part of the slice is
 normal : (c : tie.After-is-normal) → let a = c .before .before .before .before .before .before .before .before .before .before .before .before .before .before .args in
-    isNormal (masks (middle (a .ends) (a .words .now))) ≡ c .is-normal .result
+    isNormal (masks (middle (a .at) (a .ends) (a .words .now))) ≡ c .is-normal .result
 normal c =
     let at-kinds = c .before .before .before .before .before .before .before .before in
+    let at-width = at-kinds .before .before .before in
+    let a = at-width .before .before .before .args in
     let fit = sym (at-kinds .before .kinds-fit .ensures) ∙ not-false _ (at-kinds .if2 .left) in
-    sym (c .is-normal .ensures ∙ normal-middle _ _ _ (at-kinds .before .before .before .start .ensures .0) (true-T _ fit))
+    sym (c .is-normal .ensures ∙ normal-middle (a .at) _ _ _ (ap (λ (k : ℕ). a .at + k) (at-width .width .ensures .0)) (true-T _ fit))
 
 returns : tie.Need-returns
 unfolding readForm
 returns c =
     let a = c .before .before .before .before .args in
-    rw (ne-eqb (length (a .words .now)) (start (a .ends) + countOf (getD (a .words .now) 0 0) + 1) (λ e. omega arith))
+    rw (ne-eqb (length (a .words .now)) (start (a .at) (a .ends) + countOf (getD (a .words .now) 0 0) + 1) (λ e. omega arith))
 
 returns-2 : tie.Need-returns-2
 unfolding readForm
@@ -83,6 +85,7 @@ read-form-spec =
     (λ c κs. search needs)
     (λ c. search needs)
     (λ c. search needs)
+    (λ c. search needs)
     returns
     (λ c κs. search needs)
     returns-2
@@ -92,6 +95,7 @@ read-form-spec =
     (λ c. search needs)
     (λ c. search needs)
     returns-4
+    (λ c. search needs)
     (λ c. search needs)
     (λ c. search needs)
     (λ c. search needs)

@@ -6,14 +6,14 @@ use native.Mathlib.Omega.{arith}
 use lib.ListN.{length}
 use Rattle.message.specs.Read.{isEnds, termWords}
 use Rattle.message.proofs.WordLaws.{part-slice}
-use Rattle.message.proofs.ReadLaws.{Taken, read-out, terms-slice}
+use Rattle.message.proofs.ReadLaws.{Taken, read-out, terms-middle, middle-slice}
 use borrow.Author.Needs.{needs}
 use Rattle.message.proofs.read.term_words.Statement.{statement}
 use Rattle.message.proofs.read.term_words.Tie as tie
 
 -- the message that was read
 taken : (c : tie.After-got) → let words = c .before .before .args .words .now in let m = c .got .given .0 in
-    Taken (isEnds words) words (m .0) (m .1 .0) (m .1 .1 .0) (m .1 .1 .1 .0)
+    Taken 1 (isEnds 1 words) words (m .0) (m .1 .0) (m .1 .1 .0) (m .1 .1 .1 .0)
 taken c = read-out _ (sym (c .before .before .pre) ∙ c .got .given .1)
 
 returns : tie.Need-returns
@@ -34,7 +34,7 @@ returns-2 c =
     let at-got = c .before .before in
     let words = at-got .before .before .args .words .now in
     let last = length words - 1 in
-    rw (at-got .got .given .1) (part-slice (last - at-got .got .given .0 .1 .1 .1 .0) last words ∙ sym (terms-slice (taken at-got)))
+    rw (at-got .got .given .1) (part-slice (last - at-got .got .given .0 .1 .1 .1 .0) last words ∙ sym (terms-middle (taken at-got) ∙ middle-slice (taken at-got)))
 
 pub term-words-spec : {M : Type 1} → statement M
 term-words-spec =

@@ -26,17 +26,21 @@ returns c =
 term-words-requires : tie.Need-term-words-requires
 term-words-requires c κs = sym (was-read (c .before))
 
+part-write-end : tie.Need-part-write-end
+part-write-end c = omega (arith, read-out _ (was-read (c .before .before .before)))
+
 write-requires : tie.Need-write-requires
 write-requires c κs =
-    let taken = read-out _ (was-read (c .before .before .before)) in
-    let count = ap length (c .before .term-words .ensures ∙ terms-middle taken) ∙ length-middle taken in
+    let taken = read-out _ (was-read (c .before .before .before .before)) in
+    let count = ap length (c .before .before .term-words .ensures ∙ terms-middle taken) ∙ length-middle taken in
     omega arith
 
 returns-2 : tie.Need-returns-2
 unfolding rewritten rewrittenAs
 returns-2 c =
-    let read = was-read (c .before .before .before .before .before .before) in
-    (sym read, rw (read, ← (c .before .before .before .before .term-words .ensures)) (c .before .before .write .ensures))
+    let at-terms = c .before .before .before .before .before in
+    let read = was-read (at-terms .before .before) in
+    (sym read, rw (read, ← (at-terms .term-words .ensures)) (c .before .before .write .ensures))
 
 pub rewrite-spec : {M : Type 1} → statement M
 rewrite-spec =
@@ -47,6 +51,9 @@ rewrite-spec =
     (λ c. search needs)
     returns
     term-words-requires
+    (λ c. search needs)
+    (λ c. search needs)
+    part-write-end
     write-requires
     (λ c. search needs)
     returns-2)

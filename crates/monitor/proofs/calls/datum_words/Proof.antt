@@ -22,28 +22,29 @@ terms c = terms-taken _ _ (held c) _ _ _ (c .before .before .get322 .ensures .0)
 
 array-share-prefix-masks : tie.Need-array-share-prefix-masks
 array-share-prefix-masks c =
-    let f = held (c .before .before) in
-    let e = c .before .before .before .before .get322 .ensures .0 in
+    let f = held (c .before .before .before) in
+    let e = c .before .before .before .before .before .get322 .ensures .0 in
     omega (arith, f .few, f .count)
 
-slice-aggregate-write : tie.Need-slice-aggregate-write
-slice-aggregate-write c =
-    let f = held (c .before .before .before) in
-    omega (arith, ap length (terms (c .before .before .before)), f .count, c .before .before .before .before .before .get322 .ensures .0)
+slice-aggregate-write-2 : tie.Need-slice-aggregate-write-2
+slice-aggregate-write-2 c =
+    let at-words = c .before .before .before .before in
+    let f = held at-words in
+    omega (arith, ap length (terms at-words), f .count, at-words .before .before .get322 .ensures .0)
 
 write-requires : tie.Need-write-requires
 write-requires c κs =
-    let at-words = c .before .before .before in
+    let at-words = c .before .before .before .before in
     let at-right = at-words .before .before .before in
     let f = held at-words in
     let ends = ends-lt _ _ f _ _ (at-right .before .get64 .ensures .0) (at-right .get642 .ensures .0) in
     let size = ap length (terms at-words) in
-    (omega (arith, f .own-le, at-right .before .before .get32 .ensures .0), ends .0, ends .1, omega (arith, f .few), omega (arith, f .few))
+    ((omega (arith, f .own-le, at-right .before .before .get32 .ensures .0), ends .0, ends .1, omega (arith, f .few)), omega (arith, f .few))
 
 returns : tie.Need-returns
 returns c =
     let at-write = c .before .before in
-    let at-words = at-write .before .before .before .before in
+    let at-words = at-write .before .before .before .before .before in
     let at-right = at-words .before .before .before in
     let f = held at-words in
     let e = at-words .before .before .get322 .ensures .0 in
@@ -66,8 +67,9 @@ datum-words-spec =
     (λ c. search needs)
     (λ c. search needs)
     (λ c κs. search needs)
+    (λ c. search needs)
     array-share-prefix-masks
-    slice-aggregate-write
+    slice-aggregate-write-2
     write-requires
     (λ c. search needs)
     (λ c. search needs)

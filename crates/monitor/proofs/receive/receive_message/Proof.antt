@@ -1,7 +1,7 @@
 -- `monitor::receive::receive_message` meets its contract: refused by what was read, or received with what the message says (`taken-says`).
 use mathlib.Core.Path.{_≡_, sym, _∙_}
 use lib.Seq.{length-take-le}
-use Rattle.message.specs.Read.{numberOf}
+use Rattle.message.specs.Read.{readingNumber}
 use Rattle.monitor.specs.Messages.{readBytes}
 use Rattle.monitor.specs.Receive.{receiptNumber, receiptBytes}
 use Rattle.monitor.proofs.MessageCalls.{got-read, words-taken, words-in-taken, taken-says}
@@ -19,7 +19,7 @@ same c =
     got-read _ _ _ _ (at-take .ensures .1) (at-take .ensures .0 .0) _ (c .read .ensures)
 
 returns : tie.Need-returns
-unfolding receiptNumber receiptBytes numberOf
+unfolding receiptNumber receiptBytes readingNumber
 returns c =
     let told = c .before .enum-told .given .1 in
     let e = sym (same (c .before .before .before)) ∙ told in

@@ -6,7 +6,8 @@ use mathlib.Core.Bool.{true, false}
 use mathlib.Core.Logic.{⊎-elim}
 use native.Mathlib.Omega.{arith}
 use lib.ListN.{length, getD, length-set}
-use Rattle.predicates.specs.Predicates.{implies, markOf}
+use Rattle.predicates.specs.Predicates.{implies}
+use Rattle.predicates.specs.code.Marks.{markOf}
 use Rattle.state.specs.code.Tables.{table, rowOf}
 use Rattle.steps.specs.code.Rows.{givenUp}
 use Rattle.steps.proofs.TableLaws.{given-up-none, given-up-at, given-up-turn, row-count}

@@ -14,11 +14,13 @@ use lib.Bits.{and-zero-r, or-zero-r, and-mask}
 use lib.Count.{ones}
 use lib.Dec.{T, T-not, not-T, eqb, eqb→eq, leb, leb→le, le→leb}
 use lib.ListN.{length, getD, drop, drop-of-length-le}
-use Rattle.names.specs.Sets.{subset, union, shared, digit}
+use Rattle.names.specs.Sets.{subset, union, digit}
+use Rattle.names.specs.code.Parts.{shared}
 use Rattle.names.proofs.SetLaws.{digit-union, and-subset, subset-empty, digit-empty, digits-ext, subset-trans, empty-subset, union-left, union-right, union-least, ones-none, union-assoc}
 use Rattle.names.proofs.PartLaws.{digit-shared, shared-left, shared-right, subset-same}
 use Rattle.predicates.specs.Lists.{In}
-use Rattle.predicates.specs.Predicates.{holds, implies, markOf, singles}
+use Rattle.predicates.specs.Predicates.{holds, implies}
+use Rattle.predicates.specs.code.Marks.{markOf, singles}
 use Rattle.predicates.proofs.ListLaws.{true-T, T-true, T-false, or-l, or-r, cond-ind, all-out}
 use Rattle.predicates.proofs.LoopLaws.{drop-next, any-here, any-next, any-done}
 use Rattle.predicates.proofs.PredicateLaws.{holds-in, holds-out, holds-mono, implies-out}

@@ -1,13 +1,14 @@
 // A predicate's mark: the names that each make it true alone, as one mask. Marks tell nearly all pairs of predicates apart at once, so they are
 // worth making where many are held against each other.
 ghost use mathlib.Core.Path.{_≡_};
-ghost use Prim.Native.Nat.{_^_, _<_};
+ghost use mathlib.Core.Bool.{false};
 ghost use Rattle.names.specs.Sets.{subset};
-ghost use Rattle.predicates.specs.Predicates.{holds as Predicates·holds, implies as Predicates·implies, markOf as Predicates·markOf};
+ghost use Rattle.predicates.specs.Predicates.{holds, implies};
+ghost use Rattle.predicates.specs.code.Marks.{markOf, Apart};
 
 // The mark of p: the names that each make it true alone, or all that a mask can hold where it is true whatever has failed.
 pub fn mark_of(p: &[u32]) -> u32
-    ensures { λ r. ⌜ r ≡ Predicates·markOf (now (p .entry)) ⌝ }
+    ensures { λ r. ⌜ r ≡ markOf (now (p .entry)) ⌝ }
 {
     let mut names: u32 = 0;
     let mut i: usize = 0;
@@ -27,15 +28,15 @@ pub fn mark_of(p: &[u32]) -> u32
 // Whether a predicate may imply one whose mark is `bound`, by its own mark: it does not where that has a name more. One that is always true is
 // implied by all, and every mark lies within its own.
 pub fn may_imply(mark: u32, bound: u32) -> bool
-    ensures { λ r. ⌜ (r ≡ subset mark bound) × (mark < 2 ^ 32) ⌝ }
+    ensures { λ r. ⌜ (r ≡ subset mark bound) × (r ≡ false → Apart mark bound) ⌝ }
 {
     names::subset(mark, bound)
 }
 
 // Whether the set s makes p true; p's mark is given.
-fn holds(p: &[u32], mark: u32, s: u32) -> bool
-    requires { ⌜ mark ≡ Predicates·markOf (now p) ⌝ }
-    ensures { λ r. ⌜ r ≡ Predicates·holds s (now (p .entry)) ⌝ }
+fn holds_by_mark(p: &[u32], mark: u32, s: u32) -> bool
+    requires { ⌜ mark ≡ markOf (now p) ⌝ }
+    ensures { λ r. ⌜ r ≡ holds s (now (p .entry)) ⌝ }
 {
     if names::shared(s, mark) != 0 {
         return true;
@@ -44,13 +45,13 @@ fn holds(p: &[u32], mark: u32, s: u32) -> bool
 }
 
 // Whether p implies q; q's mark is given.
-pub fn implies(p: &[u32], q: &[u32], bound: u32) -> bool
-    requires { ⌜ bound ≡ Predicates·markOf (now q) ⌝ }
-    ensures { λ r. ⌜ r ≡ Predicates·implies (now (p .entry)) (now (q .entry)) ⌝ }
+pub fn implies_by_mark(p: &[u32], q: &[u32], bound: u32) -> bool
+    requires { ⌜ bound ≡ markOf (now q) ⌝ }
+    ensures { λ r. ⌜ r ≡ implies (now (p .entry)) (now (q .entry)) ⌝ }
 {
     let mut i: usize = 0;
     while i < p.len() {
-        if !holds(q, bound, p[i]) {
+        if !holds_by_mark(q, bound, p[i]) {
             return false;
         }
         i += 1;

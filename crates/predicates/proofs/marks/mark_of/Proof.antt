@@ -1,16 +1,17 @@
--- `predicates::masks::mark_of` meets its contract: the empty term decides; of the others, the names of each term of one name are added.
+-- `predicates::marks::mark_of` meets its contract: the empty term decides; of the others, the names of each term of one name are added.
 -- Invariant: the names found so far and those of the terms from i on are all, and no term before i is empty. Measure: the terms still to look at.
--- The turns are `MaskLaws`.
+-- The turns are `MarkLaws`.
 use Prim.Native.Nat.{_-_}
 use mathlib.Core.Path.{_≡_, refl, sym, _∙_}
 use mathlib.Core.Logic.{⊎-elim}
 use lib.ListN.{length, drop}
 use Rattle.names.specs.Sets.{union}
-use Rattle.predicates.specs.Predicates.{holds, singles}
-use Rattle.predicates.proofs.MaskLaws.{singles-take, singles-pass, holds-pass, mark-all, mark-some}
+use Rattle.predicates.specs.Predicates.{holds}
+use Rattle.predicates.specs.code.Marks.{singles}
+use Rattle.predicates.proofs.MarkLaws.{singles-take, singles-pass, holds-pass, mark-all, mark-some}
 use borrow.Author.Needs.{needs}
-use Rattle.predicates.proofs.masks.mark_of.Statement.{statement}
-use Rattle.predicates.proofs.masks.mark_of.Tie as tie
+use Rattle.predicates.proofs.marks.mark_of.Statement.{statement}
+use Rattle.predicates.proofs.marks.mark_of.Tie as tie
 
 abbrev Inv-loop : tie.InvT-loop
 Inv-loop p names₀ i₀ names i = (union names (singles (drop i p)) ≡ singles p) × (holds 0 p ≡ holds 0 (drop i p))
