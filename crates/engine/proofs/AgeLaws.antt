@@ -18,7 +18,7 @@ use Rattle.state.proofs.LayoutLaws.{below-out}
 use Rattle.state.proofs.StateLaws.{state-out, form-ok}
 use Rattle.engine.specs.Ageing.{leastAdvance, greatestAdvance, slow, fast, widened, aged}
 use Rattle.engine.specs.Refusals.{passesEnd, ageRefusal}
-use Rattle.engine.specs.Outcomes.{driftOver, staysBelow}
+use Rattle.engine.specs.code.Ageing.{driftOver, staysBelow}
 
 -- ---- the drift
 

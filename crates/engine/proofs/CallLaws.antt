@@ -19,15 +19,11 @@ use Rattle.engine.specs.Ageing.{leastAdvance, greatestAdvance, slow, fas
 use Rattle.engine.specs.Receiving.{Delivery, grown}
 use Rattle.steps.specs.Steps.{received}
 use Rattle.engine.specs.Calls.{Setup, begun, setUp, age, receive, moved, made, done}
-use Rattle.engine.specs.Refusals.{refuse, setUpRefusal, passesEnd, ageRefusal, receiptRefusal}
+use Rattle.engine.specs.Refusals.{setUpRefusal, passesEnd, ageRefusal, receiptRefusal}
 use Rattle.steps.specs.Steps.{tooMany}
 use Rattle.state.proofs.OkLaws.{ok-datum-out, ok-datum-in}
 use Rattle.steps.proofs.ReceiveLaws.{formed-fit, received-ok}
-
--- no refusal: the test did not pass, nor did those behind it
-pub refuse-none : (test : Bool) (number next : ℕ) → 0 < number → refuse test number next ≡ 0 → T (not test) × (next ≡ 0)
-refuse-none true number next h e = absurd (omega arith)
-refuse-none false number next h e = (tt, e)
+use Rattle.state.proofs.LentLaws.{refuse-none}
 
 -- ---- setting up
 

@@ -1,8 +1,6 @@
 -- The laws that the proofs of `engine` share, lowest first: what calls keep, ageing, setting up and the receipt on bytes.
 pub mod CallLaws
-pub mod ReceiptLaws
 pub mod AgeLaws
 pub mod WidenLaws
-pub mod OutcomeLaws
 pub mod SetUpLaws
 pub mod ReceiptCalls

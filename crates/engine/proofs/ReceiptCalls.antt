@@ -14,7 +14,8 @@ use Rattle.predicates.specs.Lists.{any, all, padded}
 use Rattle.predicates.specs.Predicates.{isNormal, isTrue, formed, precedes}
 use Rattle.predicates.proofs.ListLaws.{both-l, both-r}
 use Rattle.state.specs.Model.{endLimit}
-use Rattle.state.specs.Layout.{stateBytes, stateOf, headOf, storeOf}
+use Rattle.state.specs.Refusal.{after}
+use Rattle.state.specs.Layout.{stateSize, datumTerms, stateBytes, stateOf, headOf, storeOf}
 use Rattle.state.specs.Form.{inForm}
 use Rattle.state.proofs.StateLaws.{put-state-same, held-count-le, entry-count-le, length-held, length-entries}
 use Rattle.engine.specs.Receiving.{Delivery, grown}
@@ -22,7 +23,6 @@ use Rattle.steps.specs.Steps.{settled, received}
 use Rattle.engine.specs.Calls.{receive, done, moved, made}
 use Rattle.steps.specs.Steps.{tooMany}
 use Rattle.engine.specs.Refusals.{receiptRefusal}
-use Rattle.engine.specs.Outcomes.{after}
 use Rattle.steps.proofs.ReceiveLaws.{formed-some, formed-normal}
 
 -- ---- the row
@@ -70,18 +70,18 @@ module _ (s : List ℕ) (g : Delivery) where
     receipt-end h = rw (ne-eqb _ _ other, le-leb _ _ h)
 
     module _ (below : grown (stateOf s .head .own) g .right < endLimit) where
-      pub receipt-terms : 8 < length (grown (stateOf s .head .own) g .terms) → receiptRefusal (stateOf s) g ≡ 31
+      pub receipt-terms : datumTerms < length (grown (stateOf s .head .own) g .terms) → receiptRefusal (stateOf s) g ≡ 31
       unfolding receiptRefusal
       receipt-terms h = rw (ne-eqb _ _ other, lt-leb _ _ below, lt-ltb _ _ h)
 
-      receipt-counts : length (grown (stateOf s .head .own) g .terms) ≤ 8
+      receipt-counts : length (grown (stateOf s .head .own) g .terms) ≤ datumTerms
           → receiptRefusal (stateOf s) g ≡ cond (tooMany (received (grown (stateOf s .head .own) g) (stateOf s .store))) 32 0
       unfolding receiptRefusal
       receipt-counts h = rw (ne-eqb _ _ other, lt-leb _ _ below, le-ltb _ _ h)
 
       -- a true predicate: taken, and nothing changes
-      pub receipt-true : length (grown (stateOf s .head .own) g .terms) ≤ 8 → isTrue (grown (stateOf s .head .own) g .terms) ≡ true → T (inForm s) → Bytes s → 3032 ≤ length s
-          → (0 ≡ receiptRefusal (stateOf s) g) × (s ≡ after 0 (done (stateOf s) (receive g)) s)
+      pub receipt-true : length (grown (stateOf s .head .own) g .terms) ≤ datumTerms → isTrue (grown (stateOf s .head .own) g .terms) ≡ true → T (inForm s) → Bytes s → stateSize ≤ length s
+          → (0 ≡ receiptRefusal (stateOf s) g) × (s ≡ after 0 (stateBytes (done (stateOf s) (receive g))) s)
       unfolding received done moved made after tooMany stateOf
       receipt-true h t f b l =
           let few : (length (storeOf s .held) ≤ 16) × (length (storeOf s .entries) ≤ 32) =
@@ -91,16 +91,9 @@ module _ (s : List ℕ) (g : Delivery) where
           )
 
       -- the four steps: too many, or the new state
-      pub receipt-steps : (r : ℕ) (u : List ℕ) → length (grown (stateOf s .head .own) g .terms) ≤ 8 → isTrue (grown (stateOf s .head .own) g .terms) ≡ false
+      pub receipt-steps : (r : ℕ) (u : List ℕ) → length (grown (stateOf s .head .own) g .terms) ≤ datumTerms → isTrue (grown (stateOf s .head .own) g .terms) ≡ false
           → r ≡ cond (tooMany (settled (grown (stateOf s .head .own) g) (storeOf s))) 32 0
-          → u ≡ cond (tooMany (settled (grown (stateOf s .head .own) g) (storeOf s))) s (put 0 (stateBytes (record { head = headOf s; store = settled (grown (stateOf s .head .own) g) (storeOf s) })) s)
-          → (r ≡ receiptRefusal (stateOf s) g) × (u ≡ after r (done (stateOf s) (receive g)) s)
+          → u ≡ after r (stateBytes (record { head = headOf s; store = settled (grown (stateOf s .head .own) g) (storeOf s) })) s
+          → (r ≡ receiptRefusal (stateOf s) g) × (u ≡ after r (stateBytes (done (stateOf s) (receive g))) s)
       unfolding received done moved made after stateOf
-      receipt-steps r u h t p q =
-          let number : receiptRefusal (stateOf s) g ≡ cond (tooMany (settled (grown (stateOf s .head .own) g) (storeOf s))) 32 0 = receipt-counts h ∙ rw t in
-          (p ∙ sym number, q ∙ rw (p, t) (go (tooMany (settled (grown (stateOf s .head .own) g) (storeOf s)))))
-        where
-          go : (b : Bool) → cond b s (put 0 (stateBytes (record { head = headOf s; store = settled (grown (stateOf s .head .own) g) (storeOf s) })) s)
-              ≡ cond (eqb (cond b 32 0) 0) (put 0 (stateBytes (record { head = headOf s; store = settled (grown (stateOf s .head .own) g) (storeOf s) })) s) s
-          go true = refl
-          go false = refl
+      receipt-steps r u h t p q = (p ∙ sym (receipt-counts h ∙ rw t), q ∙ rw t)

@@ -1,26 +1,27 @@
 -- What ageing leaves in the bytes.
 -- The idea: the loop stores datum after datum. Of a datum only the ends are stored, but its row stands behind them already, so the whole datum
--- might have been; and the same with the zeros behind the data and the entries. So what is left is the aged state, stored from the start.
+-- might have been; and the same with the zeros behind the data. So the data and the reading are parts that are stored, and exchanged (`part-stored`).
 -- No contract cites this file. Assumes nothing.
 use Prim.Native.Nat.{ℕ, zero, suc, _+_, _*_, _-_, _≤_, _<_}
-use mathlib.Core.Path.{_≡_, refl, sym, ap, _∙_}
-use mathlib.Core.List.{List, [], _∷_, _++_, map, append-assoc}
+use mathlib.Core.Path.{_≡_, refl, sym, _∙_}
+use mathlib.Core.List.{List, [], _∷_, _++_, map}
 use mathlib.Core.Logic.{inr}
 use native.Mathlib.Omega.{arith}
 use lib.Dec.{T, leb→le, ltb→lt}
-use lib.ListN.{length, drop}
+use lib.ListN.{length, drop, length-append, length-replicate}
 use Rattle.predicates.proofs.ListLaws.{both-l, both-r}
 use Rattle.numbers.specs.Numbers.{num, bytes, put, tab, Bytes}
-use Rattle.numbers.proofs.NumberLaws.{length-bytes, num-put-apart, put-append, put-num-same, bytes-num, length-tab}
+use Rattle.numbers.proofs.NumberLaws.{length-bytes, num-put-apart, put-append, put-num-same, length-tab}
 use Rattle.state.specs.Model.{Datum, endLimit}
-use Rattle.state.specs.Layout.{zeros, joined, rowBytes, datumBytes, headBytes, dataBytes, entriesBytes, stateBytes, datumPlace, datumAt, heldCount, entryCount, headOf, storeOf, stateOf}
+use Rattle.state.specs.Layout.{stateSize, readingAt, heldAt, dataAt, dataMost, datumSize, zeros, joined, rowBytes, datumBytes, dataBytes, parts, stateBytes}
+use Rattle.state.specs.Layout.{datumPlace, datumAt, heldCount, headOf, storeOf, stateOf}
 use Rattle.state.specs.Form.{termsFit, datumFits, dataFit, inForm, datumOk}
-use Rattle.state.proofs.LayoutLaws.{below-out, part-add, At, at-then, length-joined, length-datum, length-head}
-use Rattle.state.proofs.FormLaws.{row-part}
-use Rattle.state.proofs.FormLaws.{datum-row, datum-size}
-use Rattle.state.proofs.StateLaws.{state-out, length-held, length-entries, held-count-le, form-ok, datum-at-ok, form-split}
+use Rattle.state.proofs.LayoutLaws.{below-out, part, At, length-datum}
+use Rattle.state.proofs.FormLaws.{zeros-out, row-part, datum-row}
+use Rattle.state.proofs.StateLaws.{held-count-le, datum-at-ok, begins-form}
 use Rattle.state.proofs.RowLoops.{datum-put}
-use Rattle.state.proofs.PutLaws.{part-stands, put-stands, drop-put, put-swap, length-joined-tab, joined-next}
+use Rattle.state.proofs.PutLaws.{part-stands, put-stands, drop-put, length-joined-tab, joined-next}
+use Rattle.state.proofs.PartLaws.{part-stored}
 use Rattle.engine.specs.Ageing.{slow, fast, widened, aged}
 use Rattle.engine.specs.Calls.{age, moved, made, done}
 
@@ -62,11 +63,11 @@ module _ (s : List ℕ) (t : T (inForm s)) (lo hi : ℕ) where
   length-front i h = length-joined-tab datumBytes 52 i (wide s lo hi) (λ k p. length-wide k (omega arith))
 
   -- a number behind the first i data is as it was
-  num-behind : (i at : ℕ) (u : List ℕ) → i ≤ heldCount s → datumPlace i ≤ at → u ≡ put 24 (front s lo hi i) s → num at 8 u ≡ num at 8 s
+  num-behind : (i at : ℕ) (u : List ℕ) → i ≤ heldCount s → datumPlace i ≤ at → u ≡ put dataAt (front s lo hi i) s → num at 8 u ≡ num at 8 s
   num-behind i at u h k e = rw e (num-put-apart 8 24 at (front s lo hi i) s (inr (omega (arith, length-front i h))))
 
   -- the ends that a turn reads
-  module _ (i : ℕ) (u : List ℕ) (h : i < heldCount s) (p : u ≡ put 24 (front s lo hi i) s) where
+  module _ (i : ℕ) (u : List ℕ) (h : i < heldCount s) (p : u ≡ put dataAt (front s lo hi i) s) where
     pub left-there : num (datumPlace i) 8 u ≡ datumAt s i .left
     unfolding datumAt
     left-there = num-behind i (datumPlace i) u (omega arith) (omega arith) p
@@ -77,7 +78,7 @@ module _ (s : List ℕ) (t : T (inForm s)) (lo hi : ℕ) where
         rw q (num-put-apart 8 (datumPlace i) (datumPlace i + 8) (bytes 8 x) u (inr (omega (arith, length-bytes 8 x))))
         ∙ num-behind i (datumPlace i + 8) u (omega arith) (omega arith) p
 
-  module _ (b : Bytes s) (l : 3032 ≤ length s) where
+  module _ (b : Bytes s) (l : stateSize ≤ length s) where
     row-stands : (i : ℕ) → i < heldCount s → At (datumPlace i + 16) (rowBytes 8 (datumAt s i .terms)) s
     unfolding datumAt inForm dataFit
     row-stands i h =
@@ -86,9 +87,9 @@ module _ (s : List ℕ) (t : T (inForm s)) (lo hi : ℕ) where
         rw (row-part (num 0 4 s) 8 (datumPlace i + 16) s (datum-row (num 0 4 s) s i fits) b (omega arith)) (part-stands (datumPlace i + 16) 36 s)
 
     -- a turn
-    pub widen-next : (i : ℕ) (u v w : List ℕ) → i < heldCount s → u ≡ put 24 (front s lo hi i) s
+    pub widen-next : (i : ℕ) (u v w : List ℕ) → i < heldCount s → u ≡ put dataAt (front s lo hi i) s
         → v ≡ put (datumPlace i) (bytes 8 (num (datumPlace i) 8 u + lo)) u → w ≡ put (datumPlace i + 8) (bytes 8 (num (datumPlace i + 8) 8 v + hi)) v
-        → w ≡ put 24 (front s lo hi (i + 1)) s
+        → w ≡ put dataAt (front s lo hi (i + 1)) s
     unfolding widened
     widen-next i u v w h p q r =
         let at = datumPlace i in
@@ -103,7 +104,7 @@ module _ (s : List ℕ) (t : T (inForm s)) (lo hi : ℕ) where
           a,
           drop-put (at + 16) at (bytes 8 (d .left + lo)) u (omega (arith, length-bytes 8 (d .left + lo))),
           p,
-          drop-put (at + 16) 24 (front s lo hi i) s (omega (arith, length-front i (omega arith))),
+          drop-put (at + 16) dataAt (front s lo hi i) s (omega (arith, length-front i (omega arith))),
         ) in
         let stored : w ≡ put (at + 16) (rowBytes 8 (d .terms)) w = sym (put-stands (at + 16) _ w (row .0, same ∙ row .1)) in
         joined-next datumBytes 52 24 i (wide s lo hi) s u w (λ n m. length-wide n (omega arith)) p
@@ -125,63 +126,59 @@ held-tab lo hi s = map-tab (widened lo hi) (heldCount s) (datumAt s)
 
 -- ---- the whole state
 
-module _ (s : List ℕ) (t : T (inForm s)) (b : Bytes s) (l : 3032 ≤ length s) where
-  -- what lies behind the held data
+module _ (s : List ℕ) (t : T (inForm s)) (b : Bytes s) (l : stateSize ≤ length s) where
+  -- the zeros behind the held data
   abbrev behind : List ℕ
-  behind = zeros ((16 - heldCount s) * 52) ++ entriesBytes (storeOf s .entries)
+  behind = zeros ((dataMost - heldCount s) * datumSize)
 
   behind-stands : At (datumPlace (heldCount s)) behind s
-  unfolding stateBytes dataBytes stateOf
+  unfolding inForm dataFit
   behind-stands =
-      let st = stateOf s in
-      let o = state-out st (form-ok s t) in
-      let all-of = at-then 24 0 (headBytes st) _ s (length-head st) (drop 3032 s, form-split s t b l) in
-      let long : length (joined datumBytes (st .store .held)) ≡ heldCount s * 52 =
-      length-joined datumBytes (datumOk _) 52 (datum-size _) (st .store .held) (o .held) ∙ ap (λ (n : ℕ). n * 52) (length-held s) in
-      at-then (heldCount s * 52) 24 (joined datumBytes (st .store .held)) behind s long (rw (append-assoc, length-held s) at all-of)
+      let few = held-count-le s t in
+      let free = (dataMost - heldCount s) * datumSize in
+      let zero : part (datumPlace (heldCount s)) free s ≡ behind =
+      zeros-out (datumPlace (heldCount s)) free (datumPlace dataMost) s (omega arith) (omega arith) (search (both-l, both-r) depth 9) in
+      rw (← zero) (part-stands (datumPlace (heldCount s)) free s)
 
-  counts-stand : At 16 (bytes 4 (heldCount s) ++ bytes 4 (entryCount s)) s
-  counts-stand = rw (bytes-num 4 16 s b (omega arith), bytes-num 4 20 s b (omega arith), ← (part-add 16 4 4 s)) (part-stands 16 8 s)
-
-  module _ (reading : ℕ) where
+  module _ (lo hi : ℕ) where
     abbrev agedHeld : List Datum
-    agedHeld = aged (slow (headOf s) reading) (fast (headOf s) reading) (storeOf s) .held
+    agedHeld = aged lo hi (storeOf s) .held
 
     length-aged : length agedHeld ≡ heldCount s
-    length-aged = rw (held-tab (slow (headOf s) reading) (fast (headOf s) reading) s) (length-tab (heldCount s) _)
+    length-aged = rw (held-tab lo hi s) (length-tab (heldCount s) _)
 
-    -- the head, in which the reading alone is new
-    head-put : put 0 (headBytes (done (stateOf s) (age reading))) s ≡ put 8 (bytes 8 reading) s
-    unfolding headBytes stateOf headOf done moved made aged
-    head-put =
-        let counts = bytes 4 (heldCount s) ++ bytes 4 (entryCount s) in
-        let s₁ = put 8 (bytes 8 reading) s in
-        let same : drop 16 s₁ ≡ drop 16 s = drop-put 16 8 (bytes 8 reading) s (omega (arith, length-bytes 8 reading)) in
-        let stands : put 16 counts s₁ ≡ s₁ = put-stands 16 counts s₁ (counts-stand .0, same ∙ counts-stand .1) in
-        rw (
-          length-aged,
-          length-entries s,
-          put-append 4 0 (bytes 4 (num 0 4 s)) _ s (length-bytes 4 _),
-          put-num-same 4 0 s b,
-          put-append 4 4 (bytes 4 (num 4 4 s)) _ s (length-bytes 4 _),
-          put-num-same 4 4 s b,
-          put-append 8 8 (bytes 8 reading) _ s (length-bytes 8 reading),
-        ) stands
+    long : length (joined datumBytes agedHeld) ≡ heldCount s * datumSize
+    long = rw (held-tab lo hi s) (length-front s t lo hi (heldCount s) (omega arith))
 
-    -- the data and the reading are stored: that is the whole state
-    pub age-put : (u w : List ℕ) → u ≡ put 24 (joined datumBytes agedHeld) s → w ≡ put 8 (bytes 8 reading) u
-        → w ≡ put 0 (stateBytes (done (stateOf s) (age reading))) s
-    unfolding stateBytes dataBytes stateOf done made aged
-    age-put u w p q =
-        let n = heldCount s in
-        let s₁ = put 8 (bytes 8 reading) s in
-        let late = length-bytes 8 reading in
-        let long : length (joined datumBytes agedHeld) ≡ n * 52 =
-        rw (held-tab (slow (headOf s) reading) (fast (headOf s) reading) s) (length-front s t _ _ n (omega arith)) in
-        let swapped : w ≡ put 24 (joined datumBytes agedHeld) s₁ = rw (q, p) (put-swap 8 24 (bytes 8 reading) _ s (omega arith)) in
-        let same : drop (datumPlace n) w ≡ drop (datumPlace n) s =
-        rw (swapped, drop-put (datumPlace n) 24 (joined datumBytes agedHeld) s₁ (omega arith), drop-put (datumPlace n) 8 (bytes 8 reading) s (omega arith)) in
-        let stands : put (datumPlace n) behind w ≡ w = put-stands (datumPlace n) behind w (behind-stands .0, same ∙ behind-stands .1) in
-        let rest : w ≡ put 24 (joined datumBytes agedHeld ++ behind) s₁ =
-        rw (put-append (n * 52) 24 (joined datumBytes agedHeld) behind s₁ long, ← swapped) (sym stands) in
-        rw (put-append 24 0 (headBytes (done (stateOf s) (age reading))) _ s (length-head _), head-put, append-assoc, length-aged) rest
+    -- with the zeros behind them, the aged data are the whole part
+    data-part : (u : List ℕ) → u ≡ put dataAt (joined datumBytes agedHeld) s → u ≡ put dataAt (dataBytes agedHeld) s
+    unfolding dataBytes
+    data-part u p =
+        let few = held-count-le s t in
+        let at = datumPlace (heldCount s) in
+        let same : drop at u ≡ drop at s = rw (p, drop-put at dataAt (joined datumBytes agedHeld) s (omega (arith, long))) in
+        let stands : put at behind u ≡ u = put-stands at behind u (behind-stands .0, same ∙ behind-stands .1) in
+        rw (length-aged, put-append (heldCount s * datumSize) dataAt (joined datumBytes agedHeld) behind s long, ← p) (sym stands)
+
+    length-data : length (dataBytes agedHeld) ≡ dataMost * datumSize
+    unfolding dataBytes
+    length-data =
+        let few = held-count-le s t in
+        rw (length-append, length-replicate, long, length-aged) (omega arith)
+
+    -- the held count stays as it is
+    count-stands : s ≡ put heldAt (bytes 4 (length agedHeld)) s
+    count-stands = rw length-aged (sym (put-num-same 4 heldAt s b))
+
+  -- the data and the reading are stored, and exchanged: that is the whole state
+  pub age-put : (reading : ℕ) (u w : List ℕ)
+      → u ≡ put dataAt (joined datumBytes (aged (slow (headOf s) reading) (fast (headOf s) reading) (storeOf s) .held)) s
+      → w ≡ put readingAt (bytes 8 reading) u → w ≡ put 0 (stateBytes (done (stateOf s) (age reading))) s
+  unfolding parts stateBytes stateOf done moved made aged
+  age-put reading u w p q =
+      let lo = slow (headOf s) reading in
+      let hi = fast (headOf s) reading in
+      let count = part-stored 3 _ _ _ _ _ (omega arith) (length-bytes 4 _) (count-stands lo hi) (begins-form s t b l) in
+      let held = part-stored 5 _ _ _ _ _ (omega arith) (length-data lo hi) (data-part lo hi u p) count in
+      let all-of = part-stored 2 _ _ _ _ _ (omega arith) (length-bytes 8 _) q held in
+      all-of .stored

@@ -13,6 +13,10 @@ pub record Setup : Type 0 where
   pub drift : ℕ
   pub reading : ℕ
 
+abbrev pub setup : ℕ → ℕ → ℕ → Setup
+setup own drift reading = record { own = own; drift = drift; reading = reading }
+
+-- the head that it enters
 unfoldable pub begun : Setup → Head
 begun u = record { own = u .own; drift = u .drift; reading = u .reading }
 

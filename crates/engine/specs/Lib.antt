@@ -2,4 +2,4 @@ pub mod Calls
 pub mod Ageing
 pub mod Receiving
 pub mod Refusals
-pub mod Outcomes
+pub mod code

@@ -10,3 +10,4 @@ pub mod RowLoops
 pub mod RowLaws
 pub mod OkLaws
 pub mod StoreLaws
+pub mod LentLaws

@@ -1,4 +1,5 @@
 pub mod Model
 pub mod Layout
 pub mod Form
+pub mod Refusal
 pub mod code

@@ -8,6 +8,7 @@ ghost use Rattle.names.specs.Sets.{has, noSet};
 ghost use Rattle.predicates.specs.Lists.{all, allBelow};
 ghost use Rattle.predicates.specs.Predicates.{isNormal};
 ghost use Rattle.state.specs.Layout.{stateSize, dataMost, entriesMost, entryTerms, datumPlace, entryPlace};
+ghost use Rattle.state.specs.Refusal.{lent};
 ghost use Rattle.state.specs.Form.{termFits, isZero, rowFits, datumFits, entryFits, headFits, inForm};
 
 // The most data and entries, as the head counts them.
@@ -184,4 +185,17 @@ pub fn in_form(s: &[u8]) -> bool
     let held = numbers::get32(s, super::HELD_AT);
     let entries = numbers::get32(s, super::KNOWN_AT);
     data_fit(s, own, held as usize) & entries_fit(s, own, entries as usize)
+}
+
+// The first tests of every call on a lent state: 24 where it is too short, 25 where it is out of form, else 0.
+pub fn refusal(s: &[u8]) -> u32
+    ensures { λ r. ⌜ r ≡ lent (now (s .entry)) 0 ⌝ }
+{
+    if s.len() < super::STATE_SIZE {
+        return 24;
+    }
+    if !in_form(s) {
+        return 25;
+    }
+    0
 }

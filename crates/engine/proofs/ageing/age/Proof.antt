@@ -1,33 +1,32 @@
 -- `engine::ageing::age` meets its contract: the tests stand in the definition's order; then the data and the reading are stored, which makes
 -- the whole aged state (`age-put`).
-use mathlib.Core.Path.{_≡_, sym, ap, _∙_}
+use mathlib.Core.Path.{_≡_, refl, sym, ap, _∙_}
 use mathlib.Core.Bool.{cond}
 use native.Mathlib.Omega.{arith}
 use borrow.Author.Tests.{not-true, not-false}
 use Rattle.predicates.proofs.ListLaws.{true-T}
 use Rattle.numbers.specs.Numbers.{put, Bytes}
 use Rattle.state.specs.Model.{Store}
-use Rattle.state.specs.Layout.{joined, datumBytes, storeOf, stateOf}
+use Rattle.state.specs.Layout.{dataAt, joined, datumBytes, storeOf, stateOf}
 use Rattle.engine.specs.Refusals.{ageRefusal}
-use Rattle.engine.specs.Outcomes.{ageBytes}
+use Rattle.state.specs.Refusal.{after}
 use Rattle.engine.proofs.AgeLaws.{age-early, age-back, age-tests, aged-code, drift-held}
 use Rattle.engine.proofs.WidenLaws.{age-put}
-use Rattle.engine.proofs.OutcomeLaws.{after-refused, after-taken}
 use borrow.Author.Needs.{needs}
 use Rattle.engine.proofs.ageing.age.Statement.{statement}
 use Rattle.engine.proofs.ageing.age.Tie as tie
 
 returns : tie.Need-returns
-unfolding ageBytes
+unfolding after
 returns c =
     let a = c .before .before .args in
-    after-refused 3 _ _ _ (omega arith) (age-early (a .state .now) (a .reading) (c .if1 .taken))
+    (sym (age-early (a .state .now) (a .reading) (c .if1 .taken)), refl)
 
 returns-2 : tie.Need-returns-2
-unfolding ageBytes
+unfolding after
 returns-2 c =
     let a = c .before .before .before .before .before .args in
-    after-refused 20 _ _ _ (omega arith) (age-back (a .state .now) (a .reading) _ (c .before .get64 .ensures .0) (c .before .before .before .if1 .left) (c .if2 .taken))
+    (sym (age-back (a .state .now) (a .reading) _ (c .before .get64 .ensures .0) (c .before .before .before .if1 .left) (c .if2 .taken)), refl)
 
 drift-over-requires : tie.Need-drift-over-requires
 drift-over-requires c κs =
@@ -45,9 +44,9 @@ tested c =
     (at-drift .drift-over .ensures .0) _ (at-if2 .before .before .before .if1 .left) (at-if2 .if2 .left) (c .stays-below .ensures)
 
 returns-3 : tie.Need-returns-3
-unfolding ageBytes
+unfolding after
 returns-3 c =
-    after-refused 30 _ _ _ (omega arith) (tested (c .before) ∙ ap (λ b. cond b 0 30) (not-true (c .before .stays-below .result) (c .if3 .taken)))
+    (sym (tested (c .before) ∙ ap (λ b. cond b 0 30) (not-true (c .before .stays-below .result) (c .if3 .taken))), refl)
 
 widen-requires : tie.Need-widen-requires
 widen-requires c κs =
@@ -56,7 +55,7 @@ widen-requires c κs =
     (a .pre .0, a .pre .1, omega arith, true-T _ (sym (at-test .stays-below .ensures) ∙ not-false _ (c .before .if3 .left)))
 
 returns-4 : tie.Need-returns-4
-unfolding ageBytes Bytes
+unfolding after Bytes
 returns-4 c =
     let at-widen = c .before .before .before .before .before .before in
     let at-if3 = at-widen .before .before in
@@ -67,9 +66,11 @@ returns-4 c =
     let s = a .args .state .now in
     let same = aged-code s (a .pre .1) (a .args .reading) _ _ _ (at-if2 .before .get64 .ensures .0) (at-drift .before .get32 .ensures .0)
     (at-drift .drift-over .ensures .0) (storeOf s) in
-    after-taken _ _ s _ (tested (at-if3 .before) ∙ ap (λ b. cond b 0 30) (not-false (at-if3 .before .stays-below .result) (at-if3 .if3 .left)))
-    (age-put s (a .pre .1) (λ i. at-start .slice-known .given i .fits) (a .pre .0) (a .args .reading) (at-widen .widen .last .0) _
-    (at-widen .widen .ensures ∙ ap (λ (k : Store). put 24 (joined datumBytes (k .held)) s) same) (c .before .before .put64 .ensures))
+    (
+      sym (tested (at-if3 .before) ∙ ap (λ b. cond b 0 30) (not-false (at-if3 .before .stays-below .result) (at-if3 .if3 .left))),
+      age-put s (a .pre .1) (λ i. at-start .slice-known .given i .fits) (a .pre .0) (a .args .reading) (at-widen .widen .last .0) _
+          (at-widen .widen .ensures ∙ ap (λ (k : Store). put dataAt (joined datumBytes (k .held)) s) same) (c .before .before .put64 .ensures),
+    )
 
 pub age-spec : {M : Type 1} → statement M
 age-spec =

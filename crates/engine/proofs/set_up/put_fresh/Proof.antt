@@ -1,23 +1,28 @@
--- `engine::set_up::put_fresh` meets its contract: the head's numbers, the fresh held data and the fresh knowledge make the fresh state (`fresh-put`).
-use Rattle.state.specs.Held.{nothingHeld}
-use Rattle.state.specs.Known.{nothingKnown}
+-- `engine::set_up::put_fresh` meets its contract: the head's numbers, no data and the fresh knowledge are the parts of the fresh state (`fresh-put`).
+use mathlib.Core.Path.{_≡_}
+use native.Mathlib.Omega.{arith}
+use Rattle.numbers.specs.Numbers.{tab}
+use Rattle.state.specs.Layout.{dataBytes, joined}
+use Rattle.state.specs.code.Tables.{entriesIn}
+use Rattle.state.specs.code.Known.{nothingKnown}
+use Rattle.state.proofs.StoreLaws.{table-fresh}
+use Rattle.engine.specs.Calls.{setup}
 use Rattle.engine.proofs.SetUpLaws.{fresh-put}
 use borrow.Author.Needs.{needs}
 use Rattle.engine.proofs.set_up.put_fresh.Statement.{statement}
 use Rattle.engine.proofs.set_up.put_fresh.Tie as tie
 
+put-known-requires : tie.Need-put-known-requires
+unfolding nothingKnown entriesIn tab
+put-known-requires c κs =
+    rw (c .before .before .before .before .before .fresh .ensures) (table-fresh 16 0 32 512 (omega arith) (omega arith), (omega arith, omega arith, omega arith))
+
 returns : tie.Need-returns
-unfolding nothingHeld nothingKnown
+unfolding nothingKnown entriesIn tab dataBytes joined
 returns c =
-    let at-known = c .before .before in
-    let at-held = at-known .before .before .before .before .before in
-    let at-reading = at-held .before .before .before .before .before in
-    let at-drift = at-reading .before .before .before .before in
-    let at-own = at-drift .before .before .before .before in
-    let a = at-own .before .before .before .args in
-    fresh-put (record { own = a .own; drift = a .drift; reading = a .reading }) _ _ _ _ _ _ (at-own .put32 .ensures) (at-drift .put322 .ensures)
-    (at-reading .put64 .ensures) (rw (at-held .before .fresh .ensures) at (at-held .put-held .ensures))
-    (rw (at-known .before .fresh2 .ensures) at (at-known .put-knowledge .ensures))
+    let a = c .before .before .before .before .before .before .before .before .before .before .before .before .before .before .before .before .before .before .before .before .before .before .before .before .before .before .before .before .before .before in
+    fresh-put (setup (a .args .own) (a .args .drift) (a .args .reading)) _ _ _ _ _ _ _ (a .pre) (c .before .before .before .before .before .before .before .before .before .before .before .before .before .before .before .before .before .before .before .before .before .before .before .before .before .before .before .put32 .ensures) (c .before .before .before .before .before .before .before .before .before .before .before .before .before .before .before .before .before .before .before .before .before .before .before .put322 .ensures)
+    (c .before .before .before .before .before .before .before .before .before .before .before .before .before .before .before .before .before .before .before .put64 .ensures) (c .before .before .before .before .before .before .before .before .before .before .before .before .before .before .before .put323 .ensures) (c .before .before .before .before .before .before .before .before .before .before .before .clear .ensures) (rw (c .before .before .before .before .before .before .before .before .fresh .ensures) at (c .before .before .put-known .ensures))
 
 pub put-fresh-spec : {M : Type 1} → statement M
 put-fresh-spec =
@@ -29,6 +34,8 @@ put-fresh-spec =
     (λ c κs. search needs)
     (λ c κs. search needs)
     (λ c κs. search needs)
-    (λ c κs. search needs)
+    (λ c. search needs)
+    (λ c. search needs)
+    put-known-requires
     (λ c. search needs)
     returns)
