@@ -25,11 +25,11 @@ use Rattle.state.specs.Model.{Datum, Store}
 use Rattle.state.proofs.LayoutLaws.{all-tab}
 use Rattle.asking.specs.Instants.{Allowed}
 use Rattle.asking.specs.Claims.{inside, neededAt, everything}
-use Rattle.asking.specs.Search.{Fits, Rows, rowTerms, predAt, preds}
-use Rattle.asking.specs.Tables.{entryClaim, claimsOf, claimAt, Loaded, Bounded, outside}
-use Rattle.asking.specs.Ends.{needs, Complete}
+use Rattle.search.specs.Search.{Fits, Rows, rowTerms, predAt, preds}
+use Rattle.asking.specs.Tables.{entryClaim, claimsOf, claimAt, Loaded, Bounded}
+use Rattle.search.specs.Ends.{outside, needs, Complete}
 use Rattle.asking.proofs.ClaimLaws.{claims-in, claims-out}
-use Rattle.asking.proofs.EndSteps.{in-take, take-in, at-in, getD-map}
+use Rattle.search.proofs.EndSteps.{in-take, take-in, at-in, getD-map}
 
 -- ---- sets
 

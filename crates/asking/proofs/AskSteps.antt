@@ -26,9 +26,9 @@ use Rattle.state.proofs.StoreLaws.{column-front, length-column}
 use Rattle.asking.specs.declared.Answer.the-variants.{Contradicted, Open, Between}
 use Rattle.asking.specs.Asking.{interval, highest, lowest, answer}
 use Rattle.asking.specs.Claims.{inside, neededAt, everything, Explained}
-use Rattle.asking.specs.Search.{Fits, Best, preds, none}
-use Rattle.asking.specs.Tables.{entryClaim, claimAt, Loaded, Bounded, claimLeft, claimRight, outside}
-use Rattle.asking.specs.Ends.{Ready, needs, First, Complete}
+use Rattle.search.specs.Search.{Fits, Best, preds, none}
+use Rattle.asking.specs.Tables.{entryClaim, claimAt, Loaded, Bounded, claimLeft, claimRight}
+use Rattle.search.specs.Ends.{outside, Ready, needs, First, Complete}
 use Rattle.asking.proofs.TableLaws.{bounded-in}
 use Rattle.asking.proofs.ReadyLaws.{ready-in, rows-most, ends-below}
 use Rattle.asking.proofs.PlainLaws.{plain-contradicted, plain-open, plain-interval, form-bare, form-right}

@@ -16,9 +16,9 @@ use Rattle.state.specs.Form.{inForm, stateOk, datumOk}
 use Rattle.state.proofs.StateLaws.{state-out, held-count-le, entry-count-le, form-ok}
 use Rattle.state.proofs.OkLaws.{ok-datum-out}
 use Rattle.asking.specs.Tables.{entryClaim, claimAt, Loaded, Bounded, claimLeft, claimRight}
-use Rattle.asking.specs.Ends.{noEnd, Ready, Complete}
+use Rattle.search.specs.Ends.{noEnd, Ready, Complete}
 use Rattle.asking.proofs.TableLaws.{bounded-in}
-use Rattle.asking.proofs.EndSteps.{at-in}
+use Rattle.search.proofs.EndSteps.{at-in}
 use Rattle.asking.proofs.ArrayLaws.{claim-entry, claim-datum}
 
 module _ {k : Store} {n rows : ℕ} {counts masks : List ℕ} (loaded : Loaded k n rows counts masks) (most : rows ≤ 48) where

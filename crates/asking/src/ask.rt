@@ -12,7 +12,7 @@ ghost use Rattle.asking.specs.Asking.{highest, lowest, answer};
 ghost use Rattle.asking.specs.Fewest.{some};
 ghost use Rattle.asking.specs.Claims.{everything, Explained};
 ghost use Rattle.asking.specs.Tables.{Loaded};
-ghost use Rattle.asking.specs.Ends.{Complete};
+ghost use Rattle.search.specs.Ends.{Complete};
 use super::Answer;
 
 // The ends of an interval, in order or not.
@@ -124,7 +124,7 @@ fn between(
     let mut rights = [0u64; 48];
     super::claims::get_ends(s, n, rows, &mut lefts, &mut rights);
     let mut listed = [0u32; 48];
-    let left = super::ends::first_end(
+    let left = search::ends::first_end(
         &lefts,
         &rights,
         counts,
@@ -142,7 +142,7 @@ fn between(
     let mut low = [0u64; 48];
     let mut high = [0u64; 48];
     mirror(&lefts, &rights, rows, &mut low, &mut high);
-    let right = super::ends::first_end(
+    let right = search::ends::first_end(
         &low,
         &high,
         counts,
@@ -174,7 +174,7 @@ pub fn ask(s: &[u8], limit: u32) -> Answer
     let mut order = [0u32; 48];
     super::claims::load(s, n, rows, &mut counts, &mut masks, &mut order);
     let free = names::others(own);
-    let set = super::search::predicate_step(
+    let set = search::search::predicate_step(
         &order,
         &counts,
         &masks,

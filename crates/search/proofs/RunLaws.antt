@@ -1,0 +1,279 @@
+-- Runs of left ends, with no right end between them.
+-- The idea: the last end of a run needs the fewest predicates; so where no set explains it, none explains any end of the run. And a set that explains
+-- an end explains those before it, down to the latest left end of the rows that it leaves false. No contract cites this file. Assumes nothing.
+use Prim.Native.Nat.{ℕ, _+_, _-_, _≤_, _<_}
+use mathlib.Core.Path.{_≡_, sym, ap, subst, _∙_}
+use mathlib.Core.Logic.{_⊎_, inl, inr, ⊎-elim}
+use mathlib.Core.Bool.{not}
+use mathlib.Core.List.{List, []}
+use native.Mathlib.Decide.{decLt, decLe}
+use native.Mathlib.Omega.{arith}
+use borrow.Author.Tests.{lt-ltb}
+use lib.Dec.{T, T-not, ltb, ltb→lt}
+use lib.ListN.{getD, take}
+use Rattle.numbers.specs.Numbers.{tab}
+use Rattle.numbers.proofs.NumberLaws.{length-tab, getD-tab}
+use Rattle.names.specs.Sets.{union}
+use Rattle.names.proofs.SetLaws.{subset-le}
+use Rattle.names.proofs.PartLaws.{union-add}
+use Rattle.predicates.specs.Lists.{keep, In}
+use Rattle.predicates.specs.Predicates.{holds}
+use Rattle.predicates.proofs.ListLaws.{true-T, or-l, or-r, or-cases, all-in, all-out, keep-in, keep-out, map-in, map-out}
+use Rattle.search.specs.Search.{Fits, Best, rowTerms, predAt, preds, none}
+use Rattle.search.specs.Ends.{outside, noEnd, Next, Last, IsEnd, Unbroken, Latest, Ready, needs, First, FirstRun, Unexplained}
+use Rattle.search.proofs.EndSteps.{in-take, at-in, outside-test, take-in}
+
+-- ---- rows that lack an instant
+
+module _ (lefts rights : List ℕ) (x k : ℕ) where
+  out-left : x < getD lefts k 0 → T (outside lefts rights x k)
+  out-left h =
+      rw (sym (outside-test lefts rights x k))
+      (or-l (ltb x (getD lefts k 0)) (ltb (getD rights k 0) x) (true-T _ (lt-ltb x (getD lefts k 0) h)))
+
+  out-right : getD rights k 0 < x → T (outside lefts rights x k)
+  out-right h =
+      rw (sym (outside-test lefts rights x k))
+      (or-r (ltb x (getD lefts k 0)) (ltb (getD rights k 0) x) (true-T _ (lt-ltb (getD rights k 0) x h)))
+
+  out-cases : T (outside lefts rights x k) → (x < getD lefts k 0) ⊎ (getD rights k 0 < x)
+  out-cases t =
+      ⊎-elim (λ a. inl (ltb→lt x (getD lefts k 0) a)) (λ a. inr (ltb→lt (getD rights k 0) x a))
+      (or-cases (ltb x (getD lefts k 0)) (ltb (getD rights k 0) x) (rw (sym (outside-test lefts rights x k)) at t))
+
+-- ---- where a run ends
+
+module _ (n rows : ℕ) (lefts rights : List ℕ) (x roof r : ℕ) where
+  pub run-in : Next rights n rows x roof → Last lefts n rows x roof r → Unbroken n rows rights x r
+  run-in next last =
+      record {
+        rising = last .over;
+        clear = λ k a b c. ⊎-elim (λ e. omega arith) (λ w. go k a b c (w .4) (decLt (getD rights k 0) x)) (last .one);
+      }
+    where
+      go : (k : ℕ) → n ≤ k → k < rows → getD rights k 0 < r → r ≤ roof → Dec (getD rights k 0 < x) → getD rights k 0 < x
+      go k a b c high (yes l) = l
+      go k a b c high (no l) = absurd (omega (arith, next .least k a b (omega arith)))
+
+pub run-at : (n rows : ℕ) (lefts : List ℕ) (x roof r : ℕ) → Last lefts n rows x roof r → (r ≡ x) ⊎ IsEnd n rows lefts r
+run-at n rows lefts x roof r last = ⊎-elim (λ e. inl e) (λ w. inr (w .0, w .1, w .2, w .3)) (last .one)
+
+module _ (n rows : ℕ) (lefts rights counts masks order : List ℕ) (ready : Ready n rows lefts rights counts masks order) where
+  -- an empty interval lacks every instant
+  pub out-empty : (x k : ℕ) → k < n → T (outside lefts rights x k)
+  out-empty x k h = go (decLt x (getD lefts k 0))
+    where
+      go : Dec (x < getD lefts k 0) → T (outside lefts rights x k)
+      go (yes a) = out-left lefts rights x k a
+      go (no a) = out-right lefts rights x k (omega (arith, ready .empty k h))
+
+  pub end-below : (x : ℕ) → IsEnd n rows lefts x → x < noEnd
+  end-below x e = omega (arith, e .3, ready .below (e .0) (e .2))
+
+  -- ---- the next run: from the next end on, to x
+
+  module _ (floor from : ℕ) (next : Next lefts n rows floor from) where
+    -- an end below the next one is below the floor
+    pub under-floor : (k : ℕ) → n ≤ k → k < rows → getD lefts k 0 < from → getD lefts k 0 < floor
+    under-floor k a b c = go (decLt (getD lefts k 0) floor)
+      where
+        go : Dec (getD lefts k 0 < floor) → getD lefts k 0 < floor
+        go (yes l) = l
+        go (no l) = absurd (omega (arith, next .least k a b (omega arith)))
+
+    module _ (some : from ≡ noEnd → ⊥) (x : ℕ) (run : Unbroken n rows rights from x) (at : (x ≡ from) ⊎ IsEnd n rows lefts x) where
+      from-end : IsEnd n rows lefts from
+      from-end = ⊎-elim (λ e. absurd (some e)) (λ w. (w .0, w .1, w .2, w .3)) (next .one)
+
+      pub run-is-end : IsEnd n rows lefts x
+      run-is-end = ⊎-elim (λ e. subst (λ (y : ℕ). IsEnd n rows lefts y) (sym e) from-end) (λ w. w) at
+
+      pub runs-room : (x < noEnd) × (floor ≤ x)
+      runs-room = (end-below x run-is-end, ⊎-elim (λ e. absurd (some e)) (λ w. omega (arith, w .4, run .rising)) (next .one))
+
+  module _ (limit free : ℕ) where
+    abbrev pub Explains : ℕ → ℕ → Type 0
+    Explains x u = Fits limit 0 free (needs rows lefts rights counts masks order x) u
+
+    -- what makes true what x needs does so for y, if y needs no more than that and what is true anyhow
+    fits-fewer : (x y u : ℕ)
+        → ((k : ℕ) → k < rows → T (outside lefts rights y k) → T (outside lefts rights x k) ⊎ T (holds u (rowTerms counts masks k)))
+        → Explains x u → Explains y u
+    unfolding needs
+    fits-fewer x y u more f =
+        record {
+          above = f .above;
+          within = f .within;
+          few = f .few;
+          holding = all-in (holds u) (needs rows lefts rights counts masks order y) (λ p m.
+              go p (map-out (rowTerms counts masks) (keep (outside lefts rights y) (take rows order)) p m));
+        }
+      where
+        go : (p : List ℕ) → (k : ℕ) × In k (keep (outside lefts rights y) (take rows order)) × (p ≡ rowTerms counts masks k) → T (holds u p)
+        go p w =
+            let k = w .0 in
+            let there = keep-out (outside lefts rights y) (take rows order) k (w .1) in
+            let j = in-take rows order k (there .0) in
+            let row : k < rows = omega (arith, j .2, ready .placed (j .0) (j .1)) in
+            rw (w .2)
+            (⊎-elim
+            (λ o. all-out (holds u) (needs rows lefts rights counts masks order x) (f .holding) (rowTerms counts masks k)
+            (map-in (rowTerms counts masks) (keep (outside lefts rights x) (take rows order)) k (keep-in (outside lefts rights x) (take rows order) k (there .0) o)))
+            (λ h. h) (more k row (there .1)))
+
+    -- what makes all predicates true explains every instant
+    pub all-explains : (x u : ℕ) → Fits limit 0 free (preds rows order counts masks) u → Explains x u
+    unfolding needs preds predAt
+    all-explains x u f =
+        record {
+          above = f .above;
+          within = f .within;
+          few = f .few;
+          holding = all-in (holds u) (needs rows lefts rights counts masks order x) (λ p m.
+              go p (map-out (rowTerms counts masks) (keep (outside lefts rights x) (take rows order)) p m));
+        }
+      where
+        terms : ℕ → List ℕ
+        terms j = rowTerms counts masks (getD order j 0)
+
+        go : (p : List ℕ) → (k : ℕ) × In k (keep (outside lefts rights x) (take rows order)) × (p ≡ rowTerms counts masks k) → T (holds u p)
+        go p w =
+            let there = keep-out (outside lefts rights x) (take rows order) (w .0) (w .1) in
+            let j = in-take rows order (w .0) (there .0) in
+            let at : getD (tab rows terms) (j .0) [] ≡ p = getD-tab rows (j .0) terms [] (j .1) ∙ ap (rowTerms counts masks) (sym (j .2)) ∙ sym (w .2) in
+            rw at at (all-out (holds u) (tab rows terms) (f .holding) _ (at-in (tab rows terms) [] (j .0) (rw length-tab (j .1))))
+
+    -- ---- the last end of a run
+
+    module _ (x y : ℕ) (run : Unbroken n rows rights x y) where
+      pub run-needs : (z u : ℕ) → x ≤ z → z ≤ y → Explains z u → Explains y u
+      run-needs z u a b = fits-fewer z y u (λ k h o. inl (go k h (out-cases lefts rights y k o) (decLt k n)))
+        where
+          go : (k : ℕ) → k < rows → (y < getD lefts k 0) ⊎ (getD rights k 0 < y) → Dec (k < n) → T (outside lefts rights z k)
+          go k h w (yes c) = out-empty z k c
+          go k h (inl w) (no c) = out-left lefts rights z k (omega arith)
+          go k h (inr w) (no c) = out-right lefts rights z k (omega (arith, run .clear k (omega arith) h w))
+
+      -- with no set for the last end, there is none for any of the run
+      pub run-fails : Unexplained n rows lefts rights counts masks order limit free x → ((u : ℕ) → Explains y u → ⊥)
+          → Unexplained n rows lefts rights counts masks order limit free (y + 1)
+      run-fails before fails k a b c u f = go (decLt (getD lefts k 0) x)
+        where
+          go : Dec (getD lefts k 0 < x) → ⊥
+          go (yes l) = before k a b l u f
+          go (no l) = fails u (run-needs (getD lefts k 0) u (omega arith) (omega arith) f)
+
+      pub run-part : (z : ℕ) → x ≤ z → z ≤ y → Unbroken n rows rights x z
+      run-part z a b = record { rising = a; clear = λ k c d e. run .clear k c d (omega arith) }
+
+    module _ (small : free < none) where
+      -- a search that found no set
+      pub no-set : (x r : ℕ) → Best none limit 0 free (needs rows lefts rights counts masks order x) none r → none ≤ r
+          → (u : ℕ) → Explains x u → ⊥
+      no-set x r b h u g =
+          let low : u < none = omega (arith, subset-le u (union 0 free) (g .within), union-add 0 free) in
+          ⊎-elim (λ e. absurd (omega arith)) (λ e. absurd (omega arith)) (b .least u g)
+
+      -- ---- one run after the other
+
+      module _ (floor from : ℕ) (before : Unexplained n rows lefts rights counts masks order limit free floor) (next : Next lefts n rows floor from) where
+        passed : Unexplained n rows lefts rights counts masks order limit free from
+        passed k a b c = before k a b (under-floor floor from next k a b c)
+
+        pub runs-none : from ≡ noEnd → FirstRun n rows lefts rights counts masks order limit free 0 0 none
+        runs-none e =
+            record {
+              run = λ h. absurd (omega arith);
+              begins = λ h. absurd (omega arith);
+              explained = λ h. absurd (omega arith);
+              before = λ h. absurd (omega arith);
+              never = λ _. rw e at passed;
+            }
+
+        module _ (some : from ≡ noEnd → ⊥) (x : ℕ) (run : Unbroken n rows rights from x) (at : (x ≡ from) ⊎ IsEnd n rows lefts x) where
+          pub runs-found : (r : ℕ) → Best none limit 0 free (needs rows lefts rights counts masks order x) none r → r < none
+              → FirstRun n rows lefts rights counts masks order limit free from x r
+          runs-found r b l =
+              record {
+                run = λ _. run;
+                begins = λ _. from-end floor from next some x run at;
+                explained = λ _. (run-is-end floor from next some x run at, ⊎-elim (λ e. absurd (omega arith)) (λ f. f) (b .from));
+                before = λ _. passed;
+                never = λ h. absurd (omega arith);
+              }
+
+          pub runs-next : Best none limit 0 free (needs rows lefts rights counts masks order x) none none
+              → Unexplained n rows lefts rights counts masks order limit free (x + 1)
+          runs-next b = run-fails from x run passed (no-set x none b (omega arith))
+
+    pub no-first : (from end set : ℕ) → FirstRun n rows lefts rights counts masks order limit free from end set → none ≤ set
+        → First n rows lefts rights counts masks order limit free 0 none
+    no-first from end set first h =
+        record { found = λ l. absurd (omega arith); others = λ k a b c. first .never h k a b (ready .below k b) }
+
+    -- ---- from an end that a set explains to the first that it does
+
+    needed-true : (x u k : ℕ) → Explains x u → k < rows → T (outside lefts rights x k) → T (holds u (rowTerms counts masks k))
+    unfolding needs
+    needed-true x u k f h o =
+        all-out (holds u) (needs rows lefts rights counts masks order x) (f .holding) (rowTerms counts masks k)
+        (map-in (rowTerms counts masks) (keep (outside lefts rights x) (take rows order)) k (keep-in (outside lefts rights x) (take rows order) k (take-in rows order (ready .ordered) (ready .present k h)) o))
+
+    module _ (x u l e : ℕ) (f : Explains x u) (end : IsEnd n rows lefts x) (latest : Latest n rows lefts counts masks u l)
+        (next : Next lefts n rows l e) where
+      latest-le : l ≤ x
+      latest-le = ⊎-elim (λ z. omega arith) (λ w. go w (decLe (getD lefts (w .0) 0) x)) (latest .one)
+        where
+          go : (w : (k : ℕ) × (n ≤ k) × (k < rows) × (l ≡ getD lefts k 0) × T (not (holds u (rowTerms counts masks k))))
+              → Dec (getD lefts (w .0) 0 ≤ x) → l ≤ x
+          go w (yes h) = omega (arith, w .3)
+          go w (no h) =
+              absurd (T-not (holds u (rowTerms counts masks (w .0))) (w .4)
+              (needed-true x u (w .0) f (w .2) (out-left lefts rights x (w .0) (omega arith))))
+
+      pub back-le : e ≤ x
+      back-le = omega (arith, end .3, latest-le, next .least (end .0) (end .1) (end .2) (omega (arith, end .3, latest-le)))
+
+      pub back-end : IsEnd n rows lefts e
+      back-end = ⊎-elim (λ q. absurd (omega (arith, back-le, end-below x end))) (λ w. (w .0, w .1, w .2, w .3)) (next .one)
+
+      pub back-explains : Explains e u
+      back-explains = fits-fewer x e u (λ k h o. go k h (out-cases lefts rights e k o) (decLt k n)) f
+        where
+          far : l ≤ e
+          far = ⊎-elim (λ q. absurd (omega (arith, back-le, end-below x end))) (λ w. w .4) (next .one)
+
+          go : (k : ℕ) → k < rows → (e < getD lefts k 0) ⊎ (getD rights k 0 < e) → Dec (k < n)
+              → T (outside lefts rights x k) ⊎ T (holds u (rowTerms counts masks k))
+          go k h w (yes c) = inl (out-empty x k c)
+          go k h (inl w) (no c) = ⊎-elim (λ m. absurd (omega (arith, far))) (λ t. inr t) (latest .most k (omega arith) h)
+          go k h (inr w) (no c) = inl (out-right lefts rights x k (omega (arith, back-le)))
+
+    module _ (small : free < none) (from found by : ℕ) (first : FirstRun n rows lefts rights counts masks order limit free from found by)
+        (some : by < none) (end set : ℕ) (is-end : IsEnd n rows lefts end) (f : Explains end set) where
+      -- no end before this one is explained
+      back-first : Unexplained n rows lefts rights counts masks order limit free end → First n rows lefts rights counts masks order limit free end set
+      back-first before =
+          let low : set < none = omega (arith, subset-le set (union 0 free) (f .within), union-add 0 free) in
+          record {
+            found = λ _. (is-end .0, is-end .1, is-end .2, is-end .3, f);
+            others = λ k a b c. before k a b (⊎-elim (λ z. absurd (omega arith)) (λ l. l) c);
+          }
+
+      -- the run has none before it
+      pub back-done : end ≤ from → First n rows lefts rights counts masks order limit free end set
+      back-done h = back-first (λ k a b c. first .before some k a b (omega arith))
+
+      module _ (over : from < end) (high : end ≤ found) (x : ℕ) (last : Last lefts n rows from (end - 1) x) where
+        pub last-is-end : IsEnd n rows lefts x
+        last-is-end = ⊎-elim (λ e. subst (λ (y : ℕ). IsEnd n rows lefts y) (sym e) (first .begins some)) (λ w. (w .0, w .1, w .2, w .3)) (last .one)
+
+        pub last-lt : x < end
+        last-lt = ⊎-elim (λ e. omega arith) (λ w. omega (arith, w .4)) (last .one)
+
+        -- nor is the one before it in the run
+        pub back-stop : (r : ℕ) → Best none limit 0 free (needs rows lefts rights counts masks order x) none r → none ≤ r
+            → First n rows lefts rights counts masks order limit free end set
+        back-stop r b h =
+            back-first (λ k a c d. run-fails from x (run-part from found (first .run some) x (last .over) (omega (arith, last-lt)))
+            (first .before some) (no-set small x r b h) k a c (omega (arith, last .most k a c (omega arith))))

@@ -1,0 +1,299 @@
+// The ends at which an answer can begin (document 01, "Asking"): left ends rising, to the first that some set of failed names explains. Ends with
+// no right end between them are tried together: the last of them needs the fewest predicates.
+ghost use mathlib.Core.Path.{_≡_};
+ghost use mathlib.Core.Logic.{_⊎_};
+ghost use Prim.Native.Nat.{ℕ, _+_, _≤_, _<_};
+ghost use lib.Dec.{ltb};
+ghost use lib.ListN.{length, getD, take};
+ghost use Rattle.numbers.specs.Numbers.{put};
+ghost use Rattle.predicates.specs.Lists.{keep};
+ghost use Rattle.search.specs.Search.{none, Parted};
+ghost use Rattle.search.specs.Ends.{outside, Next, Last, IsEnd, Unbroken, FirstRun, Latest, Ready, First};
+
+// An end and the set that explains it; 2^29, the mask of no set, where there is none.
+pub struct Reached {
+    pub end: u64,
+    pub set: u32,
+}
+
+// A run of left ends with no right end between them: its first and its last end, and the set that explains the last; 2^29 where no run has one.
+pub struct Run {
+    pub from: u64,
+    pub end: u64,
+    pub set: u32,
+}
+
+// The least of the ends in places `from` to `to` that is no less than the floor; 2^64 - 1 where there is none.
+pub fn next_end(ends: &[u64], from: usize, to: usize, floor: u64) -> u64
+    requires { ⌜ (from ≤ to) × (to ≤ length (now ends)) ⌝ }
+    ensures { λ r. ⌜ Next (now (ends .entry)) from to floor r ⌝ }
+{
+    let mut least: u64 = 18446744073709551615;
+    let mut i = from;
+    while i < to {
+        let end = ends[i];
+        if (floor <= end) & (end < least) {
+            least = end;
+        }
+        i += 1;
+    }
+    least
+}
+
+// The greatest of the ends in places `from` to `to` that lies from the floor to the roof; the floor where there is none.
+pub fn last_end(ends: &[u64], from: usize, to: usize, floor: u64, roof: u64) -> u64
+    requires { ⌜ (from ≤ to) × (to ≤ length (now ends)) ⌝ }
+    ensures { λ r. ⌜ Last (now (ends .entry)) from to floor roof r ⌝ }
+{
+    let mut last = floor;
+    let mut i = from;
+    while i < to {
+        let end = ends[i];
+        if (last < end) & (end <= roof) {
+            last = end;
+        }
+        i += 1;
+    }
+    last
+}
+
+// The last end of the run that the left end x begins.
+pub fn run_end(lefts: &[u64], rights: &[u64], n: usize, rows: usize, x: u64) -> u64
+    requires { ⌜ (n ≤ rows) × (rows ≤ length (now lefts)) × (rows ≤ length (now rights)) ⌝ }
+    ensures { λ r. ⌜ Unbroken n rows (now (rights .entry)) x r × ((r ≡ x) ⊎ IsEnd n rows (now (lefts .entry)) r) ⌝ }
+{
+    let roof = next_end(rights, n, rows, x);
+    last_end(lefts, n, rows, x, roof)
+}
+
+// Lists, in the order of the search, the rows whose interval lacks the instant x. Answers how many.
+pub fn list_outside(
+    order: &[u32],
+    rows: usize,
+    lefts: &[u64],
+    rights: &[u64],
+    x: u64,
+    listed: &mut [u32],
+) -> usize
+    requires { ⌜ (rows ≤ 48) × (rows ≤ length (now order)) × (rows ≤ length (now listed)) × (rows ≤ length (now lefts)) × (rows ≤ length (now rights)) × ((j : ℕ) → j < rows → getD (now order) j 0 < rows) ⌝ }
+    ensures { λ r. ⌜ (r ≡ length (keep (outside (now (lefts .entry)) (now (rights .entry)) x) (take rows (now (order .entry))))) × (r ≤ rows) ⌝ }
+    ensures { λ _. ⌜ now (listed .exit) ≡ put 0 (keep (outside (now (lefts .entry)) (now (rights .entry)) x) (take rows (now (order .entry)))) (now (listed .entry)) ⌝ }
+{
+    let mut m: usize = 0;
+    let mut i: usize = 0;
+    while i < rows {
+        let row = order[i] as usize;
+        if (x < lefts[row]) | (rights[row] < x) {
+            listed[m] = order[i];
+            m += 1;
+        }
+        i += 1;
+    }
+    m
+}
+
+// Lists, in the order of the search, the first n rows: the entries. Answers how many.
+pub fn list_entries(order: &[u32], rows: usize, n: usize, listed: &mut [u32]) -> usize
+    requires { ⌜ (rows ≤ 48) × (rows ≤ length (now order)) × (rows ≤ length (now listed)) × ((j : ℕ) → j < rows → getD (now order) j 0 < rows) ⌝ }
+    ensures { λ r. ⌜ (r ≡ length (keep (λ k. ltb k n) (take rows (now (order .entry))))) × (r ≤ rows) ⌝ }
+    ensures { λ _. ⌜ now (listed .exit) ≡ put 0 (keep (λ k. ltb k n) (take rows (now (order .entry)))) (now (listed .entry)) ⌝ }
+{
+    let mut m: usize = 0;
+    let mut i: usize = 0;
+    while i < rows {
+        let row = order[i] as usize;
+        if row < n {
+            listed[m] = order[i];
+            m += 1;
+        }
+        i += 1;
+    }
+    m
+}
+
+// The first run of left ends of rows n to `rows`, rising, whose last end some set within the limit explains, with the set. The search lists rows in
+// `listed`; what it leaves there is free.
+fn first_run(
+    lefts: &[u64],
+    rights: &[u64],
+    counts: &[u32],
+    masks: &[u32],
+    order: &[u32],
+    listed: &mut [u32],
+    n: usize,
+    rows: usize,
+    limit: u32,
+    free: u32,
+) -> Run
+    requires { ⌜ Ready n rows (now lefts) (now rights) (now counts) (now masks) (now order) × (rows ≤ length (now listed)) × (free < none) ⌝ }
+    ensures { λ r. ⌜ FirstRun n rows (now (lefts .entry)) (now (rights .entry)) (now (counts .entry)) (now (masks .entry)) (now (order .entry)) limit free (r .from) (r .end) (r .set) ⌝ }
+    ensures { λ _. ⌜ length (now (listed .exit)) ≡ length (now (listed .entry)) ⌝ }
+{
+    let mut floor: u64 = 0;
+    let run = 'ends: loop {
+        let from = next_end(lefts, n, rows, floor);
+        if from == 18446744073709551615 {
+            break 'ends Run {
+                from: 0,
+                end: 0,
+                set: 536870912,
+            };
+        }
+        let x = run_end(lefts, rights, n, rows, from);
+        let m = list_outside(order, rows, lefts, rights, x, listed);
+        if m == 0 {
+            break 'ends Run {
+                from,
+                end: x,
+                set: 0,
+            };
+        }
+        let part = super::search::terms_at(listed, counts, masks, 0);
+        let mut at = part.at;
+        let end = part.end;
+        let mut left = free;
+        while at < end {
+            let t = masks[at];
+            if super::search::worth(t, 0, left, limit, 536870912) {
+                let set = super::search::predicate_step(
+                    listed,
+                    counts,
+                    masks,
+                    m,
+                    limit,
+                    536870912,
+                    1,
+                    names::union(0, t),
+                    left,
+                    536870912,
+                );
+                if set < 536870912 {
+                    break 'ends Run { from, end: x, set };
+                }
+                left = super::search::freed(t, 0, left);
+            }
+            at += 1;
+        }
+        floor = x + 1;
+    };
+    run
+}
+
+// The greatest left end of the rows from n on whose predicates the set leaves false; 0 where it makes all of them true.
+fn latest(lefts: &[u64], counts: &[u32], masks: &[u32], n: usize, rows: usize, set: u32) -> u64
+    requires { ⌜ (n ≤ rows) × (rows ≤ length (now lefts)) × ((k : ℕ) → k < rows → Parted (now counts) (now masks) k) ⌝ }
+    ensures { λ r. ⌜ Latest n rows (now (lefts .entry)) (now (counts .entry)) (now (masks .entry)) set r ⌝ }
+{
+    let mut last: u64 = 0;
+    let mut i = n;
+    while i < rows {
+        let end = lefts[i];
+        if last < end {
+            if !super::search::row_holds(counts, masks, i, set) {
+                last = end;
+            }
+        }
+        i += 1;
+    }
+    last
+}
+
+// From the run whose last end a set explains to the first end in it that some set explains. A set that explains an end explains all ends before it
+// down to the latest of those that it leaves false.
+fn first_in_run(
+    lefts: &[u64],
+    rights: &[u64],
+    counts: &[u32],
+    masks: &[u32],
+    order: &[u32],
+    listed: &mut [u32],
+    n: usize,
+    rows: usize,
+    limit: u32,
+    free: u32,
+    from: u64,
+    found: u64,
+    by: u32,
+) -> Reached
+    requires { ⌜ Ready n rows (now lefts) (now rights) (now counts) (now masks) (now order) × (rows ≤ length (now listed)) × (free < none) ⌝ }
+    requires { ⌜ FirstRun n rows (now lefts) (now rights) (now counts) (now masks) (now order) limit free from found by × (by < none) ⌝ }
+    ensures { λ r. ⌜ First n rows (now (lefts .entry)) (now (rights .entry)) (now (counts .entry)) (now (masks .entry)) (now (order .entry)) limit free (r .end) (r .set) ⌝ }
+    ensures { λ _. ⌜ length (now (listed .exit)) ≡ length (now (listed .entry)) ⌝ }
+{
+    let mut set = by;
+    let mut end = next_end(lefts, n, rows, latest(lefts, counts, masks, n, rows, set));
+    while from < end {
+        let x = last_end(lefts, n, rows, from, end - 1);
+        let m = list_outside(order, rows, lefts, rights, x, listed);
+        let other = super::search::predicate_step(
+            listed,
+            counts,
+            masks,
+            m,
+            limit,
+            536870912,
+            0,
+            0,
+            free,
+            536870912,
+        );
+        if 536870912 <= other {
+            return Reached { end, set };
+        }
+        set = other;
+        end = next_end(lefts, n, rows, latest(lefts, counts, masks, n, rows, set));
+    }
+    Reached { end, set }
+}
+
+// The first of the left ends of rows n to `rows` that some set within the limit explains, with the set.
+pub fn first_end(
+    lefts: &[u64],
+    rights: &[u64],
+    counts: &[u32],
+    masks: &[u32],
+    order: &[u32],
+    listed: &mut [u32],
+    n: usize,
+    rows: usize,
+    limit: u32,
+    free: u32,
+) -> Reached
+    requires { ⌜ Ready n rows (now lefts) (now rights) (now counts) (now masks) (now order) × (rows ≤ length (now listed)) × (free < none) ⌝ }
+    ensures { λ r. ⌜ First n rows (now (lefts .entry)) (now (rights .entry)) (now (counts .entry)) (now (masks .entry)) (now (order .entry)) limit free (r .end) (r .set) ⌝ }
+    ensures { λ _. ⌜ length (now (listed .exit)) ≡ length (now (listed .entry)) ⌝ }
+{
+    let run = first_run(
+        lefts,
+        rights,
+        counts,
+        masks,
+        order,
+        listed,
+        n,
+        rows,
+        limit,
+        free,
+    );
+    if 536870912 <= run.set {
+        return Reached {
+            end: 0,
+            set: 536870912,
+        };
+    }
+    first_in_run(
+        lefts,
+        rights,
+        counts,
+        masks,
+        order,
+        listed,
+        n,
+        rows,
+        limit,
+        free,
+        run.from,
+        run.end,
+        run.set,
+    )
+}
