@@ -10,11 +10,11 @@ use native.Mathlib.Decide.{decLt}
 use native.Mathlib.Omega.{arith}
 use lib.Count.{ones}
 use lib.ListN.{length, getD}
-use Rattle.names.specs.Sets.{others}
+use Rattle.names.specs.Sets.{others, noSet}
 use Rattle.state.specs.Model.{Datum, Store, State}
+use Rattle.search.specs.Search.{Rows}
 use Rattle.asking.specs.declared.Fewest.the-variants.{Over, Few}
 use Rattle.asking.specs.Instants.{Allowed}
-use Rattle.search.specs.Search.{none}
 use Rattle.asking.specs.Tables.{entryClaim, claimAt, Loaded, Bounded}
 use Rattle.search.specs.Ends.{outside, Complete, Least}
 use Rattle.asking.specs.Asking.{answer}
@@ -27,26 +27,26 @@ use Rattle.search.proofs.LeastLaws.{Tried, least-out}
 
 -- ---- the sets tried, and those that work
 
-module _ (k : Store) (n rows : ℕ) (counts masks order lefts rights : List ℕ) (loaded : Loaded k n rows counts masks)
+module _ (k : Store) (n rows : ℕ) (table : Rows) (order lefts rights : List ℕ) (loaded : Loaded k n rows table)
     (bounded : Bounded k rows lefts rights) (complete : Complete rows order) (limit own u : ℕ) where
   -- a row behind the entries has a held datum
   row-datum : (i : ℕ) → n ≤ i → claimAt k i ≡ getD (k .held) (i - n) (entryClaim [])
   row-datum i h =
       let place : i ≡ length (k .entries) + (i - n) = omega (arith, loaded .entries-are) in ap (claimAt k) place ∙ claim-datum k (i - n)
 
-  tried-seen : Tried n rows lefts rights counts masks order limit (others own) u → Allowed limit own u × Seen u k
-  tried-seen (inl f) = (fits-allowed limit own u _ f, inl (order-everything k n rows counts masks order loaded complete u (f .holding)))
+  tried-seen : Tried n rows lefts rights table order limit (others own) u → Allowed limit own u × Seen u k
+  tried-seen (inl f) = (fits-allowed limit own u _ f, inl (order-everything k n rows table order loaded complete u (f .holding)))
   tried-seen (inr t) =
       let i = t .0 in
       let f = t .3 in
       let end : getD lefts i 0 ≡ getD (k .held) (i - n) (entryClaim []) .left = rw (sym (row-datum i (t .1))) (bounded .left-is i (t .2)) in
       let outside = left-outside k rows lefts rights bounded (getD lefts i 0) in
-      let needed = needs-needed k n rows counts masks order loaded complete u lefts rights _ _ outside (f .holding) in
+      let needed = needs-needed k n rows table order loaded complete u lefts rights _ _ outside (f .holding) in
       let there = at-in (k .held) (entryClaim []) (i - n) (omega (arith, t .1, t .2, loaded .rows-are)) in
       (fits-allowed limit own u _ f, inr (getD (k .held) (i - n) (entryClaim []), there, rw end at needed))
 
-  seen-tried : Allowed limit own u → Seen u k → Tried n rows lefts rights counts masks order limit (others own) u
-  seen-tried a (inl t) = inl (allowed-fits limit own u _ a (everything-order k n rows counts masks order loaded complete u t))
+  seen-tried : Allowed limit own u → Seen u k → Tried n rows lefts rights table order limit (others own) u
+  seen-tried a (inl t) = inl (allowed-fits limit own u _ a (everything-order k n rows table order loaded complete u t))
   seen-tried a (inr t) =
       let w = in-at (k .held) (entryClaim []) (t .0) (t .1) in
       let i = n + w .0 in
@@ -56,7 +56,7 @@ module _ (k : Store) (n rows : ℕ) (counts masks order lefts rights : List ℕ)
       w .2 ∙ ap (λ (j : ℕ). getD (k .held) j (entryClaim [])) place ∙ sym (row-datum i (omega arith)) in
       let end : t .0 .left ≡ getD lefts i 0 = ap (λ (d : Datum). d .left) same ∙ sym (bounded .left-is i l) in
       let outside = left-outside k rows lefts rights bounded (getD lefts i 0) in
-      let needed = needed-needs k n rows counts masks order loaded complete u lefts rights _ _ outside (rw end at (t .2)) in
+      let needed = needed-needs k n rows table order loaded complete u lefts rights _ _ outside (rw end at (t .2)) in
       inr (i, omega arith, l, allowed-fits limit own u _ a needed)
 
 -- ---- by rising limits
@@ -71,8 +71,8 @@ floor-one st e = record { under = λ s w. omega (arith, works-failed st e s w) }
 pub floor-over : (st : State) → Floor st 5 → Over ≡ fewest st
 floor-over st f = fewest-over st (λ s w. omega (arith, f .under s w, w .0 .few))
 
-module _ {st : State} {n rows : ℕ} {counts masks order lefts rights : List ℕ} (p : Prepared st n rows counts masks order lefts rights) {limit r : ℕ}
-    (small : limit ≤ 4) (w : Least n rows lefts rights counts masks order limit (others (st .head .own)) r) (floor : Floor st limit) where
+module _ {st : State} {n rows : ℕ} {table : Rows} {order lefts rights : List ℕ} (p : Prepared st n rows table order lefts rights) {limit r : ℕ}
+    (small : limit ≤ 4) (w : Least n rows lefts rights table order limit (others (st .head .own)) r) (floor : Floor st limit) where
   abbrev own : ℕ
   own = st .head .own
 
@@ -80,17 +80,17 @@ module _ {st : State} {n rows : ℕ} {counts masks order lefts rights : List ℕ
   least-works : (s : ℕ) → Works st s → ones s ≤ limit → r ≤ s
   least-works s v h =
       let a : Allowed limit own s = record { names = v .0 .names; few = h; others = v .0 .others } in
-      least-out n rows lefts rights counts masks order limit (others own) r w .least s
-      (seen-tried (st .store) n rows counts masks order lefts rights (p .loaded) (p .bounded) (p .complete) limit own s a (works-ends st s v))
+      least-out n rows lefts rights table order limit (others own) r w .least s
+      (seen-tried (st .store) n rows table order lefts rights (p .loaded) (p .bounded) (p .complete) limit own s a (works-ends st s v))
 
-  pub floor-found : r < none → Few limit r ≡ fewest st
+  pub floor-found : r < noSet → Few limit r ≡ fewest st
   floor-found h =
-      let t = tried-seen (st .store) n rows counts masks order lefts rights (p .loaded) (p .bounded) (p .complete) limit own r
+      let t = tried-seen (st .store) n rows table order lefts rights (p .loaded) (p .bounded) (p .complete) limit own r
       (⊎-elim (λ e. absurd (omega arith)) (λ t. t) (w .from)) in
       let a : Allowed 4 own r = record { names = t .0 .names; few = omega (arith, t .0 .few); others = t .0 .others } in
       fewest-found st limit r (ends-works st r a (t .1)) (t .0 .few) (floor .under) least-works
 
-  pub floor-next : none ≤ r → Floor st (limit + 1)
+  pub floor-next : noSet ≤ r → Floor st (limit + 1)
   floor-next h = record { under = λ s v. go s v (decLt limit (ones s)) }
     where
       go : (s : ℕ) → Works st s → Dec (limit < ones s) → limit + 1 ≤ ones s

@@ -13,14 +13,14 @@ use lib.Dec.{T, eqb, leb, ltb, leb→le, ltb→lt, nltb→le}
 use lib.ListN.{length, getD, take, drop, set, length-append, length-set, length-map, List·getD-append}
 use lib.Seq.{take-suc}
 use lib.Count.{ones}
-use Rattle.names.specs.Sets.{subset, union, less}
+use Rattle.names.specs.Sets.{subset, union, less, noSet}
 use Rattle.names.proofs.SetLaws.{ones-empty}
 use Rattle.numbers.specs.Numbers.{put, tab}
 use Rattle.numbers.proofs.NumberLaws.{put-then, put-front, tab-ext}
 use Rattle.predicates.specs.Lists.{keep, In}
 use Rattle.predicates.specs.Predicates.{holds}
 use Rattle.predicates.proofs.ListLaws.{both, both-l, both-r, true-T, split, keep-out, keep-append}
-use Rattle.search.specs.Search.{Best, Rows, rowTerms, predAt, preds, none}
+use Rattle.search.specs.Search.{Rows, rowWidth, Best, RowsFit, rowTerms, predAt, preds}
 use Rattle.search.specs.Ends.{outside, noEnd, Next, Last, Latest, Ready, needs, Trying}
 use Rattle.search.proofs.SearchLaws.{best-done}
 use Rattle.search.proofs.SearchSteps.{rest-next, pred-part, term-none, term-skip, term-stop, term-on}
@@ -108,26 +108,26 @@ module _ (ends : List ℕ) (from i floor roof r : ℕ) (h : from ≤ i) (l : Las
 
 -- ---- the latest left end that a set leaves false
 
-pub latest-none : (n : ℕ) (lefts counts masks : List ℕ) (set : ℕ) → Latest n n lefts counts masks set 0
-latest-none n lefts counts masks set = record { one = inl refl; most = λ k a b. absurd (omega arith) }
+pub latest-none : (n : ℕ) (lefts : List ℕ) (table : Rows) (set : ℕ) → Latest n n lefts table set 0
+latest-none n lefts table set = record { one = inl refl; most = λ k a b. absurd (omega arith) }
 
-module _ (n i : ℕ) (lefts counts masks : List ℕ) (set r : ℕ) (h : n ≤ i) (l : Latest n i lefts counts masks set r) where
+module _ (n i : ℕ) (lefts : List ℕ) (table : Rows) (set r : ℕ) (h : n ≤ i) (l : Latest n i lefts table set r) where
   -- with row i, the latest is `x`
-  later : (x : ℕ) → r ≤ x → (getD lefts i 0 ≤ x) ⊎ T (holds set (rowTerms counts masks i)) → (k : ℕ) → n ≤ k → k < i + 1
-      → (getD lefts k 0 ≤ x) ⊎ T (holds set (rowTerms counts masks k))
+  later : (x : ℕ) → r ≤ x → (getD lefts i 0 ≤ x) ⊎ T (holds set (rowTerms table i)) → (k : ℕ) → n ≤ k → k < i + 1
+      → (getD lefts k 0 ≤ x) ⊎ T (holds set (rowTerms table k))
   later x p q k a b = go (decLt k i)
     where
-      go : Dec (k < i) → (getD lefts k 0 ≤ x) ⊎ T (holds set (rowTerms counts masks k))
+      go : Dec (k < i) → (getD lefts k 0 ≤ x) ⊎ T (holds set (rowTerms table k))
       go (yes d) = ⊎-elim (λ e. inl (le-trans e p)) (λ t. inr t) (l .most k a d)
       go (no d) =
           let e : k ≡ i = omega arith in
-          subst (λ (j : ℕ). (getD lefts j 0 ≤ x) ⊎ T (holds set (rowTerms counts masks j))) (sym e) q
+          subst (λ (j : ℕ). (getD lefts j 0 ≤ x) ⊎ T (holds set (rowTerms table j))) (sym e) q
 
-  pub latest-take : r < getD lefts i 0 → T (not (holds set (rowTerms counts masks i))) → Latest n (i + 1) lefts counts masks set (getD lefts i 0)
+  pub latest-take : r < getD lefts i 0 → T (not (holds set (rowTerms table i))) → Latest n (i + 1) lefts table set (getD lefts i 0)
   latest-take up t =
       record { one = inr (i, h, omega arith, refl, t); most = later (getD lefts i 0) (omega arith) (inl (le-refl (getD lefts i 0))) }
 
-  pub latest-pass : (getD lefts i 0 ≤ r) ⊎ T (holds set (rowTerms counts masks i)) → Latest n (i + 1) lefts counts masks set r
+  pub latest-pass : (getD lefts i 0 ≤ r) ⊎ T (holds set (rowTerms table i)) → Latest n (i + 1) lefts table set r
   latest-pass q =
       record {
         one = ⊎-elim (λ z. inl z) (λ w. inr (w .0, w .1, omega (arith, w .2), w .3, w .4)) (l .one);
@@ -215,7 +215,7 @@ getD-map f (x ∷ l) a b zero h = refl
 getD-map f (x ∷ l) a b (suc j) h = getD-map f l a b j (omega arith)
 
 -- what passes a test
-module _ (n rows : ℕ) (lefts rights counts masks order l₀ l : List ℕ) (ready : Ready n rows lefts rights counts masks order) (long : rows ≤ length l₀)
+module _ (n rows : ℕ) (lefts rights : List ℕ) (table : Rows) (order l₀ l : List ℕ) (ready : Ready n rows lefts rights table order) (long : rows ≤ length l₀)
     (f : ℕ → Bool) (m : ℕ) (count : m ≡ length (keep f (take rows order))) (few : m ≤ rows) (e : l ≡ put 0 (keep f (take rows order)) l₀) where
   abbrev kept : List ℕ
   kept = keep f (take rows order)
@@ -233,7 +233,7 @@ module _ (n rows : ℕ) (lefts rights counts masks order l₀ l : List ℕ) (rea
       let w = in-take rows order (getD kept j 0) (there .0) in
       omega (arith, kept-at j h, w .2, ready .placed (w .0) (w .1))
 
-  pub kept-rows : Rows m l counts masks
+  pub kept-rows : RowsFit m l table
   kept-rows =
       record {
         listed-long = omega (arith, ap length front, length-append kept (drop m l₀), count);
@@ -243,65 +243,66 @@ module _ (n rows : ℕ) (lefts rights counts masks order l₀ l : List ℕ) (rea
         parted = λ j h. ready .parted (getD l j 0) (kept-row j h);
       }
 
-  pub kept-preds : preds m l counts masks ≡ map (rowTerms counts masks) (keep f (take rows order))
+  pub kept-preds : preds m l table ≡ map (rowTerms table) (keep f (take rows order))
   unfolding preds predAt
   kept-preds =
-      tab-ext [] m (λ j. rowTerms counts masks (getD l j 0)) (map (rowTerms counts masks) kept) (length-map kept (rowTerms counts masks) ∙ sym count)
-      (λ j h. ap (rowTerms counts masks) (kept-at j h) ∙ sym (getD-map (rowTerms counts masks) kept 0 [] j (omega (arith, count))))
+      tab-ext [] m (λ j. rowTerms table (getD l j 0)) (map (rowTerms table) kept) (length-map kept (rowTerms table) ∙ sym count)
+      (λ j h. ap (rowTerms table) (kept-at j h) ∙ sym (getD-map (rowTerms table) kept 0 [] j (omega (arith, count))))
 
 -- what lacks an instant
-module _ (n rows : ℕ) (lefts rights counts masks order l₀ l : List ℕ) (ready : Ready n rows lefts rights counts masks order) (long : rows ≤ length l₀)
+module _ (n rows : ℕ) (lefts rights : List ℕ) (table : Rows) (order l₀ l : List ℕ) (ready : Ready n rows lefts rights table order) (long : rows ≤ length l₀)
     (x m : ℕ) (count : m ≡ length (keep (outside lefts rights x) (take rows order))) (few : m ≤ rows)
     (e : l ≡ put 0 (keep (outside lefts rights x) (take rows order)) l₀) where
   pub listed-row : (j : ℕ) → j < m → getD l j 0 < rows
-  listed-row = kept-row n rows lefts rights counts masks order l₀ l ready long (outside lefts rights x) m count few e
+  listed-row = kept-row n rows lefts rights table order l₀ l ready long (outside lefts rights x) m count few e
 
-  pub listed-rows : Rows m l counts masks
-  listed-rows = kept-rows n rows lefts rights counts masks order l₀ l ready long (outside lefts rights x) m count few e
+  pub listed-rows : RowsFit m l table
+  listed-rows = kept-rows n rows lefts rights table order l₀ l ready long (outside lefts rights x) m count few e
 
-  pub listed-needs : preds m l counts masks ≡ needs rows lefts rights counts masks order x
+  pub listed-needs : preds m l table ≡ needs rows lefts rights table order x
   unfolding needs
-  listed-needs = kept-preds n rows lefts rights counts masks order l₀ l ready long (outside lefts rights x) m count few e
+  listed-needs = kept-preds n rows lefts rights table order l₀ l ready long (outside lefts rights x) m count few e
 
 -- ---- the terms of the first predicate, one after the other
 
-module _ (limit free : ℕ) (whole : List (List ℕ)) (masks : List ℕ) where
+module _ (limit free : ℕ) (whole : List (List ℕ)) where
   -- the first of the listed rows has them
-  pub trying-begin : (m : ℕ) (l counts : List ℕ) (at end : ℕ) → 0 < m → preds m l counts masks ≡ whole → at ≡ getD l 0 0 * 16
-      → end ≡ getD l 0 0 * 16 + getD counts (getD l 0 0) 0 → Trying limit free whole masks (drop 1 (preds m l counts masks)) end at free
-  trying-begin m l counts at end h e p q r b =
-      subst (λ (ps : List (List ℕ)). Best none limit 0 free ps none r) (sym (rest-next m l counts masks 0 h) ∙ e)
-      (subst (λ (ts : List ℕ). Best none limit 0 free (ts ∷ drop 1 (preds m l counts masks)) none r) (pred-part l counts masks 0 at end p q) b)
+  pub trying-begin : (m : ℕ) (l : List ℕ) (table : Rows) (at end : ℕ) → 0 < m → preds m l table ≡ whole → at ≡ getD l 0 0 * rowWidth
+      → end ≡ getD l 0 0 * rowWidth + getD (table .counts) (getD l 0 0) 0
+      → Trying limit free whole (table .masks) (drop 1 (preds m l table)) end at free
+  trying-begin m l table at end h e p q r b =
+      subst (λ (ps : List (List ℕ)). Best noSet limit 0 free ps noSet r) (sym (rest-next m l table 0 h) ∙ e)
+      (subst (λ (ts : List ℕ). Best noSet limit 0 free (ts ∷ drop 1 (preds m l table)) noSet r) (pred-part l table 0 at end p q) b)
 
-  module _ (ps : List (List ℕ)) (end at left : ℕ) (w : Trying limit free whole masks ps end at left) where
-    pub trying-none : end ≤ at → Best none limit 0 free whole none none
-    trying-none h = w none (term-none none limit 0 left none masks at end ps h)
+  module _ (masks : List ℕ) (ps : List (List ℕ)) (end at left : ℕ) (w : Trying limit free whole masks ps end at left) where
+    pub trying-none : end ≤ at → Best noSet limit 0 free whole noSet noSet
+    trying-none h = w noSet (term-none noSet limit 0 left noSet masks at end ps h)
 
     module _ (h : at < end) (k : end ≤ length masks) where
       abbrev t : ℕ
       t = getD masks at 0
 
       abbrev worth : Bool
-      worth = subset t (union 0 left) && (ltb (union 0 t) none && leb (ones (union 0 t)) limit)
+      worth = subset t (union 0 left) && (ltb (union 0 t) noSet && leb (ones (union 0 t)) limit)
 
       pub trying-skip : worth ≡ false → Trying limit free whole masks ps end (at + 1) left
-      trying-skip e r b = w r (term-skip none limit 0 left none masks at end ps h k r e b)
+      trying-skip e r b = w r (term-skip noSet limit 0 left noSet masks at end ps h k r e b)
 
-      module _ (found : ℕ) (e : worth ≡ true) (b : Best none limit (union 0 t) left ps none found) where
-        pub trying-stop : found < none → Best none limit 0 free whole none found
-        trying-stop l = w found (term-stop none limit 0 left none masks at end ps h k found e b l)
+      module _ (found : ℕ) (e : worth ≡ true) (b : Best noSet limit (union 0 t) left ps noSet found) where
+        pub trying-stop : found < noSet → Best noSet limit 0 free whole noSet found
+        trying-stop l = w found (term-stop noSet limit 0 left noSet masks at end ps h k found e b l)
 
-        pub trying-on : (rest : ℕ) → none ≤ found → rest ≡ cond (eqb (ones (union 0 t)) (ones 0 + 1)) (less left t) left
+        pub trying-on : (rest : ℕ) → noSet ≤ found → rest ≡ cond (eqb (ones (union 0 t)) (ones 0 + 1)) (less left t) left
             → Trying limit free whole masks ps end (at + 1) rest
         trying-on rest l q r d =
-            let same : none ≡ found = omega (arith, b .low) in
-            w r (term-on none limit 0 left none masks at end ps h k found e b rest r l q
-            (subst (λ (x : ℕ). Best none limit 0 rest (take (end - (at + 1)) (drop (at + 1) masks) ∷ ps) x r) same d))
+            let same : noSet ≡ found = omega (arith, b .low) in
+            w r (term-on noSet limit 0 left noSet masks at end ps h k found e b rest r l q
+            (subst (λ (x : ℕ). Best noSet limit 0 rest (take (end - (at + 1)) (drop (at + 1) masks) ∷ ps) x r) same d))
 
 -- no row lacks the instant: no name need have failed
-pub none-needed : (limit free : ℕ) (whole : List (List ℕ)) (m : ℕ) (l counts masks : List ℕ) → m ≡ 0 → preds m l counts masks ≡ whole
-    → Best none limit 0 free whole none 0
+pub none-needed : (limit free : ℕ) (whole : List (List ℕ)) (m : ℕ) (l : List ℕ) (table : Rows) → m ≡ 0 → preds m l table ≡ whole
+    → Best noSet limit 0 free whole noSet 0
 unfolding preds tab
-none-needed limit free whole m l counts masks z e =
+none-needed limit free whole m l table z e =
     let empty : [] ≡ whole = rw z at e in
-    subst (λ (ps : List (List ℕ)). Best none limit 0 free ps none 0) empty (best-done none limit 0 free none (omega (arith, ones-empty)))
+    subst (λ (ps : List (List ℕ)). Best noSet limit 0 free ps noSet 0) empty (best-done noSet limit 0 free noSet (omega (arith, ones-empty)))

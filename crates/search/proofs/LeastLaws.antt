@@ -15,39 +15,40 @@ use Rattle.numbers.proofs.NumberLaws.{length-tab, getD-tab}
 use Rattle.predicates.specs.Lists.{keep, In}
 use Rattle.predicates.specs.Predicates.{holds}
 use Rattle.predicates.proofs.ListLaws.{all-in, all-out, keep-in, keep-out, map-in, map-out}
-use Rattle.search.specs.Search.{Fits, Best, Rows, rowTerms, predAt, preds, none}
+use Rattle.search.specs.Search.{Rows, Fits, Best, RowsFit, rowTerms, predAt, preds}
+use Rattle.names.specs.Sets.{noSet}
 use Rattle.search.specs.Ends.{outside, noEnd, Next, IsEnd, Unbroken, Ready, Least, needs}
 use Rattle.search.proofs.EndSteps.{in-take, take-in, at-in}
 use Rattle.search.proofs.RunLaws.{out-empty, under-floor, run-is-end, runs-room, run-needs, all-explains}
 
 -- r is the least of the sets W, or no set
 pub record LeastOf (W : ℕ → Type 0) (r : ℕ) : Type 0 where
-  pub from : (r ≡ none) ⊎ W r
-  pub low : r ≤ none
+  pub from : (r ≡ noSet) ⊎ W r
+  pub low : r ≤ noSet
   pub least : (u : ℕ) → W u → r ≤ u
 
 -- ---- run by run
 
-module _ (n rows : ℕ) (lefts rights counts masks order : List ℕ) (limit free : ℕ) where
+module _ (n rows : ℕ) (lefts rights : List ℕ) (table : Rows) (order : List ℕ) (limit free : ℕ) where
   abbrev Explains : ℕ → ℕ → Type 0
-  Explains x u = Fits limit 0 free (needs rows lefts rights counts masks order x) u
+  Explains x u = Fits limit 0 free (needs rows lefts rights table order x) u
 
   -- u makes the predicates true that a left end below the floor needs
   abbrev pub Passed : ℕ → ℕ → Type 0
   Passed floor u = (k : ℕ) × (n ≤ k) × (k < rows) × (getD lefts k 0 < floor) × Explains (getD lefts k 0) u
 
-  pub least-begin : LeastOf (Passed 0) none
+  pub least-begin : LeastOf (Passed 0) noSet
   least-begin = record { from = inl refl; low = omega arith; least = λ u p. absurd (omega (arith, p .3)) }
 
-  module _ (ready : Ready n rows lefts rights counts masks order) (floor from best : ℕ) (w : LeastOf (Passed floor) best)
+  module _ (ready : Ready n rows lefts rights table order) (floor from best : ℕ) (w : LeastOf (Passed floor) best)
       (next : Next lefts n rows floor from) where
     module _ (some : from ≡ noEnd → ⊥) (x : ℕ) (run : Unbroken n rows rights from x) (at : (x ≡ from) ⊎ IsEnd n rows lefts x) (r : ℕ)
-        (b : Best 0 limit 0 free (needs rows lefts rights counts masks order x) best r) where
+        (b : Best 0 limit 0 free (needs rows lefts rights table order x) best r) where
       end : IsEnd n rows lefts x
-      end = run-is-end n rows lefts rights counts masks order ready floor from next some x run at
+      end = run-is-end n rows lefts rights table order ready floor from next some x run at
 
       room : (x < noEnd) × (floor ≤ x)
-      room = runs-room n rows lefts rights counts masks order ready floor from next some x run at
+      room = runs-room n rows lefts rights table order ready floor from next some x run at
 
       pub least-next : LeastOf (Passed (x + 1)) r
       least-next =
@@ -64,18 +65,18 @@ module _ (n rows : ℕ) (lefts rights counts masks order : List ℕ) (limit free
           wider u p = (p .0, p .1, p .2, omega (arith, p .3, room .1), p .4)
 
           go : (u : ℕ) (p : Passed (x + 1) u) → Dec (getD lefts (p .0) 0 < from) → r ≤ u
-          go u p (yes l) = le-trans (b .low) (w .least u (p .0, p .1, p .2, under-floor n rows lefts rights counts masks order ready floor from next (p .0) (p .1) (p .2) l, p .4))
+          go u p (yes l) = le-trans (b .low) (w .least u (p .0, p .1, p .2, under-floor n rows lefts rights table order ready floor from next (p .0) (p .1) (p .2) l, p .4))
           go u p (no l) =
               ⊎-elim (λ h. h) (λ h. absurd (omega arith))
-              (b .least u (run-needs n rows lefts rights counts masks order ready limit free from x run (getD lefts (p .0) 0) u (omega arith) (omega (arith, p .3)) (p .4)))
+              (b .least u (run-needs n rows lefts rights table order ready limit free from x run (getD lefts (p .0) 0) u (omega arith) (omega (arith, p .3)) (p .4)))
 
     -- no end is left
-    pub least-in : from ≡ noEnd → (n ≡ rows → ⊥) → Least n rows lefts rights counts masks order limit free best
+    pub least-in : from ≡ noEnd → (n ≡ rows → ⊥) → Least n rows lefts rights table order limit free best
     least-in e some =
         record {
           from = ⊎-elim (λ q. inl q) (λ p. inr (inr (p .0, p .1, p .2, p .4))) (w .from);
           low = w .low;
-          all = λ u f. each n (omega arith) here u (all-explains n rows lefts rights counts masks order ready limit free (getD lefts n 0) u f);
+          all = λ u f. each n (omega arith) here u (all-explains n rows lefts rights table order ready limit free (getD lefts n 0) u f);
           each = each;
         }
       where
@@ -86,11 +87,11 @@ module _ (n rows : ℕ) (lefts rights counts masks order : List ℕ) (limit free
             go f l = omega arith
 
         each : (k : ℕ) → n ≤ k → k < rows → (u : ℕ) → Explains (getD lefts k 0) u → best ≤ u
-        each k a l u f = w .least u (k, a, l, under-floor n rows lefts rights counts masks order ready floor from next k a l (omega (arith, ready .below k l)), f)
+        each k a l u f = w .least u (k, a, l, under-floor n rows lefts rights table order ready floor from next k a l (omega (arith, ready .below k l)), f)
 
   -- there is no end at all
-  pub least-alone : n ≡ rows → (r : ℕ) → Best 0 limit 0 free (preds rows order counts masks) none r
-      → Least n rows lefts rights counts masks order limit free r
+  pub least-alone : n ≡ rows → (r : ℕ) → Best 0 limit 0 free (preds rows order table) noSet r
+      → Least n rows lefts rights table order limit free r
   least-alone e r b =
       record {
         from = ⊎-elim (λ q. inl q) (λ f. inr (inl f)) (b .from);
@@ -100,54 +101,54 @@ module _ (n rows : ℕ) (lefts rights counts masks order : List ℕ) (limit free
       }
 
   -- no set makes the entries true, which every end needs
-  module _ (ready : Ready n rows lefts rights counts masks order) (r : ℕ)
-      (b : Best none limit 0 free (map (rowTerms counts masks) (keep (λ k. ltb k n) (take rows order))) none r) (h : none ≤ r) where
-    entries-first : (ps : List (List ℕ)) → ((k : ℕ) → k < rows → k < n → In (rowTerms counts masks k) ps) → (u : ℕ) → Fits limit 0 free ps u → none ≤ u
+  module _ (ready : Ready n rows lefts rights table order) (r : ℕ)
+      (b : Best noSet limit 0 free (map (rowTerms table) (keep (λ k. ltb k n) (take rows order))) noSet r) (h : noSet ≤ r) where
+    entries-first : (ps : List (List ℕ)) → ((k : ℕ) → k < rows → k < n → In (rowTerms table k) ps) → (u : ℕ) → Fits limit 0 free ps u → noSet ≤ u
     entries-first ps there u f =
         ⊎-elim (λ l. le-trans h l) (λ l. absurd (omega arith))
         (b .least u (record {
           above = f .above;
           within = f .within;
           few = f .few;
-          holding = all-in (holds u) (map (rowTerms counts masks) (keep (λ k. ltb k n) (take rows order))) (λ p m.
-              go p (map-out (rowTerms counts masks) (keep (λ k. ltb k n) (take rows order)) p m));
+          holding = all-in (holds u) (map (rowTerms table) (keep (λ k. ltb k n) (take rows order))) (λ p m.
+              go p (map-out (rowTerms table) (keep (λ k. ltb k n) (take rows order)) p m));
         }))
       where
-        go : (p : List ℕ) → (k : ℕ) × In k (keep (λ i. ltb i n) (take rows order)) × (p ≡ rowTerms counts masks k) → T (holds u p)
+        go : (p : List ℕ) → (k : ℕ) × In k (keep (λ i. ltb i n) (take rows order)) × (p ≡ rowTerms table k) → T (holds u p)
         go p w =
             let v = keep-out (λ (i : ℕ). ltb i n) (take rows order) (w .0) (w .1) in
             let j = in-take rows order (w .0) (v .0) in
             let row : w .0 < rows = omega (arith, j .2, ready .placed (j .0) (j .1)) in
             rw (w .2) (all-out (holds u) ps (f .holding) _ (there (w .0) row (ltb→lt (w .0) n (v .1))))
 
-    pub least-unknown : Least n rows lefts rights counts masks order limit free none
+    pub least-unknown : Least n rows lefts rights table order limit free noSet
     unfolding needs preds predAt
     least-unknown =
         record {
           from = inl refl;
           low = omega arith;
-          all = entries-first (preds rows order counts masks) (λ k l e.
+          all = entries-first (preds rows order table) (λ k l e.
               let j = ready .present k l in
-              let terms : ℕ → List ℕ = λ i. rowTerms counts masks (getD order i 0) in
-              let at : getD (tab rows terms) (j .0) [] ≡ rowTerms counts masks k = getD-tab rows (j .0) terms [] (j .1) ∙ ap (rowTerms counts masks) (sym (j .2)) in
+              let terms : ℕ → List ℕ = λ i. rowTerms table (getD order i 0) in
+              let at : getD (tab rows terms) (j .0) [] ≡ rowTerms table k = getD-tab rows (j .0) terms [] (j .1) ∙ ap (rowTerms table) (sym (j .2)) in
               rw at at (at-in (tab rows terms) [] (j .0) (rw length-tab (j .1))));
-          each = λ i a c. entries-first (needs rows lefts rights counts masks order (getD lefts i 0)) (λ k l e.
-              map-in (rowTerms counts masks) (keep (outside lefts rights (getD lefts i 0)) (take rows order)) k
+          each = λ i a c. entries-first (needs rows lefts rights table order (getD lefts i 0)) (λ k l e.
+              map-in (rowTerms table) (keep (outside lefts rights (getD lefts i 0)) (take rows order)) k
               (keep-in (outside lefts rights (getD lefts i 0)) (take rows order) k (take-in rows order (ready .ordered) (ready .present k l))
-              (out-empty n rows lefts rights counts masks order ready (getD lefts i 0) k e)));
+              (out-empty n rows lefts rights table order ready (getD lefts i 0) k e)));
         }
 
   -- u makes all predicates true, or those that a left end needs
   abbrev pub Tried : ℕ → Type 0
   Tried u =
-      Fits limit 0 free (preds rows order counts masks) u ⊎ ((k : ℕ) × (n ≤ k) × (k < rows) × Explains (getD lefts k 0) u)
+      Fits limit 0 free (preds rows order table) u ⊎ ((k : ℕ) × (n ≤ k) × (k < rows) × Explains (getD lefts k 0) u)
 
-  pub least-out : (r : ℕ) → Least n rows lefts rights counts masks order limit free r → LeastOf Tried r
+  pub least-out : (r : ℕ) → Least n rows lefts rights table order limit free r → LeastOf Tried r
   least-out r w =
       record { from = w .from; low = w .low; least = λ u. ⊎-elim (w .all u) (λ t. w .each (t .0) (t .1) (t .2) u (t .3)) }
 
 -- the order read as rows
-pub ready-rows : {n rows : ℕ} {lefts rights counts masks order : List ℕ} → Ready n rows lefts rights counts masks order → Rows rows order counts masks
+pub ready-rows : {n rows : ℕ} {lefts rights : List ℕ} {table : Rows} {order : List ℕ} → Ready n rows lefts rights table order → RowsFit rows order table
 ready-rows {order = order} ready =
     record {
       listed-long = ready .ordered;

@@ -19,7 +19,7 @@ use Rattle.predicates.specs.Predicates.{holds, singles}
 use Rattle.predicates.proofs.ListLaws.{true-T, T-true, T-false, split, cond-ind, keep-in, keep-out}
 use Rattle.predicates.proofs.PredicateLaws.{holds-in, holds-out}
 use Rattle.predicates.proofs.MaskLaws.{singles-holds}
-use Rattle.search.specs.Search.{gather, alone, single, rowTerms, Parted, several}
+use Rattle.search.specs.Search.{Rows, rowWidth, gather, alone, single, rowTerms, Parted, several}
 
 -- ---- one term
 
@@ -138,31 +138,31 @@ module _ (limit s : ℕ) where
 
 -- ---- a row of the table
 
-module _ (counts masks : List ℕ) (k s : ℕ) (w : Parted counts masks k) where
+module _ (table : Rows) (k s : ℕ) (w : Parted table k) where
   abbrev row : List ℕ
-  row = rowTerms counts masks k
+  row = rowTerms table k
 
-  pub row-hit : (x : ℕ) → x ≡ shared s (getD counts (96 + k) 0) → 0 < x → holds s row ≡ true
+  pub row-hit : (x : ℕ) → x ≡ shared s (getD (table .singles) k 0) → 0 < x → holds s row ≡ true
   row-hit x e h = holds-hit row s (omega (arith, e, ap (λ (m : ℕ). shared s m) (w .one)))
 
-  module _ (x : ℕ) (e : x ≡ shared s (getD counts (96 + k) 0)) (h : x ≤ 0) (end : ℕ) (b : end ≡ 768 + k * 16 + getD counts (48 + k) 0) where
+  module _ (x : ℕ) (e : x ≡ shared s (getD (table .singles) k 0)) (h : x ≤ 0) (end : ℕ) (b : end ≡ k * rowWidth + getD (table .several) k 0) where
     missed : shared s (singles row) ≡ 0
     missed = omega (arith, e, ap (λ (m : ℕ). shared s m) (w .one))
 
-    part : take (end - (768 + k * 16)) (drop (768 + k * 16) masks) ≡ several row
-    part = let width : end - (768 + k * 16) ≡ getD counts (48 + k) 0 = omega arith in ap (λ (n : ℕ). take n (drop (768 + k * 16) masks)) width ∙ w .more
+    part : take (end - k * rowWidth) (drop (k * rowWidth) (table .rests)) ≡ several row
+    part = let width : end - k * rowWidth ≡ getD (table .several) k 0 = omega arith in ap (λ (n : ℕ). take n (drop (k * rowWidth) (table .rests))) width ∙ w .more
 
-    pub row-miss : holds s (take (end - (768 + k * 16)) (drop (768 + k * 16) masks)) ≡ holds s row
+    pub row-miss : holds s (take (end - k * rowWidth) (drop (k * rowWidth) (table .rests))) ≡ holds s row
     row-miss = ap (holds s) part ∙ sym (holds-miss row s missed)
 
-    row-gather : gather (union s (getD counts (96 + k) 0)) (ones s + 1) s (take (end - (768 + k * 16)) (drop (768 + k * 16) masks))
+    row-gather : gather (union s (getD (table .singles) k 0)) (ones s + 1) s (take (end - k * rowWidth) (drop (k * rowWidth) (table .rests)))
         ≡ alone (ones s + 1) s row
     row-gather =
-        ap (λ (m : ℕ). gather (union s m) (ones s + 1) s (take (end - (768 + k * 16)) (drop (768 + k * 16) masks))) (w .one)
+        ap (λ (m : ℕ). gather (union s m) (ones s + 1) s (take (end - k * rowWidth) (drop (k * rowWidth) (table .rests)))) (w .one)
         ∙ ap (gather (union s (singles row)) (ones s + 1) s) part ∙ sym (gather-parted (ones s + 1) s refl row)
 
     pub row-sift : (names r : ℕ)
-        → r ≡ cond (holds s (take (end - (768 + k * 16)) (drop (768 + k * 16) masks))) names
-        (shared names (gather (union s (getD counts (96 + k) 0)) (ones s + 1) s (take (end - (768 + k * 16)) (drop (768 + k * 16) masks))))
+        → r ≡ cond (holds s (take (end - k * rowWidth) (drop (k * rowWidth) (table .rests)))) names
+        (shared names (gather (union s (getD (table .singles) k 0)) (ones s + 1) s (take (end - k * rowWidth) (drop (k * rowWidth) (table .rests)))))
         → r ≡ cond (holds s row) names (shared names (alone (ones s + 1) s row))
     row-sift names r e = rw (row-miss, row-gather) at e

@@ -13,13 +13,13 @@ use lib.Dec.{T, T-not, ltb, ltb→lt}
 use lib.ListN.{getD, take}
 use Rattle.numbers.specs.Numbers.{tab}
 use Rattle.numbers.proofs.NumberLaws.{length-tab, getD-tab}
-use Rattle.names.specs.Sets.{union}
+use Rattle.names.specs.Sets.{union, noSet}
 use Rattle.names.proofs.SetLaws.{subset-le}
 use Rattle.names.proofs.PartLaws.{union-add}
 use Rattle.predicates.specs.Lists.{keep, In}
 use Rattle.predicates.specs.Predicates.{holds}
 use Rattle.predicates.proofs.ListLaws.{true-T, or-l, or-r, or-cases, all-in, all-out, keep-in, keep-out, map-in, map-out}
-use Rattle.search.specs.Search.{Fits, Best, rowTerms, predAt, preds, none}
+use Rattle.search.specs.Search.{Rows, Fits, Best, rowTerms, predAt, preds}
 use Rattle.search.specs.Ends.{outside, noEnd, Next, Last, IsEnd, Unbroken, Latest, Ready, needs, First, FirstRun, Unexplained}
 use Rattle.search.proofs.EndSteps.{in-take, at-in, outside-test, take-in}
 
@@ -58,7 +58,7 @@ module _ (n rows : ℕ) (lefts rights : List ℕ) (x roof r : ℕ) where
 pub run-at : (n rows : ℕ) (lefts : List ℕ) (x roof r : ℕ) → Last lefts n rows x roof r → (r ≡ x) ⊎ IsEnd n rows lefts r
 run-at n rows lefts x roof r last = ⊎-elim (λ e. inl e) (λ w. inr (w .0, w .1, w .2, w .3)) (last .one)
 
-module _ (n rows : ℕ) (lefts rights counts masks order : List ℕ) (ready : Ready n rows lefts rights counts masks order) where
+module _ (n rows : ℕ) (lefts rights : List ℕ) (table : Rows) (order : List ℕ) (ready : Ready n rows lefts rights table order) where
   -- an empty interval lacks every instant
   pub out-empty : (x k : ℕ) → k < n → T (outside lefts rights x k)
   out-empty x k h = go (decLt x (getD lefts k 0))
@@ -93,11 +93,11 @@ module _ (n rows : ℕ) (lefts rights counts masks order : List ℕ) (ready : Re
 
   module _ (limit free : ℕ) where
     abbrev pub Explains : ℕ → ℕ → Type 0
-    Explains x u = Fits limit 0 free (needs rows lefts rights counts masks order x) u
+    Explains x u = Fits limit 0 free (needs rows lefts rights table order x) u
 
     -- what makes true what x needs does so for y, if y needs no more than that and what is true anyhow
     fits-fewer : (x y u : ℕ)
-        → ((k : ℕ) → k < rows → T (outside lefts rights y k) → T (outside lefts rights x k) ⊎ T (holds u (rowTerms counts masks k)))
+        → ((k : ℕ) → k < rows → T (outside lefts rights y k) → T (outside lefts rights x k) ⊎ T (holds u (rowTerms table k)))
         → Explains x u → Explains y u
     unfolding needs
     fits-fewer x y u more f =
@@ -105,11 +105,11 @@ module _ (n rows : ℕ) (lefts rights counts masks order : List ℕ) (ready : Re
           above = f .above;
           within = f .within;
           few = f .few;
-          holding = all-in (holds u) (needs rows lefts rights counts masks order y) (λ p m.
-              go p (map-out (rowTerms counts masks) (keep (outside lefts rights y) (take rows order)) p m));
+          holding = all-in (holds u) (needs rows lefts rights table order y) (λ p m.
+              go p (map-out (rowTerms table) (keep (outside lefts rights y) (take rows order)) p m));
         }
       where
-        go : (p : List ℕ) → (k : ℕ) × In k (keep (outside lefts rights y) (take rows order)) × (p ≡ rowTerms counts masks k) → T (holds u p)
+        go : (p : List ℕ) → (k : ℕ) × In k (keep (outside lefts rights y) (take rows order)) × (p ≡ rowTerms table k) → T (holds u p)
         go p w =
             let k = w .0 in
             let there = keep-out (outside lefts rights y) (take rows order) k (w .1) in
@@ -117,30 +117,30 @@ module _ (n rows : ℕ) (lefts rights counts masks order : List ℕ) (ready : Re
             let row : k < rows = omega (arith, j .2, ready .placed (j .0) (j .1)) in
             rw (w .2)
             (⊎-elim
-            (λ o. all-out (holds u) (needs rows lefts rights counts masks order x) (f .holding) (rowTerms counts masks k)
-            (map-in (rowTerms counts masks) (keep (outside lefts rights x) (take rows order)) k (keep-in (outside lefts rights x) (take rows order) k (there .0) o)))
+            (λ o. all-out (holds u) (needs rows lefts rights table order x) (f .holding) (rowTerms table k)
+            (map-in (rowTerms table) (keep (outside lefts rights x) (take rows order)) k (keep-in (outside lefts rights x) (take rows order) k (there .0) o)))
             (λ h. h) (more k row (there .1)))
 
     -- what makes all predicates true explains every instant
-    pub all-explains : (x u : ℕ) → Fits limit 0 free (preds rows order counts masks) u → Explains x u
+    pub all-explains : (x u : ℕ) → Fits limit 0 free (preds rows order table) u → Explains x u
     unfolding needs preds predAt
     all-explains x u f =
         record {
           above = f .above;
           within = f .within;
           few = f .few;
-          holding = all-in (holds u) (needs rows lefts rights counts masks order x) (λ p m.
-              go p (map-out (rowTerms counts masks) (keep (outside lefts rights x) (take rows order)) p m));
+          holding = all-in (holds u) (needs rows lefts rights table order x) (λ p m.
+              go p (map-out (rowTerms table) (keep (outside lefts rights x) (take rows order)) p m));
         }
       where
         terms : ℕ → List ℕ
-        terms j = rowTerms counts masks (getD order j 0)
+        terms j = rowTerms table (getD order j 0)
 
-        go : (p : List ℕ) → (k : ℕ) × In k (keep (outside lefts rights x) (take rows order)) × (p ≡ rowTerms counts masks k) → T (holds u p)
+        go : (p : List ℕ) → (k : ℕ) × In k (keep (outside lefts rights x) (take rows order)) × (p ≡ rowTerms table k) → T (holds u p)
         go p w =
             let there = keep-out (outside lefts rights x) (take rows order) (w .0) (w .1) in
             let j = in-take rows order (w .0) (there .0) in
-            let at : getD (tab rows terms) (j .0) [] ≡ p = getD-tab rows (j .0) terms [] (j .1) ∙ ap (rowTerms counts masks) (sym (j .2)) ∙ sym (w .2) in
+            let at : getD (tab rows terms) (j .0) [] ≡ p = getD-tab rows (j .0) terms [] (j .1) ∙ ap (rowTerms table) (sym (j .2)) ∙ sym (w .2) in
             rw at at (all-out (holds u) (tab rows terms) (f .holding) _ (at-in (tab rows terms) [] (j .0) (rw length-tab (j .1))))
 
     -- ---- the last end of a run
@@ -155,8 +155,8 @@ module _ (n rows : ℕ) (lefts rights counts masks order : List ℕ) (ready : Re
           go k h (inr w) (no c) = out-right lefts rights z k (omega (arith, run .clear k (omega arith) h w))
 
       -- with no set for the last end, there is none for any of the run
-      pub run-fails : Unexplained n rows lefts rights counts masks order limit free x → ((u : ℕ) → Explains y u → ⊥)
-          → Unexplained n rows lefts rights counts masks order limit free (y + 1)
+      pub run-fails : Unexplained n rows lefts rights table order limit free x → ((u : ℕ) → Explains y u → ⊥)
+          → Unexplained n rows lefts rights table order limit free (y + 1)
       run-fails before fails k a b c u f = go (decLt (getD lefts k 0) x)
         where
           go : Dec (getD lefts k 0 < x) → ⊥
@@ -166,21 +166,21 @@ module _ (n rows : ℕ) (lefts rights counts masks order : List ℕ) (ready : Re
       pub run-part : (z : ℕ) → x ≤ z → z ≤ y → Unbroken n rows rights x z
       run-part z a b = record { rising = a; clear = λ k c d e. run .clear k c d (omega arith) }
 
-    module _ (small : free < none) where
+    module _ (small : free < noSet) where
       -- a search that found no set
-      pub no-set : (x r : ℕ) → Best none limit 0 free (needs rows lefts rights counts masks order x) none r → none ≤ r
+      pub no-set : (x r : ℕ) → Best noSet limit 0 free (needs rows lefts rights table order x) noSet r → noSet ≤ r
           → (u : ℕ) → Explains x u → ⊥
       no-set x r b h u g =
-          let low : u < none = omega (arith, subset-le u (union 0 free) (g .within), union-add 0 free) in
+          let low : u < noSet = omega (arith, subset-le u (union 0 free) (g .within), union-add 0 free) in
           ⊎-elim (λ e. absurd (omega arith)) (λ e. absurd (omega arith)) (b .least u g)
 
       -- ---- one run after the other
 
-      module _ (floor from : ℕ) (before : Unexplained n rows lefts rights counts masks order limit free floor) (next : Next lefts n rows floor from) where
-        passed : Unexplained n rows lefts rights counts masks order limit free from
+      module _ (floor from : ℕ) (before : Unexplained n rows lefts rights table order limit free floor) (next : Next lefts n rows floor from) where
+        passed : Unexplained n rows lefts rights table order limit free from
         passed k a b c = before k a b (under-floor floor from next k a b c)
 
-        pub runs-none : from ≡ noEnd → FirstRun n rows lefts rights counts masks order limit free 0 0 none
+        pub runs-none : from ≡ noEnd → FirstRun n rows lefts rights table order limit free 0 0 noSet
         runs-none e =
             record {
               run = λ h. absurd (omega arith);
@@ -191,8 +191,8 @@ module _ (n rows : ℕ) (lefts rights counts masks order : List ℕ) (ready : Re
             }
 
         module _ (some : from ≡ noEnd → ⊥) (x : ℕ) (run : Unbroken n rows rights from x) (at : (x ≡ from) ⊎ IsEnd n rows lefts x) where
-          pub runs-found : (r : ℕ) → Best none limit 0 free (needs rows lefts rights counts masks order x) none r → r < none
-              → FirstRun n rows lefts rights counts masks order limit free from x r
+          pub runs-found : (r : ℕ) → Best noSet limit 0 free (needs rows lefts rights table order x) noSet r → r < noSet
+              → FirstRun n rows lefts rights table order limit free from x r
           runs-found r b l =
               record {
                 run = λ _. run;
@@ -202,33 +202,33 @@ module _ (n rows : ℕ) (lefts rights counts masks order : List ℕ) (ready : Re
                 never = λ h. absurd (omega arith);
               }
 
-          pub runs-next : Best none limit 0 free (needs rows lefts rights counts masks order x) none none
-              → Unexplained n rows lefts rights counts masks order limit free (x + 1)
-          runs-next b = run-fails from x run passed (no-set x none b (omega arith))
+          pub runs-next : Best noSet limit 0 free (needs rows lefts rights table order x) noSet noSet
+              → Unexplained n rows lefts rights table order limit free (x + 1)
+          runs-next b = run-fails from x run passed (no-set x noSet b (omega arith))
 
-    pub no-first : (from end set : ℕ) → FirstRun n rows lefts rights counts masks order limit free from end set → none ≤ set
-        → First n rows lefts rights counts masks order limit free 0 none
+    pub no-first : (from end set : ℕ) → FirstRun n rows lefts rights table order limit free from end set → noSet ≤ set
+        → First n rows lefts rights table order limit free 0 noSet
     no-first from end set first h =
         record { found = λ l. absurd (omega arith); others = λ k a b c. first .never h k a b (ready .below k b) }
 
     -- ---- from an end that a set explains to the first that it does
 
-    needed-true : (x u k : ℕ) → Explains x u → k < rows → T (outside lefts rights x k) → T (holds u (rowTerms counts masks k))
+    needed-true : (x u k : ℕ) → Explains x u → k < rows → T (outside lefts rights x k) → T (holds u (rowTerms table k))
     unfolding needs
     needed-true x u k f h o =
-        all-out (holds u) (needs rows lefts rights counts masks order x) (f .holding) (rowTerms counts masks k)
-        (map-in (rowTerms counts masks) (keep (outside lefts rights x) (take rows order)) k (keep-in (outside lefts rights x) (take rows order) k (take-in rows order (ready .ordered) (ready .present k h)) o))
+        all-out (holds u) (needs rows lefts rights table order x) (f .holding) (rowTerms table k)
+        (map-in (rowTerms table) (keep (outside lefts rights x) (take rows order)) k (keep-in (outside lefts rights x) (take rows order) k (take-in rows order (ready .ordered) (ready .present k h)) o))
 
-    module _ (x u l e : ℕ) (f : Explains x u) (end : IsEnd n rows lefts x) (latest : Latest n rows lefts counts masks u l)
+    module _ (x u l e : ℕ) (f : Explains x u) (end : IsEnd n rows lefts x) (latest : Latest n rows lefts table u l)
         (next : Next lefts n rows l e) where
       latest-le : l ≤ x
       latest-le = ⊎-elim (λ z. omega arith) (λ w. go w (decLe (getD lefts (w .0) 0) x)) (latest .one)
         where
-          go : (w : (k : ℕ) × (n ≤ k) × (k < rows) × (l ≡ getD lefts k 0) × T (not (holds u (rowTerms counts masks k))))
+          go : (w : (k : ℕ) × (n ≤ k) × (k < rows) × (l ≡ getD lefts k 0) × T (not (holds u (rowTerms table k))))
               → Dec (getD lefts (w .0) 0 ≤ x) → l ≤ x
           go w (yes h) = omega (arith, w .3)
           go w (no h) =
-              absurd (T-not (holds u (rowTerms counts masks (w .0))) (w .4)
+              absurd (T-not (holds u (rowTerms table (w .0))) (w .4)
               (needed-true x u (w .0) f (w .2) (out-left lefts rights x (w .0) (omega arith))))
 
       pub back-le : e ≤ x
@@ -244,24 +244,24 @@ module _ (n rows : ℕ) (lefts rights counts masks order : List ℕ) (ready : Re
           far = ⊎-elim (λ q. absurd (omega (arith, back-le, end-below x end))) (λ w. w .4) (next .one)
 
           go : (k : ℕ) → k < rows → (e < getD lefts k 0) ⊎ (getD rights k 0 < e) → Dec (k < n)
-              → T (outside lefts rights x k) ⊎ T (holds u (rowTerms counts masks k))
+              → T (outside lefts rights x k) ⊎ T (holds u (rowTerms table k))
           go k h w (yes c) = inl (out-empty x k c)
           go k h (inl w) (no c) = ⊎-elim (λ m. absurd (omega (arith, far))) (λ t. inr t) (latest .most k (omega arith) h)
           go k h (inr w) (no c) = inl (out-right lefts rights x k (omega (arith, back-le)))
 
-    module _ (small : free < none) (from found by : ℕ) (first : FirstRun n rows lefts rights counts masks order limit free from found by)
-        (some : by < none) (end set : ℕ) (is-end : IsEnd n rows lefts end) (f : Explains end set) where
+    module _ (small : free < noSet) (from found by : ℕ) (first : FirstRun n rows lefts rights table order limit free from found by)
+        (some : by < noSet) (end set : ℕ) (is-end : IsEnd n rows lefts end) (f : Explains end set) where
       -- no end before this one is explained
-      back-first : Unexplained n rows lefts rights counts masks order limit free end → First n rows lefts rights counts masks order limit free end set
+      back-first : Unexplained n rows lefts rights table order limit free end → First n rows lefts rights table order limit free end set
       back-first before =
-          let low : set < none = omega (arith, subset-le set (union 0 free) (f .within), union-add 0 free) in
+          let low : set < noSet = omega (arith, subset-le set (union 0 free) (f .within), union-add 0 free) in
           record {
             found = λ _. (is-end .0, is-end .1, is-end .2, is-end .3, f);
             others = λ k a b c. before k a b (⊎-elim (λ z. absurd (omega arith)) (λ l. l) c);
           }
 
       -- the run has none before it
-      pub back-done : end ≤ from → First n rows lefts rights counts masks order limit free end set
+      pub back-done : end ≤ from → First n rows lefts rights table order limit free end set
       back-done h = back-first (λ k a b c. first .before some k a b (omega arith))
 
       module _ (over : from < end) (high : end ≤ found) (x : ℕ) (last : Last lefts n rows from (end - 1) x) where
@@ -272,8 +272,8 @@ module _ (n rows : ℕ) (lefts rights counts masks order : List ℕ) (ready : Re
         last-lt = ⊎-elim (λ e. omega arith) (λ w. omega (arith, w .4)) (last .one)
 
         -- nor is the one before it in the run
-        pub back-stop : (r : ℕ) → Best none limit 0 free (needs rows lefts rights counts masks order x) none r → none ≤ r
-            → First n rows lefts rights counts masks order limit free end set
+        pub back-stop : (r : ℕ) → Best noSet limit 0 free (needs rows lefts rights table order x) noSet r → noSet ≤ r
+            → First n rows lefts rights table order limit free end set
         back-stop r b h =
             back-first (λ k a c d. run-fails from x (run-part from found (first .run some) x (last .over) (omega (arith, last-lt)))
             (first .before some) (no-set small x r b h) k a c (omega (arith, last .most k a c (omega arith))))

@@ -24,33 +24,33 @@ use Rattle.predicates.proofs.ListLaws.{both, both-l, both-r, true-T, T-true, T-
 use Rattle.predicates.specs.Lists.{all, In}
 use Rattle.predicates.proofs.PredicateLaws.{holds-in}
 use Rattle.predicates.proofs.LoopLaws.{drop-next}
-use Rattle.search.specs.Search.{Fits, Best, skipped, gather, alone, sieve, rowTerms, predAt, preds}
+use Rattle.search.specs.Search.{Rows, rowWidth, Fits, Best, skipped, gather, alone, sieve, rowTerms, predAt, preds}
 use Rattle.search.proofs.LastLaws.{alone-above, sieve-stop, sieve-above, one-all, one-none, last-found, last-none}
 use Rattle.search.proofs.SearchLaws.{terms-none, skipped-some, skipped-none, best-skipped, best-done, best-full, terms-skip, terms-stop, terms-on, terms-bar}
 
 -- ---- the predicates from place i on
 
-module _ (n : ℕ) (listed counts masks : List ℕ) where
+module _ (n : ℕ) (listed : List ℕ) (table : Rows) where
   abbrev pub rest : ℕ → List (List ℕ)
-  rest i = drop i (preds n listed counts masks)
+  rest i = drop i (preds n listed table)
 
-  pub rest-next : (i : ℕ) → i < n → rest i ≡ predAt listed counts masks i ∷ rest (i + 1)
+  pub rest-next : (i : ℕ) → i < n → rest i ≡ predAt listed table i ∷ rest (i + 1)
   unfolding preds
   rest-next i h =
       rw add-one
-      (drop-cons (tab n (predAt listed counts masks)) i [] (rw length-tab h)
-      ∙ ap (λ (p : List ℕ). p ∷ drop (suc i) (tab n (predAt listed counts masks))) (getD-tab n i (predAt listed counts masks) [] h))
+      (drop-cons (tab n (predAt listed table)) i [] (rw length-tab h)
+      ∙ ap (λ (p : List ℕ). p ∷ drop (suc i) (tab n (predAt listed table))) (getD-tab n i (predAt listed table) [] h))
 
   pub rest-none : (i : ℕ) → n ≤ i → rest i ≡ []
   unfolding preds
-  rest-none i h = drop-of-length-le (tab n (predAt listed counts masks)) {i = i} (rw length-tab h)
+  rest-none i h = drop-of-length-le (tab n (predAt listed table)) {i = i} (rw length-tab h)
 
   module _ (s i : ℕ) where
-    pub skip-here : i < n → holds s (predAt listed counts masks i) ≡ false → rest i ≡ skipped s (rest i)
+    pub skip-here : i < n → holds s (predAt listed table i) ≡ false → rest i ≡ skipped s (rest i)
     unfolding skipped
     skip-here h e = sym (ap (λ (ps : List (List ℕ)). skipped s ps) (rest-next i h) ∙ rw e refl ∙ sym (rest-next i h))
 
-    pub skip-next : i < n → holds s (predAt listed counts masks i) ≡ true → skipped s (rest (i + 1)) ≡ skipped s (rest i)
+    pub skip-next : i < n → holds s (predAt listed table i) ≡ true → skipped s (rest (i + 1)) ≡ skipped s (rest i)
     unfolding skipped
     skip-next h e = sym (ap (λ (ps : List (List ℕ)). skipped s ps) (rest-next i h) ∙ rw e refl)
 
@@ -59,7 +59,7 @@ module _ (n : ℕ) (listed counts masks : List ℕ) where
     skip-done h = rest-none n (omega arith) ∙ sym (ap (λ (ps : List (List ℕ)). skipped s ps) (rest-none i h))
 
     pub sieve-turn : (limit m x : ℕ) → i < n → ones s + 1 ≡ limit
-        → x ≡ cond (holds s (predAt listed counts masks i)) m (shared m (alone (ones s + 1) s (predAt listed counts masks i)))
+        → x ≡ cond (holds s (predAt listed table i)) m (shared m (alone (ones s + 1) s (predAt listed table i)))
         → sieve limit s m (rest i) ≡ sieve limit s x (rest (i + 1))
     unfolding sieve
     sieve-turn limit m x h few e =
@@ -72,22 +72,22 @@ module _ (n : ℕ) (listed counts masks : List ℕ) where
   -- a set that alone is left to try: it leaves the predicate at place k false, or none
   module _ (u best j k : ℕ) (e : rest k ≡ skipped u (rest j)) where
     pub only-not : k < n → best ≡ cond (all (holds u) (rest j)) (min u best) best
-    only-not h = rw (skipped-some u (rest j) (rest (k + 1)) (predAt listed counts masks k) (sym (rest-next k h) ∙ e))
+    only-not h = rw (skipped-some u (rest j) (rest (k + 1)) (predAt listed table k) (sym (rest-next k h) ∙ e))
 
     pub only-all : n ≤ k → (r : ℕ) → r ≡ min u best → r ≡ cond (all (holds u) (rest j)) (min u best) best
     only-all h r g = rw (skipped-none u (rest j) (sym (rest-none k h) ∙ e)) g
 
 -- the part of the array from `at` to `end`, where the code found the terms to stand
-pub row-part : (counts masks : List ℕ) (row at end : ℕ) → at ≡ row * 16 → end ≡ row * 16 + getD counts row 0
-    → take (end - at) (drop at masks) ≡ rowTerms counts masks row
-row-part counts masks row at end a b =
-    let width : end - at ≡ getD counts row 0 = omega arith in
-    ap (λ (w : ℕ). take w (drop at masks)) width ∙ ap (λ (x : ℕ). take (getD counts row 0) (drop x masks)) a
+pub row-part : (table : Rows) (row at end : ℕ) → at ≡ row * rowWidth → end ≡ row * rowWidth + getD (table .counts) row 0
+    → take (end - at) (drop at (table .masks)) ≡ rowTerms table row
+row-part table row at end a b =
+    let width : end - at ≡ getD (table .counts) row 0 = omega arith in
+    ap (λ (w : ℕ). take w (drop at (table .masks))) width ∙ ap (λ (x : ℕ). take (getD (table .counts) row 0) (drop x (table .masks))) a
 
-pub pred-part : (listed counts masks : List ℕ) (j at end : ℕ) → at ≡ getD listed j 0 * 16
-    → end ≡ getD listed j 0 * 16 + getD counts (getD listed j 0) 0 → take (end - at) (drop at masks) ≡ predAt listed counts masks j
+pub pred-part : (listed : List ℕ) (table : Rows) (j at end : ℕ) → at ≡ getD listed j 0 * rowWidth
+    → end ≡ getD listed j 0 * rowWidth + getD (table .counts) (getD listed j 0) 0 → take (end - at) (drop at (table .masks)) ≡ predAt listed table j
 unfolding predAt
-pred-part listed counts masks j = row-part counts masks (getD listed j 0)
+pred-part listed table j = row-part table (getD listed j 0)
 
 -- the first of the predicates, if there is one, is left false
 abbrev First : ℕ → List (List ℕ) → Type 0
@@ -101,35 +101,36 @@ skipped-first s (p ∷ ps) = cond-ind (First s) (holds s p) (skipped s ps) (p �
 
 -- ---- the predicate step: k is the place of the next predicate from i on that s leaves false
 
-module _ (n : ℕ) (listed counts masks : List ℕ) (s i k : ℕ) (e : rest n listed counts masks k ≡ skipped s (rest n listed counts masks i)) where
-  pub next-false : k < n → T (not (holds s (predAt listed counts masks k)))
+module _ (n : ℕ) (listed : List ℕ) (table : Rows) (s i k : ℕ) (e : rest n listed table k ≡ skipped s (rest n listed table i)) where
+  pub next-false : k < n → T (not (holds s (predAt listed table k)))
   next-false h =
-      subst (First s) (sym e ∙ rest-next n listed counts masks k h) (skipped-first s (rest n listed counts masks i))
+      subst (First s) (sym e ∙ rest-next n listed table k h) (skipped-first s (rest n listed table i))
 
   module _ (enough limit free best : ℕ) where
-    pub step-back : (r : ℕ) → Best enough limit s free (rest n listed counts masks k) best r → Best enough limit s free (rest n listed counts masks i) best r
+    pub step-back : (r : ℕ) → Best enough limit s free (rest n listed table k) best r → Best enough limit s free (rest n listed table i) best r
     step-back r b =
-        best-skipped enough limit s free best r (rest n listed counts masks i) (subst (λ (ps : List (List ℕ)). Best enough limit s free ps best r) e b)
+        best-skipped enough limit s free best r (rest n listed table i) (subst (λ (ps : List (List ℕ)). Best enough limit s free ps best r) e b)
 
-    pub step-done : n ≤ k → ones s ≤ limit → Best enough limit s free (rest n listed counts masks i) best (min s best)
+    pub step-done : n ≤ k → ones s ≤ limit → Best enough limit s free (rest n listed table i) best (min s best)
     step-done h few =
         step-back (min s best)
-        (subst (λ (ps : List (List ℕ)). Best enough limit s free ps best (min s best)) (sym (rest-none n listed counts masks k h))
+        (subst (λ (ps : List (List ℕ)). Best enough limit s free ps best (min s best)) (sym (rest-none n listed table k h))
         (best-done enough limit s free best few))
 
-    pub step-full : k < n → limit ≤ ones s → Best enough limit s free (rest n listed counts masks i) best best
+    pub step-full : k < n → limit ≤ ones s → Best enough limit s free (rest n listed table i) best best
     step-full h few =
         step-back best
-        (subst (λ (ps : List (List ℕ)). Best enough limit s free ps best best) (sym (rest-next n listed counts masks k h))
-        (best-full enough limit s free best (predAt listed counts masks k) (rest n listed counts masks (k + 1)) (next-false h) few))
+        (subst (λ (ps : List (List ℕ)). Best enough limit s free ps best best) (sym (rest-next n listed table k h))
+        (best-full enough limit s free best (predAt listed table k) (rest n listed table (k + 1)) (next-false h) few))
 
-    pub step-terms : (r at end : ℕ) → k < n → at ≡ getD listed k 0 * 16 → end ≡ getD listed k 0 * 16 + getD counts (getD listed k 0) 0
-        → Best enough limit s free (take (end - at) (drop at masks) ∷ rest n listed counts masks (k + 1)) best r
-        → Best enough limit s free (rest n listed counts masks i) best r
+    pub step-terms : (r at end : ℕ) → k < n → at ≡ getD listed k 0 * rowWidth
+        → end ≡ getD listed k 0 * rowWidth + getD (table .counts) (getD listed k 0) 0
+        → Best enough limit s free (take (end - at) (drop at (table .masks)) ∷ rest n listed table (k + 1)) best r
+        → Best enough limit s free (rest n listed table i) best r
     step-terms r at end h p q b =
         step-back r
-        (subst (λ (ps : List (List ℕ)). Best enough limit s free ps best r) (sym (rest-next n listed counts masks k h))
-        (subst (λ (ts : List ℕ). Best enough limit s free (ts ∷ rest n listed counts masks (k + 1)) best r) (pred-part listed counts masks k at end p q) b))
+        (subst (λ (ps : List (List ℕ)). Best enough limit s free ps best r) (sym (rest-next n listed table k h))
+        (subst (λ (ts : List ℕ). Best enough limit s free (ts ∷ rest n listed table (k + 1)) best r) (pred-part listed table k at end p q) b))
 
 -- ---- the term step
 
@@ -268,43 +269,43 @@ sift-above s p m r e i =
 
 -- ---- the last name: m are the names that do for the predicates from k up to j
 
-module _ (n : ℕ) (listed counts masks : List ℕ) (limit s free k best : ℕ) (few : ones s + 1 ≡ limit) (h : k < n)
-    (left : T (not (holds s (predAt listed counts masks k)))) where
+module _ (n : ℕ) (listed : List ℕ) (table : Rows) (limit s free k best : ℕ) (few : ones s + 1 ≡ limit) (h : k < n)
+    (left : T (not (holds s (predAt listed table k)))) where
   abbrev names : ℕ
-  names = sieve limit s (union s free) (rest n listed counts masks k)
+  names = sieve limit s (union s free) (rest n listed table k)
 
-  first-rest : rest n listed counts masks k ≡ predAt listed counts masks k ∷ rest n listed counts masks (k + 1)
-  first-rest = rest-next n listed counts masks k h
+  first-rest : rest n listed table k ≡ predAt listed table k ∷ rest n listed table (k + 1)
+  first-rest = rest-next n listed table k h
 
   -- no name does
-  over : names ≡ s → (enough : ℕ) → Best enough limit s free (rest n listed counts masks k) best best
+  over : names ≡ s → (enough : ℕ) → Best enough limit s free (rest n listed table k) best best
   over done enough =
       subst (λ (ps : List (List ℕ)). Best enough limit s free ps best best) (sym first-rest)
-      (last-none limit s few enough free best (predAt listed counts masks k) (rest n listed counts masks (k + 1)) left
+      (last-none limit s few enough free best (predAt listed table k) (rest n listed table (k + 1)) left
       (ap (sieve limit s (union s free)) (sym first-rest) ∙ done))
 
   -- none is left at place j
-  pub last-stop : (j m : ℕ) → names ≡ sieve limit s m (rest n listed counts masks j) → m ≡ s → (enough : ℕ)
-      → Best enough limit s free (rest n listed counts masks k) best best
+  pub last-stop : (j m : ℕ) → names ≡ sieve limit s m (rest n listed table j) → m ≡ s → (enough : ℕ)
+      → Best enough limit s free (rest n listed table k) best best
   last-stop j m e z enough =
-      over (e ∙ ap (λ (x : ℕ). sieve limit s x (rest n listed counts masks j)) z ∙ sieve-stop limit s few (rest n listed counts masks j)) enough
+      over (e ∙ ap (λ (x : ℕ). sieve limit s x (rest n listed table j)) z ∙ sieve-stop limit s few (rest n listed table j)) enough
 
   -- some are left at the end
   pub last-least : (m v c u r : ℕ) → names ≡ m → (m ≡ s → ⊥) → v ≡ less m s → c ≡ lowest v → u ≡ union s c → r ≡ min u best → (enough : ℕ)
-      → Best enough limit s free (rest n listed counts masks k) best r
+      → Best enough limit s free (rest n listed table k) best r
   last-least m v c u r e f a b d g enough =
-      let same : sieve limit s (union s free) (predAt listed counts masks k ∷ rest n listed counts masks (k + 1)) ≡ m =
+      let same : sieve limit s (union s free) (predAt listed table k ∷ rest n listed table (k + 1)) ≡ m =
       ap (sieve limit s (union s free)) (sym first-rest) ∙ e in
       let result : min (union s (lowest (less m s))) best ≡ r = sym (g ∙ ap (λ (x : ℕ). min x best) (d ∙ ap (union s) (b ∙ ap lowest a))) in
       subst (λ (ps : List (List ℕ)). Best enough limit s free ps best r) (sym first-rest)
-      (subst (λ (x : ℕ). Best enough limit s free (predAt listed counts masks k ∷ rest n listed counts masks (k + 1)) best x) result
-      (subst (λ (x : ℕ). Best enough limit s free (predAt listed counts masks k ∷ rest n listed counts masks (k + 1)) best (min (union s (lowest (less x s))) best)) same
-      (last-found limit s few enough free best (predAt listed counts masks k) (rest n listed counts masks (k + 1)) left (λ q. f (sym (q ∙ same))))))
+      (subst (λ (x : ℕ). Best enough limit s free (predAt listed table k ∷ rest n listed table (k + 1)) best x) result
+      (subst (λ (x : ℕ). Best enough limit s free (predAt listed table k ∷ rest n listed table (k + 1)) best (min (union s (lowest (less x s))) best)) same
+      (last-found limit s few enough free best (predAt listed table k) (rest n listed table (k + 1)) left (λ q. f (sym (q ∙ same))))))
 
   -- names are left beyond s
   pub last-some : (m : ℕ) → T (subset s (union s free)) → names ≡ m → (m ≡ s → ⊥) → 0 < less m s
   last-some m i e f =
-      go (less m s) (less-add s m (subst (λ (x : ℕ). T (subset s x)) e (sieve-above limit s few (union s free) (rest n listed counts masks k) i)))
+      go (less m s) (less-add s m (subst (λ (x : ℕ). T (subset s x)) e (sieve-above limit s few (union s free) (rest n listed table k) i)))
     where
       go : (d : ℕ) → s + d ≡ m → 0 < d
       go d q = above-zero (λ z. f (omega arith))
@@ -317,13 +318,13 @@ module _ (n : ℕ) (listed counts masks : List ℕ) (limit s free k best : ℕ) 
       go d q = above-zero (λ z. f (omega arith))
 
   -- one name is left at place j: s with it makes the predicates from there on true, or nothing does
-  pub last-one : (j m v u : ℕ) → names ≡ sieve limit s m (rest n listed counts masks j) → T (subset s m) → (m ≡ s → ⊥) → v ≡ less m s
-      → leb (ones v) 1 ≡ true → u ≡ union s v → (r : ℕ) → r ≡ cond (all (holds u) (rest n listed counts masks j)) (min u best) best → (enough : ℕ)
-      → Best enough limit s free (rest n listed counts masks k) best r
+  pub last-one : (j m v u : ℕ) → names ≡ sieve limit s m (rest n listed table j) → T (subset s m) → (m ≡ s → ⊥) → v ≡ less m s
+      → leb (ones v) 1 ≡ true → u ≡ union s v → (r : ℕ) → r ≡ cond (all (holds u) (rest n listed table j)) (min u best) best → (enough : ℕ)
+      → Best enough limit s free (rest n listed table k) best r
   last-one j m v u e i f a b d r g enough = go (split (all (holds u) ps))
     where
       ps : List (List ℕ)
-      ps = rest n listed counts masks j
+      ps = rest n listed table j
 
       some : 0 < v
       some = rw a (some-left m i f)
@@ -343,12 +344,12 @@ module _ (n : ℕ) (listed counts masks : List ℕ) (limit s free k best : ℕ) 
       least : v ≡ lowest v
       least = sym (subset-same (lowest v) v (lowest-in v) (omega (arith, one, lowest-one v some)))
 
-      go : T (all (holds u) ps) ⊎ T (not (all (holds u) ps)) → Best enough limit s free (rest n listed counts masks k) best r
+      go : T (all (holds u) ps) ⊎ T (not (all (holds u) ps)) → Best enough limit s free (rest n listed table k) best r
       go (inl t) =
           let all-true = subst (λ (x : ℕ). T (all (holds x) ps)) d t in
           last-least m v v u r (here ∙ one-all limit s few v ps one all-true ∙ sym whole) f a least d
           (g ∙ rw (T-true (all (holds u) ps) t)) enough
       go (inr k′) =
           let none = one-none limit s few v ps one apart (λ t. T-not (all (holds u) ps) k′ (subst (λ (x : ℕ). T (all (holds x) ps)) (sym d) t)) in
-          subst (λ (x : ℕ). Best enough limit s free (rest n listed counts masks k) best x) (sym (g ∙ rw (T-false (all (holds u) ps) k′)))
+          subst (λ (x : ℕ). Best enough limit s free (rest n listed table k) best x) (sym (g ∙ rw (T-false (all (holds u) ps) k′)))
           (over (here ∙ none) enough)

@@ -1,7 +1,7 @@
 -- The search for a set of failed names that makes predicates true (document 01, "Fewest failures", last sentences): "from an unexplained predicate to
 -- its terms, from a term to the next unexplained predicate". What a search has to bring is said by sets (`Best`), not by its order.
 -- Assumes nothing: these are definitions.
-use Prim.Native.Nat.{ℕ, _+_, _*_, _^_, _≤_, _<_}
+use Prim.Native.Nat.{ℕ, _+_, _*_, _≤_, _<_}
 use mathlib.Core.Path.{_≡_}
 use mathlib.Core.Logic.{_⊎_}
 use mathlib.Core.Bool.{Bool, not, cond}
@@ -29,10 +29,6 @@ pub record Best (enough limit s free : ℕ) (ps : List (List ℕ)) (best r : ℕ
   pub from : (r ≡ best) ⊎ Fits limit s free ps r
   pub low : r ≤ best
   pub least : (u : ℕ) → Fits limit s free ps u → (r ≤ u) ⊎ (r < enough)
-
--- more than every set of names: the mask of no set
-abbrev pub none : ℕ
-none = 2 ^ 29
 
 -- ---- on the way
 
@@ -65,30 +61,59 @@ single t = eqb (ones t) 1
 unfoldable pub several : List ℕ → List ℕ
 several p = keep (λ t. not (single t)) p
 
--- ---- predicates in a flat array: row k has its count at k and its terms from 16 * k on; `listed` has the rows in the order of the search. Beside
--- them, row k has its terms of several names again, from 768 + 16 * k on, with their count at 48 + k, and the others as one mask at 96 + k
+-- ---- predicates in flat arrays
+
+-- how many rows the arrays have, how many terms a row has at most, and how many masks all rows have
+abbrev pub rowsMost : ℕ
+rowsMost = 48
+
+abbrev pub rowWidth : ℕ
+rowWidth = 16
+
+abbrev pub masksMost : ℕ
+masksMost = rowsMost * rowWidth
+
+-- row k has its count of terms at k in `counts`, and the terms from k * rowWidth on in `masks`; its terms of several names again, their count in
+-- `several` and they in `rests`; and the others as one mask at k in `singles`
+pub record Rows : Type 0 where
+  pub counts : List ℕ
+  pub masks : List ℕ
+  pub several : List ℕ
+  pub rests : List ℕ
+  pub singles : List ℕ
+
+abbrev pub rowsOf : List ℕ → List ℕ → List ℕ → List ℕ → List ℕ → Rows
+rowsOf counts masks several rests singles =
+    record { counts = counts; masks = masks; several = several; rests = rests; singles = singles }
 
 -- the predicate of row k
-abbrev pub rowTerms : List ℕ → List ℕ → ℕ → List ℕ
-rowTerms counts masks k = take (getD counts k 0) (drop (k * 16) masks)
+abbrev pub rowTerms : Rows → ℕ → List ℕ
+rowTerms t k = take (getD (t .counts) k 0) (drop (k * rowWidth) (t .masks))
 
-unfoldable pub predAt : List ℕ → List ℕ → List ℕ → ℕ → List ℕ
-predAt listed counts masks j = rowTerms counts masks (getD listed j 0)
+-- its terms of several names, as they stand again
+abbrev pub restTerms : Rows → ℕ → List ℕ
+restTerms t k = take (getD (t .several) k 0) (drop (k * rowWidth) (t .rests))
 
-unfoldable pub preds : ℕ → List ℕ → List ℕ → List ℕ → List (List ℕ)
-preds n listed counts masks = tab n (predAt listed counts masks)
+-- the predicate of the row in place j of a list of rows, which is in the order of the search
+unfoldable pub predAt : List ℕ → Rows → ℕ → List ℕ
+predAt listed t j = rowTerms t (getD listed j 0)
 
-pub record Parted (counts masks : List ℕ) (k : ℕ) : Type 0 where
-  pub columns : 96 + k < length counts
-  pub narrow : getD counts (48 + k) 0 ≤ 16
-  pub room : 768 + k * 16 + getD counts (48 + k) 0 ≤ length masks
-  pub one : getD counts (96 + k) 0 ≡ singles (rowTerms counts masks k)
-  pub more : take (getD counts (48 + k) 0) (drop (768 + k * 16) masks) ≡ several (rowTerms counts masks k)
+unfoldable pub preds : ℕ → List ℕ → Rows → List (List ℕ)
+preds n listed t = tab n (predAt listed t)
 
--- the first n rows that are listed lie in the arrays
-pub record Rows (n : ℕ) (listed counts masks : List ℕ) : Type 0 where
+-- row k has its parts: the mask of the terms of one name, and the other terms
+pub record Parted (t : Rows) (k : ℕ) : Type 0 where
+  pub counted : k < length (t .several)
+  pub masked : k < length (t .singles)
+  pub narrow : getD (t .several) k 0 ≤ rowWidth
+  pub room : k * rowWidth + getD (t .several) k 0 ≤ length (t .rests)
+  pub one : getD (t .singles) k 0 ≡ singles (rowTerms t k)
+  pub more : restTerms t k ≡ several (rowTerms t k)
+
+-- the first n rows that are listed lie in the table
+pub record RowsFit (n : ℕ) (listed : List ℕ) (t : Rows) : Type 0 where
   pub listed-long : n ≤ length listed
-  pub counted : (j : ℕ) → j < n → getD listed j 0 < length counts
-  pub narrow : (j : ℕ) → j < n → getD counts (getD listed j 0) 0 ≤ 16
-  pub long : (j : ℕ) → j < n → getD listed j 0 * 16 + getD counts (getD listed j 0) 0 ≤ length masks
-  pub parted : (j : ℕ) → j < n → Parted counts masks (getD listed j 0)
+  pub counted : (j : ℕ) → j < n → getD listed j 0 < length (t .counts)
+  pub narrow : (j : ℕ) → j < n → getD (t .counts) (getD listed j 0) 0 ≤ rowWidth
+  pub long : (j : ℕ) → j < n → getD listed j 0 * rowWidth + getD (t .counts) (getD listed j 0) 0 ≤ length (t .masks)
+  pub parted : (j : ℕ) → j < n → Parted t (getD listed j 0)

@@ -2,12 +2,14 @@
 // no right end between them are tried together: the last of them needs the fewest predicates.
 ghost use mathlib.Core.Path.{_≡_};
 ghost use mathlib.Core.Logic.{_⊎_};
+ghost use mathlib.Core.List.{List};
 ghost use Prim.Native.Nat.{ℕ, _+_, _≤_, _<_};
 ghost use lib.Dec.{ltb};
 ghost use lib.ListN.{length, getD, take};
 ghost use Rattle.numbers.specs.Numbers.{put};
 ghost use Rattle.predicates.specs.Lists.{keep};
-ghost use Rattle.search.specs.Search.{none, Parted};
+ghost use Rattle.names.specs.Sets.{noSet};
+ghost use Rattle.search.specs.Search.{rowsMost, Rows, rowsOf, Parted};
 ghost use Rattle.search.specs.Ends.{outside, Next, Last, IsEnd, Unbroken, FirstRun, Latest, Ready, First};
 
 // An end and the set that explains it; 2^29, the mask of no set, where there is none.
@@ -28,7 +30,7 @@ pub fn next_end(ends: &[u64], from: usize, to: usize, floor: u64) -> u64
     requires { ⌜ (from ≤ to) × (to ≤ length (now ends)) ⌝ }
     ensures { λ r. ⌜ Next (now (ends .entry)) from to floor r ⌝ }
 {
-    let mut least: u64 = 18446744073709551615;
+    let mut least: u64 = super::NO_END;
     let mut i = from;
     while i < to {
         let end = ends[i];
@@ -75,9 +77,10 @@ pub fn list_outside(
     x: u64,
     listed: &mut [u32],
 ) -> usize
-    requires { ⌜ (rows ≤ 48) × (rows ≤ length (now order)) × (rows ≤ length (now listed)) × (rows ≤ length (now lefts)) × (rows ≤ length (now rights)) × ((j : ℕ) → j < rows → getD (now order) j 0 < rows) ⌝ }
-    ensures { λ r. ⌜ (r ≡ length (keep (outside (now (lefts .entry)) (now (rights .entry)) x) (take rows (now (order .entry))))) × (r ≤ rows) ⌝ }
-    ensures { λ _. ⌜ now (listed .exit) ≡ put 0 (keep (outside (now (lefts .entry)) (now (rights .entry)) x) (take rows (now (order .entry)))) (now (listed .entry)) ⌝ }
+    requires { ⌜ (rows ≤ rowsMost) × (rows ≤ length (now order)) × (rows ≤ length (now listed)) × (rows ≤ length (now lefts))
+        × (rows ≤ length (now rights)) × ((j : ℕ) → j < rows → getD (now order) j 0 < rows) ⌝ }
+    ensures { λ r. ⌜ (let kept : List ℕ = keep (outside (now (lefts .entry)) (now (rights .entry)) x) (take rows (now (order .entry))) in
+        (r ≡ length kept) × (r ≤ rows) × (now (listed .exit) ≡ put 0 kept (now (listed .entry)))) ⌝ }
 {
     let mut m: usize = 0;
     let mut i: usize = 0;
@@ -94,9 +97,10 @@ pub fn list_outside(
 
 // Lists, in the order of the search, the first n rows: the entries. Answers how many.
 pub fn list_entries(order: &[u32], rows: usize, n: usize, listed: &mut [u32]) -> usize
-    requires { ⌜ (rows ≤ 48) × (rows ≤ length (now order)) × (rows ≤ length (now listed)) × ((j : ℕ) → j < rows → getD (now order) j 0 < rows) ⌝ }
-    ensures { λ r. ⌜ (r ≡ length (keep (λ k. ltb k n) (take rows (now (order .entry))))) × (r ≤ rows) ⌝ }
-    ensures { λ _. ⌜ now (listed .exit) ≡ put 0 (keep (λ k. ltb k n) (take rows (now (order .entry)))) (now (listed .entry)) ⌝ }
+    requires { ⌜ (rows ≤ rowsMost) × (rows ≤ length (now order)) × (rows ≤ length (now listed))
+        × ((j : ℕ) → j < rows → getD (now order) j 0 < rows) ⌝ }
+    ensures { λ r. ⌜ (let kept : List ℕ = keep (λ k. ltb k n) (take rows (now (order .entry))) in
+        (r ≡ length kept) × (r ≤ rows) × (now (listed .exit) ≡ put 0 kept (now (listed .entry)))) ⌝ }
 {
     let mut m: usize = 0;
     let mut i: usize = 0;
@@ -118,6 +122,9 @@ fn first_run(
     rights: &[u64],
     counts: &[u32],
     masks: &[u32],
+    several: &[u32],
+    rests: &[u32],
+    singles: &[u32],
     order: &[u32],
     listed: &mut [u32],
     n: usize,
@@ -125,18 +132,21 @@ fn first_run(
     limit: u32,
     free: u32,
 ) -> Run
-    requires { ⌜ Ready n rows (now lefts) (now rights) (now counts) (now masks) (now order) × (rows ≤ length (now listed)) × (free < none) ⌝ }
-    ensures { λ r. ⌜ FirstRun n rows (now (lefts .entry)) (now (rights .entry)) (now (counts .entry)) (now (masks .entry)) (now (order .entry)) limit free (r .from) (r .end) (r .set) ⌝ }
+    requires { ⌜ (let t : Rows = rowsOf (now counts) (now masks) (now several) (now rests) (now singles) in
+        Ready n rows (now lefts) (now rights) t (now order) × (rows ≤ length (now listed)) × (free < noSet)) ⌝ }
+    ensures { λ r. ⌜ (let t : Rows = rowsOf (now (counts .entry)) (now (masks .entry)) (now (several .entry)) (now (rests .entry))
+        (now (singles .entry)) in
+        FirstRun n rows (now (lefts .entry)) (now (rights .entry)) t (now (order .entry)) limit free (r .from) (r .end) (r .set)) ⌝ }
     ensures { λ _. ⌜ length (now (listed .exit)) ≡ length (now (listed .entry)) ⌝ }
 {
     let mut floor: u64 = 0;
     let run = 'ends: loop {
         let from = next_end(lefts, n, rows, floor);
-        if from == 18446744073709551615 {
+        if from == super::NO_END {
             break 'ends Run {
                 from: 0,
                 end: 0,
-                set: 536870912,
+                set: names::NO_SET,
             };
         }
         let x = run_end(lefts, rights, n, rows, from);
@@ -154,20 +164,23 @@ fn first_run(
         let mut left = free;
         while at < end {
             let t = masks[at];
-            if super::search::worth(t, 0, left, limit, 536870912) {
+            if super::search::worth(t, 0, left, limit, names::NO_SET) {
                 let set = super::search::predicate_step(
                     listed,
                     counts,
                     masks,
+                    several,
+                    rests,
+                    singles,
                     m,
                     limit,
-                    536870912,
+                    names::NO_SET,
                     1,
                     names::union(0, t),
                     left,
-                    536870912,
+                    names::NO_SET,
                 );
-                if set < 536870912 {
+                if set < names::NO_SET {
                     break 'ends Run { from, end: x, set };
                 }
                 left = super::search::freed(t, 0, left);
@@ -180,16 +193,29 @@ fn first_run(
 }
 
 // The greatest left end of the rows from n on whose predicates the set leaves false; 0 where it makes all of them true.
-fn latest(lefts: &[u64], counts: &[u32], masks: &[u32], n: usize, rows: usize, set: u32) -> u64
-    requires { ⌜ (n ≤ rows) × (rows ≤ length (now lefts)) × ((k : ℕ) → k < rows → Parted (now counts) (now masks) k) ⌝ }
-    ensures { λ r. ⌜ Latest n rows (now (lefts .entry)) (now (counts .entry)) (now (masks .entry)) set r ⌝ }
+fn latest(
+    lefts: &[u64],
+    counts: &[u32],
+    masks: &[u32],
+    several: &[u32],
+    rests: &[u32],
+    singles: &[u32],
+    n: usize,
+    rows: usize,
+    set: u32,
+) -> u64
+    requires { ⌜ (let t : Rows = rowsOf (now counts) (now masks) (now several) (now rests) (now singles) in
+        (n ≤ rows) × (rows ≤ length (now lefts)) × ((k : ℕ) → k < rows → Parted t k)) ⌝ }
+    ensures { λ r. ⌜ (let t : Rows = rowsOf (now (counts .entry)) (now (masks .entry)) (now (several .entry)) (now (rests .entry))
+        (now (singles .entry)) in
+        Latest n rows (now (lefts .entry)) t set r) ⌝ }
 {
     let mut last: u64 = 0;
     let mut i = n;
     while i < rows {
         let end = lefts[i];
         if last < end {
-            if !super::search::row_holds(counts, masks, i, set) {
+            if !super::search::row_holds(counts, masks, several, rests, singles, i, set) {
                 last = end;
             }
         }
@@ -205,6 +231,9 @@ fn first_in_run(
     rights: &[u64],
     counts: &[u32],
     masks: &[u32],
+    several: &[u32],
+    rests: &[u32],
+    singles: &[u32],
     order: &[u32],
     listed: &mut [u32],
     n: usize,
@@ -215,13 +244,21 @@ fn first_in_run(
     found: u64,
     by: u32,
 ) -> Reached
-    requires { ⌜ Ready n rows (now lefts) (now rights) (now counts) (now masks) (now order) × (rows ≤ length (now listed)) × (free < none) ⌝ }
-    requires { ⌜ FirstRun n rows (now lefts) (now rights) (now counts) (now masks) (now order) limit free from found by × (by < none) ⌝ }
-    ensures { λ r. ⌜ First n rows (now (lefts .entry)) (now (rights .entry)) (now (counts .entry)) (now (masks .entry)) (now (order .entry)) limit free (r .end) (r .set) ⌝ }
+    requires { ⌜ (let t : Rows = rowsOf (now counts) (now masks) (now several) (now rests) (now singles) in
+        Ready n rows (now lefts) (now rights) t (now order) × (rows ≤ length (now listed)) × (free < noSet)
+        × FirstRun n rows (now lefts) (now rights) t (now order) limit free from found by × (by < noSet)) ⌝ }
+    ensures { λ r. ⌜ (let t : Rows = rowsOf (now (counts .entry)) (now (masks .entry)) (now (several .entry)) (now (rests .entry))
+        (now (singles .entry)) in
+        First n rows (now (lefts .entry)) (now (rights .entry)) t (now (order .entry)) limit free (r .end) (r .set)) ⌝ }
     ensures { λ _. ⌜ length (now (listed .exit)) ≡ length (now (listed .entry)) ⌝ }
 {
     let mut set = by;
-    let mut end = next_end(lefts, n, rows, latest(lefts, counts, masks, n, rows, set));
+    let mut end = next_end(
+        lefts,
+        n,
+        rows,
+        latest(lefts, counts, masks, several, rests, singles, n, rows, set),
+    );
     while from < end {
         let x = last_end(lefts, n, rows, from, end - 1);
         let m = list_outside(order, rows, lefts, rights, x, listed);
@@ -229,19 +266,27 @@ fn first_in_run(
             listed,
             counts,
             masks,
+            several,
+            rests,
+            singles,
             m,
             limit,
-            536870912,
+            names::NO_SET,
             0,
             0,
             free,
-            536870912,
+            names::NO_SET,
         );
-        if 536870912 <= other {
+        if names::NO_SET <= other {
             return Reached { end, set };
         }
         set = other;
-        end = next_end(lefts, n, rows, latest(lefts, counts, masks, n, rows, set));
+        end = next_end(
+            lefts,
+            n,
+            rows,
+            latest(lefts, counts, masks, several, rests, singles, n, rows, set),
+        );
     }
     Reached { end, set }
 }
@@ -252,6 +297,9 @@ pub fn first_end(
     rights: &[u64],
     counts: &[u32],
     masks: &[u32],
+    several: &[u32],
+    rests: &[u32],
+    singles: &[u32],
     order: &[u32],
     listed: &mut [u32],
     n: usize,
@@ -259,8 +307,11 @@ pub fn first_end(
     limit: u32,
     free: u32,
 ) -> Reached
-    requires { ⌜ Ready n rows (now lefts) (now rights) (now counts) (now masks) (now order) × (rows ≤ length (now listed)) × (free < none) ⌝ }
-    ensures { λ r. ⌜ First n rows (now (lefts .entry)) (now (rights .entry)) (now (counts .entry)) (now (masks .entry)) (now (order .entry)) limit free (r .end) (r .set) ⌝ }
+    requires { ⌜ (let t : Rows = rowsOf (now counts) (now masks) (now several) (now rests) (now singles) in
+        Ready n rows (now lefts) (now rights) t (now order) × (rows ≤ length (now listed)) × (free < noSet)) ⌝ }
+    ensures { λ r. ⌜ (let t : Rows = rowsOf (now (counts .entry)) (now (masks .entry)) (now (several .entry)) (now (rests .entry))
+        (now (singles .entry)) in
+        First n rows (now (lefts .entry)) (now (rights .entry)) t (now (order .entry)) limit free (r .end) (r .set)) ⌝ }
     ensures { λ _. ⌜ length (now (listed .exit)) ≡ length (now (listed .entry)) ⌝ }
 {
     let run = first_run(
@@ -268,6 +319,9 @@ pub fn first_end(
         rights,
         counts,
         masks,
+        several,
+        rests,
+        singles,
         order,
         listed,
         n,
@@ -275,10 +329,10 @@ pub fn first_end(
         limit,
         free,
     );
-    if 536870912 <= run.set {
+    if names::NO_SET <= run.set {
         return Reached {
             end: 0,
-            set: 536870912,
+            set: names::NO_SET,
         };
     }
     first_in_run(
@@ -286,6 +340,9 @@ pub fn first_end(
         rights,
         counts,
         masks,
+        several,
+        rests,
+        singles,
         order,
         listed,
         n,

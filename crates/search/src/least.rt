@@ -1,6 +1,7 @@
 // The least set of failed names of all (document 01, "Fewest failures"): over the left ends, and over every predicate where there is no end.
 ghost use Prim.Native.Nat.{_≤_};
 ghost use lib.ListN.{length};
+ghost use Rattle.search.specs.Search.{Rows, rowsOf};
 ghost use Rattle.search.specs.Ends.{Ready, Least};
 
 // The least set within the limit that explains every claim, or those whose interval lacks the left end of one of rows n to `rows`; 2^29, the
@@ -11,6 +12,9 @@ fn least_set(
     rights: &[u64],
     counts: &[u32],
     masks: &[u32],
+    several: &[u32],
+    rests: &[u32],
+    singles: &[u32],
     order: &[u32],
     listed: &mut [u32],
     n: usize,
@@ -18,33 +22,53 @@ fn least_set(
     limit: u32,
     free: u32,
 ) -> u32
-    requires { ⌜ Ready n rows (now lefts) (now rights) (now counts) (now masks) (now order) × (rows ≤ length (now listed)) ⌝ }
-    ensures { λ r. ⌜ Least n rows (now (lefts .entry)) (now (rights .entry)) (now (counts .entry)) (now (masks .entry)) (now (order .entry)) limit free r ⌝ }
+    requires { ⌜ (let t : Rows = rowsOf (now counts) (now masks) (now several) (now rests) (now singles) in
+        Ready n rows (now lefts) (now rights) t (now order) × (rows ≤ length (now listed))) ⌝ }
+    ensures { λ r. ⌜ (let t : Rows = rowsOf (now (counts .entry)) (now (masks .entry)) (now (several .entry)) (now (rests .entry))
+        (now (singles .entry)) in
+        Least n rows (now (lefts .entry)) (now (rights .entry)) t (now (order .entry)) limit free r) ⌝ }
 {
     if n == rows {
         return super::search::predicate_step(
             order,
             counts,
             masks,
+            several,
+            rests,
+            singles,
             rows,
             limit,
             0,
             0,
             0,
             free,
-            536870912,
+            names::NO_SET,
         );
     }
-    let mut best: u32 = 536870912;
+    let mut best: u32 = names::NO_SET;
     let mut floor: u64 = 0;
     loop {
         let from = super::ends::next_end(lefts, n, rows, floor);
-        if from == 18446744073709551615 {
+        if from == super::NO_END {
             return best;
         }
         let x = super::ends::run_end(lefts, rights, n, rows, from);
         let m = super::ends::list_outside(order, rows, lefts, rights, x, listed);
-        best = super::search::predicate_step(listed, counts, masks, m, limit, 0, 0, 0, free, best);
+        best = super::search::predicate_step(
+            listed,
+            counts,
+            masks,
+            several,
+            rests,
+            singles,
+            m,
+            limit,
+            0,
+            0,
+            0,
+            free,
+            best,
+        );
         floor = x + 1;
     }
 }
@@ -55,6 +79,9 @@ pub fn least_within(
     rights: &[u64],
     counts: &[u32],
     masks: &[u32],
+    several: &[u32],
+    rests: &[u32],
+    singles: &[u32],
     order: &[u32],
     listed: &mut [u32],
     n: usize,
@@ -62,30 +89,39 @@ pub fn least_within(
     limit: u32,
     free: u32,
 ) -> u32
-    requires { ⌜ Ready n rows (now lefts) (now rights) (now counts) (now masks) (now order) × (rows ≤ length (now listed)) ⌝ }
-    ensures { λ r. ⌜ Least n rows (now (lefts .entry)) (now (rights .entry)) (now (counts .entry)) (now (masks .entry)) (now (order .entry)) limit free r ⌝ }
+    requires { ⌜ (let t : Rows = rowsOf (now counts) (now masks) (now several) (now rests) (now singles) in
+        Ready n rows (now lefts) (now rights) t (now order) × (rows ≤ length (now listed))) ⌝ }
+    ensures { λ r. ⌜ (let t : Rows = rowsOf (now (counts .entry)) (now (masks .entry)) (now (several .entry)) (now (rests .entry))
+        (now (singles .entry)) in
+        Least n rows (now (lefts .entry)) (now (rights .entry)) t (now (order .entry)) limit free r) ⌝ }
 {
     let known = super::ends::list_entries(order, rows, n, listed);
     let some = super::search::predicate_step(
         listed,
         counts,
         masks,
+        several,
+        rests,
+        singles,
         known,
         limit,
-        536870912,
+        names::NO_SET,
         0,
         0,
         free,
-        536870912,
+        names::NO_SET,
     );
-    if 536870912 <= some {
-        return 536870912;
+    if names::NO_SET <= some {
+        return names::NO_SET;
     }
     least_set(
         lefts,
         rights,
         counts,
         masks,
+        several,
+        rests,
+        singles,
         order,
         listed,
         n,

@@ -1,7 +1,7 @@
 // The search for a set of failed names that makes predicates true (document 01, "Fewest failures"): from an unexplained predicate to its terms, from
 // a term to the next unexplained predicate. It stops at the first set below `enough`; else it goes on to the least.
 ghost use mathlib.Core.Path.{_≡_};
-ghost use mathlib.Core.List.{_∷_};
+ghost use mathlib.Core.List.{List, _∷_};
 ghost use mathlib.Core.Bool.{_&&_, not, cond};
 ghost use Prim.Native.Nat.{ℕ, _+_, _-_, _*_, _≤_, _<_, min};
 ghost use lib.Dec.{T, eqb, leb, ltb};
@@ -10,7 +10,7 @@ ghost use lib.ListN.{length, getD, take, drop};
 ghost use Rattle.names.specs.Sets.{subset, union, shared, less};
 ghost use Rattle.predicates.specs.Lists.{all};
 ghost use Rattle.predicates.specs.Predicates.{holds as Predicates·holds};
-ghost use Rattle.search.specs.Search.{Best, Rows, rowTerms, Parted, predAt, preds, skipped, gather, alone};
+ghost use Rattle.search.specs.Search.{Rows, rowsOf, rowWidth, Best, RowsFit, rowTerms, Parted, predAt, preds, skipped, gather, alone};
 
 // The lesser of two masks.
 pub fn lesser(a: u32, b: u32) -> u32
@@ -30,34 +30,67 @@ pub struct Part {
 
 // Where the terms of the predicate at place j stand.
 pub fn terms_at(listed: &[u32], counts: &[u32], masks: &[u32], j: usize) -> Part
-    requires { ⌜ (j < length (now listed)) × (getD (now listed) j 0 < length (now counts)) × (getD (now listed) j 0 * 16 + getD (now counts) (getD (now listed) j 0) 0 ≤ length (now masks)) ⌝ }
-    ensures { λ r. ⌜ (r .at ≡ getD (now (listed .entry)) j 0 * 16) × (r .end ≡ getD (now (listed .entry)) j 0 * 16 + getD (now (counts .entry)) (getD (now (listed .entry)) j 0) 0) ⌝ }
+    requires { ⌜ (let row : ℕ = getD (now listed) j 0 in
+        (j < length (now listed)) × (row < length (now counts)) × (row * rowWidth + getD (now counts) row 0 ≤ length (now masks))) ⌝ }
+    ensures { λ r. ⌜ (let row : ℕ = getD (now (listed .entry)) j 0 in
+        (r .at ≡ row * rowWidth) × (r .end ≡ row * rowWidth + getD (now (counts .entry)) row 0)) ⌝ }
 {
     let row = listed[j] as usize;
-    let at = row * 16;
+    let at = row * super::ROW_WIDTH;
     let end = at + counts[row] as usize;
     Part { at, end }
 }
 
 // Whether the set makes the predicate of the row true: it has a name that is a term, or one of the terms of several names.
-pub fn row_holds(counts: &[u32], masks: &[u32], row: usize, set: u32) -> bool
-    requires { ⌜ Parted (now counts) (now masks) row ⌝ }
-    ensures { λ r. ⌜ r ≡ Predicates·holds set (rowTerms (now (counts .entry)) (now (masks .entry)) row) ⌝ }
+pub fn row_holds(
+    counts: &[u32],
+    masks: &[u32],
+    several: &[u32],
+    rests: &[u32],
+    singles: &[u32],
+    row: usize,
+    set: u32,
+) -> bool
+    requires { ⌜ (let t : Rows = rowsOf (now counts) (now masks) (now several) (now rests) (now singles) in
+        Parted t row) ⌝ }
+    ensures { λ r. ⌜ (let t : Rows = rowsOf (now (counts .entry)) (now (masks .entry)) (now (several .entry)) (now (rests .entry))
+        (now (singles .entry)) in
+        r ≡ Predicates·holds set (rowTerms t row)) ⌝ }
 {
-    if 0 < names::shared(set, counts[96 + row]) {
+    if 0 < names::shared(set, singles[row]) {
         return true;
     }
-    let at = 768 + row * 16;
-    let end = at + counts[48 + row] as usize;
-    predicates::holds(&masks[at..end], set)
+    let at = row * super::ROW_WIDTH;
+    let end = at + several[row] as usize;
+    predicates::holds(&rests[at..end], set)
 }
 
 // Whether the set makes the predicate at place j true.
-fn explained(listed: &[u32], counts: &[u32], masks: &[u32], j: usize, set: u32) -> bool
-    requires { ⌜ (j < length (now listed)) × Parted (now counts) (now masks) (getD (now listed) j 0) ⌝ }
-    ensures { λ r. ⌜ r ≡ Predicates·holds set (predAt (now (listed .entry)) (now (counts .entry)) (now (masks .entry)) j) ⌝ }
+fn explained(
+    listed: &[u32],
+    counts: &[u32],
+    masks: &[u32],
+    several: &[u32],
+    rests: &[u32],
+    singles: &[u32],
+    j: usize,
+    set: u32,
+) -> bool
+    requires { ⌜ (let t : Rows = rowsOf (now counts) (now masks) (now several) (now rests) (now singles) in
+        (j < length (now listed)) × Parted t (getD (now listed) j 0)) ⌝ }
+    ensures { λ r. ⌜ (let t : Rows = rowsOf (now (counts .entry)) (now (masks .entry)) (now (several .entry)) (now (rests .entry))
+        (now (singles .entry)) in
+        r ≡ Predicates·holds set (predAt (now (listed .entry)) t j)) ⌝ }
 {
-    row_holds(counts, masks, listed[j] as usize, set)
+    row_holds(
+        counts,
+        masks,
+        several,
+        rests,
+        singles,
+        listed[j] as usize,
+        set,
+    )
 }
 
 // The place of the next predicate from i on that the set leaves false, or n.
@@ -65,16 +98,23 @@ fn next_unexplained(
     listed: &[u32],
     counts: &[u32],
     masks: &[u32],
+    several: &[u32],
+    rests: &[u32],
+    singles: &[u32],
     n: usize,
     i: usize,
     set: u32,
 ) -> usize
-    requires { ⌜ Rows n (now listed) (now counts) (now masks) × (i ≤ n) ⌝ }
-    ensures { λ r. ⌜ (i ≤ r) × (r ≤ n) × (drop r (preds n (now (listed .entry)) (now (counts .entry)) (now (masks .entry))) ≡ skipped set (drop i (preds n (now (listed .entry)) (now (counts .entry)) (now (masks .entry))))) ⌝ }
+    requires { ⌜ (let t : Rows = rowsOf (now counts) (now masks) (now several) (now rests) (now singles) in
+        RowsFit n (now listed) t × (i ≤ n)) ⌝ }
+    ensures { λ r. ⌜ (let t : Rows = rowsOf (now (counts .entry)) (now (masks .entry)) (now (several .entry)) (now (rests .entry))
+        (now (singles .entry)) in
+        let ps : List (List ℕ) = preds n (now (listed .entry)) t in
+        (i ≤ r) × (r ≤ n) × (drop r ps ≡ skipped set (drop i ps))) ⌝ }
 {
     let mut k = i;
     while k < n {
-        if !explained(listed, counts, masks, k, set) {
+        if !explained(listed, counts, masks, several, rests, singles, k, set) {
             return k;
         }
         k += 1;
@@ -104,18 +144,32 @@ fn sift_terms(p: &[u32], set: u32, base: u32, names: u32) -> u32
 }
 
 // Of the names those that alone, beside the set, make the predicate at place j true; all of them where the set makes it true.
-fn sift(listed: &[u32], counts: &[u32], masks: &[u32], j: usize, set: u32, names: u32) -> u32
-    requires { ⌜ (j < length (now listed)) × Parted (now counts) (now masks) (getD (now listed) j 0) ⌝ }
-    ensures { λ r. ⌜ r ≡ cond (Predicates·holds set (predAt (now (listed .entry)) (now (counts .entry)) (now (masks .entry)) j)) names (shared names (alone (ones set + 1) set (predAt (now (listed .entry)) (now (counts .entry)) (now (masks .entry)) j))) ⌝ }
+fn sift(
+    listed: &[u32],
+    counts: &[u32],
+    masks: &[u32],
+    several: &[u32],
+    rests: &[u32],
+    singles: &[u32],
+    j: usize,
+    set: u32,
+    names: u32,
+) -> u32
+    requires { ⌜ (let t : Rows = rowsOf (now counts) (now masks) (now several) (now rests) (now singles) in
+        (j < length (now listed)) × Parted t (getD (now listed) j 0)) ⌝ }
+    ensures { λ r. ⌜ (let t : Rows = rowsOf (now (counts .entry)) (now (masks .entry)) (now (several .entry)) (now (rests .entry))
+        (now (singles .entry)) in
+        let p : List ℕ = predAt (now (listed .entry)) t j in
+        r ≡ cond (Predicates·holds set p) names (shared names (alone (ones set + 1) set p))) ⌝ }
 {
     let row = listed[j] as usize;
-    let one = counts[96 + row];
+    let one = singles[row];
     if 0 < names::shared(set, one) {
         return names;
     }
-    let at = 768 + row * 16;
-    let end = at + counts[48 + row] as usize;
-    sift_terms(&masks[at..end], set, names::union(set, one), names)
+    let at = row * super::ROW_WIDTH;
+    let end = at + several[row] as usize;
+    sift_terms(&rests[at..end], set, names::union(set, one), names)
 }
 
 // The lesser of `best` and a set that alone is left to try, if that makes the predicates from j on true.
@@ -123,15 +177,21 @@ fn only_set(
     listed: &[u32],
     counts: &[u32],
     masks: &[u32],
+    several: &[u32],
+    rests: &[u32],
+    singles: &[u32],
     n: usize,
     j: usize,
     set: u32,
     best: u32,
 ) -> u32
-    requires { ⌜ Rows n (now listed) (now counts) (now masks) × (j ≤ n) ⌝ }
-    ensures { λ r. ⌜ r ≡ cond (all (Predicates·holds set) (drop j (preds n (now (listed .entry)) (now (counts .entry)) (now (masks .entry))))) (min set best) best ⌝ }
+    requires { ⌜ (let t : Rows = rowsOf (now counts) (now masks) (now several) (now rests) (now singles) in
+        RowsFit n (now listed) t × (j ≤ n)) ⌝ }
+    ensures { λ r. ⌜ (let t : Rows = rowsOf (now (counts .entry)) (now (masks .entry)) (now (several .entry)) (now (rests .entry))
+        (now (singles .entry)) in
+        r ≡ cond (all (Predicates·holds set) (drop j (preds n (now (listed .entry)) t))) (min set best) best) ⌝ }
 {
-    if next_unexplained(listed, counts, masks, n, j, set) < n {
+    if next_unexplained(listed, counts, masks, several, rests, singles, n, j, set) < n {
         return best;
     }
     lesser(set, best)
@@ -143,6 +203,9 @@ fn last_name(
     listed: &[u32],
     counts: &[u32],
     masks: &[u32],
+    several: &[u32],
+    rests: &[u32],
+    singles: &[u32],
     n: usize,
     k: usize,
     set: u32,
@@ -150,9 +213,11 @@ fn last_name(
     limit: u32,
     best: u32,
 ) -> u32
-    requires { ⌜ Rows n (now listed) (now counts) (now masks) × (k < n) × (ones set + 1 ≡ limit) ⌝ }
-    requires { ⌜ T (not (Predicates·holds set (predAt (now listed) (now counts) (now masks) k))) ⌝ }
-    ensures { λ r. ⌜ ((enough : ℕ) → Best enough limit set free (drop k (preds n (now (listed .entry)) (now (counts .entry)) (now (masks .entry)))) best r) ⌝ }
+    requires { ⌜ (let t : Rows = rowsOf (now counts) (now masks) (now several) (now rests) (now singles) in
+        RowsFit n (now listed) t × (k < n) × (ones set + 1 ≡ limit) × T (not (Predicates·holds set (predAt (now listed) t k)))) ⌝ }
+    ensures { λ r. ⌜ (let t : Rows = rowsOf (now (counts .entry)) (now (masks .entry)) (now (several .entry)) (now (rests .entry))
+        (now (singles .entry)) in
+        ((enough : ℕ) → Best enough limit set free (drop k (preds n (now (listed .entry)) t)) best r)) ⌝ }
 {
     let mut names = names::union(set, free);
     let mut j = k;
@@ -162,9 +227,30 @@ fn last_name(
         }
         let left = names::less(names, set);
         if names::at_most_one(left) {
-            return only_set(listed, counts, masks, n, j, names::union(set, left), best);
+            return only_set(
+                listed,
+                counts,
+                masks,
+                several,
+                rests,
+                singles,
+                n,
+                j,
+                names::union(set, left),
+                best,
+            );
         }
-        names = sift(listed, counts, masks, j, set, names);
+        names = sift(
+            listed,
+            counts,
+            masks,
+            several,
+            rests,
+            singles,
+            j,
+            set,
+            names,
+        );
         j += 1;
     }
     if names == set {
@@ -209,6 +295,9 @@ pub fn predicate_step(
     listed: &[u32],
     counts: &[u32],
     masks: &[u32],
+    several: &[u32],
+    rests: &[u32],
+    singles: &[u32],
     n: usize,
     limit: u32,
     enough: u32,
@@ -217,10 +306,13 @@ pub fn predicate_step(
     free: u32,
     best: u32,
 ) -> u32
-    requires { ⌜ Rows n (now listed) (now counts) (now masks) × (i ≤ n) × (ones set ≤ limit) ⌝ }
-    ensures { λ r. ⌜ Best enough limit set free (drop i (preds n (now (listed .entry)) (now (counts .entry)) (now (masks .entry)))) best r ⌝ }
+    requires { ⌜ (let t : Rows = rowsOf (now counts) (now masks) (now several) (now rests) (now singles) in
+        RowsFit n (now listed) t × (i ≤ n) × (ones set ≤ limit)) ⌝ }
+    ensures { λ r. ⌜ (let t : Rows = rowsOf (now (counts .entry)) (now (masks .entry)) (now (several .entry)) (now (rests .entry))
+        (now (singles .entry)) in
+        Best enough limit set free (drop i (preds n (now (listed .entry)) t)) best r) ⌝ }
 {
-    let k = next_unexplained(listed, counts, masks, n, i, set);
+    let k = next_unexplained(listed, counts, masks, several, rests, singles, n, i, set);
     if n <= k {
         return lesser(set, best);
     }
@@ -229,13 +321,29 @@ pub fn predicate_step(
         return best;
     }
     if limit == size + 1 {
-        return last_name(listed, counts, masks, n, k, set, free, limit, best);
+        return last_name(
+            listed,
+            counts,
+            masks,
+            several,
+            rests,
+            singles,
+            n,
+            k,
+            set,
+            free,
+            limit,
+            best,
+        );
     }
     let part = terms_at(listed, counts, masks, k);
     term_step(
         listed,
         counts,
         masks,
+        several,
+        rests,
+        singles,
         n,
         limit,
         enough,
@@ -253,6 +361,9 @@ pub fn term_step(
     listed: &[u32],
     counts: &[u32],
     masks: &[u32],
+    several: &[u32],
+    rests: &[u32],
+    singles: &[u32],
     n: usize,
     limit: u32,
     enough: u32,
@@ -263,8 +374,12 @@ pub fn term_step(
     free: u32,
     best: u32,
 ) -> u32
-    requires { ⌜ Rows n (now listed) (now counts) (now masks) × (i < n) × (end ≤ at + 16) × (end ≤ length (now masks)) × (ones set ≤ limit) ⌝ }
-    ensures { λ r. ⌜ Best enough limit set free (take (end - at) (drop at (now (masks .entry))) ∷ drop (i + 1) (preds n (now (listed .entry)) (now (counts .entry)) (now (masks .entry)))) best r ⌝ }
+    requires { ⌜ (let t : Rows = rowsOf (now counts) (now masks) (now several) (now rests) (now singles) in
+        RowsFit n (now listed) t × (i < n) × (end ≤ at + rowWidth) × (end ≤ length (now masks)) × (ones set ≤ limit)) ⌝ }
+    ensures { λ r. ⌜ (let t : Rows = rowsOf (now (counts .entry)) (now (masks .entry)) (now (several .entry)) (now (rests .entry))
+        (now (singles .entry)) in
+        let ps : List (List ℕ) = drop (i + 1) (preds n (now (listed .entry)) t) in
+        Best enough limit set free (take (end - at) (drop at (now (masks .entry))) ∷ ps) best r) ⌝ }
 {
     if end <= at {
         return best;
@@ -278,6 +393,9 @@ pub fn term_step(
             listed,
             counts,
             masks,
+            several,
+            rests,
+            singles,
             n,
             limit,
             enough,
@@ -295,6 +413,9 @@ pub fn term_step(
         listed,
         counts,
         masks,
+        several,
+        rests,
+        singles,
         n,
         limit,
         enough,

@@ -9,14 +9,14 @@ use Rattle.search.proofs.ends.first_end.Tie as tie
 returns : tie.Need-returns
 returns c =
     let at-run = c .before .before .before .before in
-    let a = at-run .before .before .before .before .before .before .before .before in
-    (no-first _ _ _ _ _ _ _ (a .pre .0) _ _ _ _ _ (at-run .first-run .ensures .0) (c .if1 .taken), at-run .first-run .ensures .1)
+    let a = at-run .before .before .before .before .before .before .before .before .before .before .before in
+    (no-first _ _ _ _ _ _ (a .pre .0) _ _ _ _ _ (at-run .first-run .ensures .0) (c .if1 .taken), at-run .first-run .ensures .1)
 
 first-in-run-requires : tie.Need-first-in-run-requires
 first-in-run-requires c κs =
     let at-run = c .before .before .before .before .before in
-    let a = at-run .before .before .before .before .before .before .before .before in
-    ((a .pre .0, omega (arith, a .pre .1, at-run .first-run .ensures .1), a .pre .2), (at-run .first-run .ensures .0, c .before .if1 .left))
+    let a = at-run .before .before .before .before .before .before .before .before .before .before .before in
+    (a .pre .0, omega (arith, a .pre .1, at-run .first-run .ensures .1), a .pre .2, at-run .first-run .ensures .0, c .before .if1 .left)
 
 returns-2 : tie.Need-returns-2
 returns-2 c =

@@ -6,7 +6,7 @@ use mathlib.Core.Logic.{⊎-elim}
 use native.Mathlib.Omega.{arith}
 use lib.ListN.{length}
 use Rattle.names.proofs.SetLaws.{ones-empty}
-use Rattle.search.specs.Search.{Fits}
+use Rattle.search.specs.Search.{rowsOf, Fits}
 use Rattle.search.specs.Ends.{IsEnd, needs as Ends·needs}
 use Rattle.search.proofs.EndSteps.{listed-rows, listed-needs}
 use Rattle.search.proofs.RunLaws.{back-le, back-end, back-explains, back-done, back-stop, last-is-end, last-lt}
@@ -14,32 +14,32 @@ use Rattle.search.proofs.ends.first_in_run.Statement.{statement}
 use Rattle.search.proofs.ends.first_in_run.Tie as tie
 
 abbrev Inv-loop : tie.InvT-loop
-Inv-loop lefts rights counts masks order listed₀ n rows limit free from found by set₀ end₀ listed set end =
-    (length listed ≡ length listed₀) × IsEnd n rows lefts end × Fits limit 0 free (Ends·needs rows lefts rights counts masks order end) set
+Inv-loop lefts rights counts masks several rests singles order listed₀ n rows limit free from found by set₀ end₀ listed set end =
+    (length listed ≡ length listed₀) × IsEnd n rows lefts end × Fits limit 0 free (Ends·needs rows lefts rights (rowsOf counts masks several rests singles) order end) set
     × (end ≤ found)
 
 abbrev μ-loop : tie.MeasureT-loop
-μ-loop lefts rights counts masks order listed₀ n rows limit free from found by set₀ end₀ listed set end = end
+μ-loop lefts rights counts masks several rests singles order listed₀ n rows limit free from found by set₀ end₀ listed set end = end
 
 latest-requires : tie.Need-latest-requires Inv-loop μ-loop
 latest-requires c κs =
-    let ready = c .before .before .before .before .before .before .pre .0 .0 in
+    let ready = c .before .before .before .before .before .before .before .before .before .pre .0 in
     (ready .entries-le, ready .lefts-long, ready .parted)
 
 next-end-requires : tie.Need-next-end-requires Inv-loop μ-loop
 next-end-requires c κs =
-    let ready = c .before .before .before .before .before .before .before .pre .0 .0 in (ready .entries-le, ready .lefts-long)
+    let ready = c .before .before .before .before .before .before .before .before .before .before .pre .0 in (ready .entries-le, ready .lefts-long)
 
 loop-holds : tie.Need-loop-holds Inv-loop μ-loop
 loop-holds c =
-    let a = c .before .before .before .before .before .before .before .before in
-    let run = a .pre .1 .0 .explained (a .pre .1 .1) in
+    let a = c .before .before .before .before .before .before .before .before .before .before .before in
+    let run = a .pre .3 .explained (a .pre .4) in
     let latest = c .before .latest .ensures in
     let next = c .next-end .ensures in (
       refl,
-      back-end _ _ _ _ _ _ _ (a .pre .0 .0) _ _ _ _ _ _ (run .1) (run .0) latest next,
-      back-explains _ _ _ _ _ _ _ (a .pre .0 .0) _ _ _ _ _ _ (run .1) (run .0) latest next,
-      back-le _ _ _ _ _ _ _ (a .pre .0 .0) _ _ _ _ _ _ (run .1) (run .0) latest next,
+      back-end _ _ _ _ _ _ (a .pre .0) _ _ _ _ _ _ (run .1) (run .0) latest next,
+      back-explains _ _ _ _ _ _ (a .pre .0) _ _ _ _ _ _ (run .1) (run .0) latest next,
+      back-le _ _ _ _ _ _ (a .pre .0) _ _ _ _ _ _ (run .1) (run .0) latest next,
     )
 
 sub-last-end : tie.Need-sub-last-end Inv-loop μ-loop
@@ -48,22 +48,22 @@ sub-last-end c =
 
 last-end-requires : tie.Need-last-end-requires Inv-loop μ-loop
 last-end-requires c κs =
-    let ready = c .before .before .before .before .before .before .before .before .before .before .pre .0 .0 in (ready .entries-le, ready .lefts-long)
+    let ready = c .before .before .before .before .before .before .before .before .before .before .before .before .before .pre .0 in (ready .entries-le, ready .lefts-long)
 
 list-outside-requires : tie.Need-list-outside-requires Inv-loop μ-loop
 list-outside-requires c κs =
     let head = c .before .before .before in
-    let a = head .before .before .before .before .before .before .before .before .before in
-    let ready = a .pre .0 .0 in
-    (ready .most, ready .ordered, omega (arith, a .pre .0 .1, head .loop .inv .0), ready .lefts-long, ready .rights-long, ready .placed)
+    let a = head .before .before .before .before .before .before .before .before .before .before .before .before in
+    let ready = a .pre .0 in
+    (ready .most, ready .ordered, omega (arith, a .pre .1, head .loop .inv .0), ready .lefts-long, ready .rights-long, ready .placed)
 
 predicate-step-requires : tie.Need-predicate-step-requires Inv-loop μ-loop
 predicate-step-requires c κs =
     let at-list = c .before .before .before in
     let head = at-list .before .before .before .before in
-    let a = head .before .before .before .before .before .before .before .before .before in
+    let a = head .before .before .before .before .before .before .before .before .before .before .before .before in
     let out = at-list .list-outside .ensures in
-    let rows = listed-rows _ _ _ _ _ _ _ _ _ (a .pre .0 .0) (omega (arith, a .pre .0 .1, head .loop .inv .0)) _ _ (out .0 .0) (out .0 .1) (out .1) in
+    let rows = listed-rows _ _ _ _ _ _ _ _ (a .pre .0) (omega (arith, a .pre .1, head .loop .inv .0)) _ _ (out .0) (out .1) (out .2) in
     (rows, omega arith, omega (arith, ones-empty))
 
 same-length : tie.Need-same-length Inv-loop μ-loop
@@ -74,10 +74,10 @@ returns : tie.Need-returns Inv-loop μ-loop
 returns c =
     let at-list = c .before .before .before .before .before in
     let head = at-list .before .before .before .before in
-    let a = head .before .before .before .before .before .before .before .before .before in
+    let a = head .before .before .before .before .before .before .before .before .before .before .before .before in
     let out = at-list .list-outside .ensures in
-    let same = listed-needs _ _ _ _ _ _ _ _ _ (a .pre .0 .0) (omega (arith, a .pre .0 .1, head .loop .inv .0)) _ _ (out .0 .0) (out .0 .1) (out .1) in (
-      back-stop _ _ _ _ _ _ _ (a .pre .0 .0) _ _ (a .pre .0 .2) _ _ _ (a .pre .1 .0) (a .pre .1 .1) _ _ (head .loop .inv .1) (head .loop .inv .2)
+    let same = listed-needs _ _ _ _ _ _ _ _ (a .pre .0) (omega (arith, a .pre .1, head .loop .inv .0)) _ _ (out .0) (out .1) (out .2) in (
+      back-stop _ _ _ _ _ _ (a .pre .0) _ _ (a .pre .2) _ _ _ (a .pre .3) (a .pre .4) _ _ (head .loop .inv .1) (head .loop .inv .2)
           (at-list .before .before .before .loop-test .taken) (head .loop .inv .3) _ (at-list .before .before .last-end .ensures) _
           (rw same at (c .before .predicate-step .ensures)) (c .if1 .taken),
       at-list .list-outside .kept .1 .1 .1 .1 .1 .0 ∙ head .loop .inv .0,
@@ -85,49 +85,49 @@ returns c =
 
 latest-requires-2 : tie.Need-latest-requires-2 Inv-loop μ-loop
 latest-requires-2 c κs =
-    let ready = c .before .before .before .before .before .before .before .before .before .before .before .before .before .before .before .before .before .before .pre .0 .0 in
+    let ready = c .before .before .before .before .before .before .before .before .before .before .before .before .before .before .before .before .before .before .before .before .before .pre .0 in
     (ready .entries-le, ready .lefts-long, ready .parted)
 
 next-end-requires-2 : tie.Need-next-end-requires-2 Inv-loop μ-loop
 next-end-requires-2 c κs =
-    let ready = c .before .before .before .before .before .before .before .before .before .before .before .before .before .before .before .before .before .before .before .pre .0 .0 in (ready .entries-le, ready .lefts-long)
+    let ready = c .before .before .before .before .before .before .before .before .before .before .before .before .before .before .before .before .before .before .before .before .before .before .pre .0 in (ready .entries-le, ready .lefts-long)
 
 loop-less : tie.Need-loop-less Inv-loop μ-loop
 loop-less c =
     let at-list = c .before .before .before .before .before .before .before in
     let head = at-list .before .before .before .before in
-    let a = head .before .before .before .before .before .before .before .before .before in
+    let a = head .before .before .before .before .before .before .before .before .before .before .before .before in
     let out = at-list .list-outside .ensures in
-    let same = listed-needs _ _ _ _ _ _ _ _ _ (a .pre .0 .0) (omega (arith, a .pre .0 .1, head .loop .inv .0)) _ _ (out .0 .0) (out .0 .1) (out .1) in
+    let same = listed-needs _ _ _ _ _ _ _ _ (a .pre .0) (omega (arith, a .pre .1, head .loop .inv .0)) _ _ (out .0) (out .1) (out .2) in
     let found = ⊎-elim (λ e. absurd (omega (arith, c .before .before .if1 .left))) (λ f. f) (rw same at (c .before .before .before .predicate-step .ensures) .from) in
     let last = at-list .before .before .last-end .ensures in
     let over = at-list .before .before .before .loop-test .taken in
     let inv = head .loop .inv in
-    let end = last-is-end _ _ _ _ _ _ _ (a .pre .0 .0) _ _ (a .pre .0 .2) _ _ _ (a .pre .1 .0) (a .pre .1 .1) _ _ (inv .1) (inv .2) over (inv .3) _ last in
-    let lower = last-lt _ _ _ _ _ _ _ (a .pre .0 .0) _ _ (a .pre .0 .2) _ _ _ (a .pre .1 .0) (a .pre .1 .1) _ _ (inv .1) (inv .2) over (inv .3) _ last in
+    let end = last-is-end _ _ _ _ _ _ (a .pre .0) _ _ (a .pre .2) _ _ _ (a .pre .3) (a .pre .4) _ _ (inv .1) (inv .2) over (inv .3) _ last in
+    let lower = last-lt _ _ _ _ _ _ (a .pre .0) _ _ (a .pre .2) _ _ _ (a .pre .3) (a .pre .4) _ _ (inv .1) (inv .2) over (inv .3) _ last in
     let latest = c .before .latest2 .ensures in
     let next = c .next-end2 .ensures in
-    omega (arith, lower, back-le _ _ _ _ _ _ _ (a .pre .0 .0) _ _ _ _ _ _ found end latest next)
+    omega (arith, lower, back-le _ _ _ _ _ _ (a .pre .0) _ _ _ _ _ _ found end latest next)
 
 loop-again : tie.Need-loop-again Inv-loop μ-loop
 loop-again c =
     let at-list = c .before .before .before .before .before .before .before in
     let head = at-list .before .before .before .before in
-    let a = head .before .before .before .before .before .before .before .before .before in
+    let a = head .before .before .before .before .before .before .before .before .before .before .before .before in
     let out = at-list .list-outside .ensures in
-    let same = listed-needs _ _ _ _ _ _ _ _ _ (a .pre .0 .0) (omega (arith, a .pre .0 .1, head .loop .inv .0)) _ _ (out .0 .0) (out .0 .1) (out .1) in
+    let same = listed-needs _ _ _ _ _ _ _ _ (a .pre .0) (omega (arith, a .pre .1, head .loop .inv .0)) _ _ (out .0) (out .1) (out .2) in
     let found = ⊎-elim (λ e. absurd (omega (arith, c .before .before .if1 .left))) (λ f. f) (rw same at (c .before .before .before .predicate-step .ensures) .from) in
     let last = at-list .before .before .last-end .ensures in
     let over = at-list .before .before .before .loop-test .taken in
     let inv = head .loop .inv in
-    let end = last-is-end _ _ _ _ _ _ _ (a .pre .0 .0) _ _ (a .pre .0 .2) _ _ _ (a .pre .1 .0) (a .pre .1 .1) _ _ (inv .1) (inv .2) over (inv .3) _ last in
-    let lower = last-lt _ _ _ _ _ _ _ (a .pre .0 .0) _ _ (a .pre .0 .2) _ _ _ (a .pre .1 .0) (a .pre .1 .1) _ _ (inv .1) (inv .2) over (inv .3) _ last in
+    let end = last-is-end _ _ _ _ _ _ (a .pre .0) _ _ (a .pre .2) _ _ _ (a .pre .3) (a .pre .4) _ _ (inv .1) (inv .2) over (inv .3) _ last in
+    let lower = last-lt _ _ _ _ _ _ (a .pre .0) _ _ (a .pre .2) _ _ _ (a .pre .3) (a .pre .4) _ _ (inv .1) (inv .2) over (inv .3) _ last in
     let latest = c .before .latest2 .ensures in
     let next = c .next-end2 .ensures in (
       at-list .list-outside .kept .1 .1 .1 .1 .1 .0 ∙ inv .0,
-      back-end _ _ _ _ _ _ _ (a .pre .0 .0) _ _ _ _ _ _ found end latest next,
-      back-explains _ _ _ _ _ _ _ (a .pre .0 .0) _ _ _ _ _ _ found end latest next,
-      omega (arith, inv .3, lower, back-le _ _ _ _ _ _ _ (a .pre .0 .0) _ _ _ _ _ _ found end latest next),
+      back-end _ _ _ _ _ _ (a .pre .0) _ _ _ _ _ _ found end latest next,
+      back-explains _ _ _ _ _ _ (a .pre .0) _ _ _ _ _ _ found end latest next,
+      omega (arith, inv .3, lower, back-le _ _ _ _ _ _ (a .pre .0) _ _ _ _ _ _ found end latest next),
     )
 
 same-length-2 : tie.Need-same-length-2 Inv-loop μ-loop
@@ -137,8 +137,8 @@ same-length-2 c =
 returns-2 : tie.Need-returns-2 Inv-loop μ-loop
 returns-2 c =
     let head = c .before in
-    let a = head .before .before .before .before .before .before .before .before .before in
-    (back-done _ _ _ _ _ _ _ (a .pre .0 .0) _ _ (a .pre .0 .2) _ _ _ (a .pre .1 .0) (a .pre .1 .1) _ _ (head .loop .inv .1) (head .loop .inv .2) (c .loop-test .left), head .loop .inv .0)
+    let a = head .before .before .before .before .before .before .before .before .before .before .before .before in
+    (back-done _ _ _ _ _ _ (a .pre .0) _ _ (a .pre .2) _ _ _ (a .pre .3) (a .pre .4) _ _ (head .loop .inv .1) (head .loop .inv .2) (c .loop-test .left), head .loop .inv .0)
 
 pub first-in-run-spec : {M : Type 1} → statement M
 first-in-run-spec =

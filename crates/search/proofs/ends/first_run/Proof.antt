@@ -7,7 +7,8 @@ use mathlib.Core.Logic.{⊎-elim}
 use native.Mathlib.Omega.{arith}
 use lib.ListN.{length, drop}
 use Rattle.numbers.proofs.NumberLaws.{above-zero, length-put}
-use Rattle.search.specs.Search.{none, Rows, preds}
+use Rattle.names.specs.Sets.{noSet}
+use Rattle.search.specs.Search.{rowsOf, masksMost, RowsFit, preds}
 use Rattle.search.specs.Ends.{noEnd, needs as Ends·needs, Unexplained, Trying}
 use Rattle.search.proofs.SearchSteps.{worth-few}
 use Rattle.search.proofs.EndSteps.{listed-row, listed-rows, listed-needs, trying-begin, trying-none, trying-skip, trying-stop, trying-on, none-needed}
@@ -17,35 +18,35 @@ use Rattle.search.proofs.ends.first_run.Statement.{statement}
 use Rattle.search.proofs.ends.first_run.Tie as tie
 
 abbrev Inv-loop : tie.InvT-loop
-Inv-loop lefts rights counts masks order listed n rows limit free floor from x m at₀ end left₀ at left =
-    (end ≤ length masks) × (1 ≤ m) × Rows m listed counts masks
-    × Trying limit free (Ends·needs rows lefts rights counts masks order x) masks (drop 1 (preds m listed counts masks)) end at left × (end ≤ 768)
+Inv-loop lefts rights counts masks several rests singles order listed n rows limit free floor from x m at₀ end left₀ at left =
+    (end ≤ length masks) × (1 ≤ m) × RowsFit m listed (rowsOf counts masks several rests singles)
+    × Trying limit free (Ends·needs rows lefts rights (rowsOf counts masks several rests singles) order x) masks (drop 1 (preds m listed (rowsOf counts masks several rests singles))) end at left × (end ≤ masksMost)
 
 abbrev μ-loop : tie.MeasureT-loop
-μ-loop lefts rights counts masks order listed n rows limit free floor from x m at₀ end left₀ at left = end - at
+μ-loop lefts rights counts masks several rests singles order listed n rows limit free floor from x m at₀ end left₀ at left = end - at
 
 abbrev Inv-ends : tie.InvT-ends
-Inv-ends lefts rights counts masks order listed₀ n rows limit free floor₀ listed floor =
-    (length listed ≡ length listed₀) × Unexplained n rows lefts rights counts masks order limit free floor
+Inv-ends lefts rights counts masks several rests singles order listed₀ n rows limit free floor₀ listed floor =
+    (length listed ≡ length listed₀) × Unexplained n rows lefts rights (rowsOf counts masks several rests singles) order limit free floor
 
 abbrev μ-ends : tie.MeasureT-ends
-μ-ends lefts rights counts masks order listed₀ n rows limit free floor₀ listed floor = noEnd - floor
+μ-ends lefts rights counts masks several rests singles order listed₀ n rows limit free floor₀ listed floor = noEnd - floor
 
 ends-holds : tie.Need-ends-holds Inv-loop μ-loop Inv-ends μ-ends
 ends-holds c = (refl, λ k a b d. absurd (omega arith))
 
 next-end-requires : tie.Need-next-end-requires Inv-loop μ-loop Inv-ends μ-ends
-next-end-requires c κs = let a = c .before .before .before .before .before .before .before in (a .pre .0 .entries-le, a .pre .0 .lefts-long)
+next-end-requires c κs = let a = c .before .before .before .before .before .before .before .before .before .before in (a .pre .0 .entries-le, a .pre .0 .lefts-long)
 
 run-end-requires : tie.Need-run-end-requires Inv-loop μ-loop Inv-ends μ-ends
 run-end-requires c κs =
-    let a = c .before .before .before .before .before .before .before .before .before in
+    let a = c .before .before .before .before .before .before .before .before .before .before .before .before in
     (a .pre .0 .entries-le, a .pre .0 .lefts-long, a .pre .0 .rights-long)
 
 list-outside-requires : tie.Need-list-outside-requires Inv-loop μ-loop Inv-ends μ-ends
 list-outside-requires c κs =
     let head = c .before .before .before .before in
-    let a = head .before .before .before .before .before .before .before in
+    let a = head .before .before .before .before .before .before .before .before .before .before in
     let ready = a .pre .0 in
     (ready .most, ready .ordered, omega (arith, a .pre .1, head .ends .inv .0), ready .lefts-long, ready .rights-long, ready .placed)
 
@@ -53,8 +54,8 @@ terms-at-requires : tie.Need-terms-at-requires Inv-loop μ-loop Inv-ends μ-ends
 terms-at-requires c κs =
     let at-list = c .before .before .before .before in
     let head = at-list .before .before .before .before .before in
-    let a = head .before .before .before .before .before .before .before in
-    let rows = listed-rows _ _ _ _ _ _ _ _ _ (a .pre .0) (omega (arith, a .pre .1, head .ends .inv .0)) _ _ (at-list .list-outside .ensures .0 .0) (at-list .list-outside .ensures .0 .1) (at-list .list-outside .ensures .1) in
+    let a = head .before .before .before .before .before .before .before .before .before .before in
+    let rows = listed-rows _ _ _ _ _ _ _ _ (a .pre .0) (omega (arith, a .pre .1, head .ends .inv .0)) _ _ (at-list .list-outside .ensures .0) (at-list .list-outside .ensures .1) (at-list .list-outside .ensures .2) in
     let some : 0 < at-list .list-outside .result = above-zero (c .before .if2 .left) in
     (omega (arith, rows .listed-long), rows .counted 0 some, rows .long 0 some)
 
@@ -62,14 +63,14 @@ loop-holds : tie.Need-loop-holds Inv-loop μ-loop Inv-ends μ-ends
 loop-holds c =
     let at-list = c .before .before .before .before .before in
     let head = at-list .before .before .before .before .before in
-    let a = head .before .before .before .before .before .before .before in
-    let rows = listed-rows _ _ _ _ _ _ _ _ _ (a .pre .0) (omega (arith, a .pre .1, head .ends .inv .0)) _ _ (at-list .list-outside .ensures .0 .0) (at-list .list-outside .ensures .0 .1) (at-list .list-outside .ensures .1) in
-    let row = listed-row _ _ _ _ _ _ _ _ _ (a .pre .0) (omega (arith, a .pre .1, head .ends .inv .0)) _ _ (at-list .list-outside .ensures .0 .0) (at-list .list-outside .ensures .0 .1) (at-list .list-outside .ensures .1) 0 (above-zero (c .before .before .if2 .left)) in
+    let a = head .before .before .before .before .before .before .before .before .before .before in
+    let rows = listed-rows _ _ _ _ _ _ _ _ (a .pre .0) (omega (arith, a .pre .1, head .ends .inv .0)) _ _ (at-list .list-outside .ensures .0) (at-list .list-outside .ensures .1) (at-list .list-outside .ensures .2) in
+    let row = listed-row _ _ _ _ _ _ _ _ (a .pre .0) (omega (arith, a .pre .1, head .ends .inv .0)) _ _ (at-list .list-outside .ensures .0) (at-list .list-outside .ensures .1) (at-list .list-outside .ensures .2) 0 (above-zero (c .before .before .if2 .left)) in
     let some : 0 < at-list .list-outside .result = above-zero (c .before .before .if2 .left) in (
       omega (arith, c .terms-at .ensures .1, rows .long 0 some),
       some,
       rows,
-      trying-begin _ _ _ _ _ _ _ _ _ some (listed-needs _ _ _ _ _ _ _ _ _ (a .pre .0) (omega (arith, a .pre .1, head .ends .inv .0)) _ _ (at-list .list-outside .ensures .0 .0) (at-list .list-outside .ensures .0 .1) (at-list .list-outside .ensures .1)) (c .terms-at .ensures .0) (c .terms-at .ensures .1),
+      trying-begin _ _ _ _ _ _ _ _ some (listed-needs _ _ _ _ _ _ _ _ (a .pre .0) (omega (arith, a .pre .1, head .ends .inv .0)) _ _ (at-list .list-outside .ensures .0) (at-list .list-outside .ensures .1) (at-list .list-outside .ensures .2)) (c .terms-at .ensures .0) (c .terms-at .ensures .1),
       omega (arith, c .terms-at .ensures .1, rows .narrow 0 some, row, a .pre .0 .most),
     )
 
@@ -80,19 +81,19 @@ predicate-step-requires : tie.Need-predicate-step-requires Inv-loop μ-loop Inv-
 predicate-step-requires c κs =
     let at-list = c .before .before .before .before .before .before .before .before .before .before .before .before in
     let head = at-list .before .before .before .before .before in
-    let a = head .before .before .before .before .before .before .before in
+    let a = head .before .before .before .before .before .before .before .before .before .before in
     let loop = c .before .before .before .before .before .before .loop in (
       loop .inv .2,
       loop .inv .1,
       rw (c .union .ensures)
-          (worth-few _ 0 (loop .left) _ none (sym (c .before .before .before .worth .ensures) ∙ c .before .before .if3 .taken)),
+          (worth-few _ 0 (loop .left) _ noSet (sym (c .before .before .before .worth .ensures) ∙ c .before .before .if3 .taken)),
     )
 
 loop-again : tie.Need-loop-again Inv-loop μ-loop Inv-ends μ-ends
 loop-again c =
     let at-list = c .before .before .before .before .before .before .before .before .before .before in
     let head = at-list .before .before .before .before .before in
-    let a = head .before .before .before .before .before .before .before in
+    let a = head .before .before .before .before .before .before .before .before .before .before in
     let loop = c .before .before .before .before .loop in
     let h = c .before .before .before .loop-test .taken in
     let test = sym (c .before .worth .ensures) in
@@ -112,23 +113,23 @@ add-floor : tie.Need-add-floor Inv-loop μ-loop Inv-ends μ-ends
 add-floor c =
     let at-list = c .before .before .before .before .before .before .before in
     let head = at-list .before .before .before .before .before in
-    let a = head .before .before .before .before .before .before .before in
-    record { fits = omega (arith, runs-room _ _ _ _ _ _ _ (a .pre .0) _ _ (at-list .before .before .before .before .next-end .ensures) (at-list .before .before .before .if1 .left) _ (at-list .before .before .run-end .ensures .0) (at-list .before .before .run-end .ensures .1) .0) }
+    let a = head .before .before .before .before .before .before .before .before .before .before in
+    record { fits = omega (arith, runs-room _ _ _ _ _ _ (a .pre .0) _ _ (at-list .before .before .before .before .next-end .ensures) (at-list .before .before .before .if1 .left) _ (at-list .before .before .run-end .ensures .0) (at-list .before .before .run-end .ensures .1) .0) }
 
 ends-less : tie.Need-ends-less Inv-loop μ-loop Inv-ends μ-ends
 ends-less c =
     let at-list = c .before .before .before .before .before .before .before in
     let head = at-list .before .before .before .before .before in
-    let a = head .before .before .before .before .before .before .before in
-    omega (arith, runs-room _ _ _ _ _ _ _ (a .pre .0) _ _ (at-list .before .before .before .before .next-end .ensures) (at-list .before .before .before .if1 .left) _ (at-list .before .before .run-end .ensures .0) (at-list .before .before .run-end .ensures .1))
+    let a = head .before .before .before .before .before .before .before .before .before .before in
+    omega (arith, runs-room _ _ _ _ _ _ (a .pre .0) _ _ (at-list .before .before .before .before .next-end .ensures) (at-list .before .before .before .if1 .left) _ (at-list .before .before .run-end .ensures .0) (at-list .before .before .run-end .ensures .1))
 
 ends-again : tie.Need-ends-again Inv-loop μ-loop Inv-ends μ-ends
 ends-again c =
     let at-list = c .before .before .before .before .before .before .before in
     let head = at-list .before .before .before .before .before in
-    let a = head .before .before .before .before .before .before .before in (
-      ap length (at-list .list-outside .ensures .1) ∙ length-put 0 _ _ ∙ head .ends .inv .0,
-      runs-next _ _ _ _ _ _ _ (a .pre .0) _ _ (a .pre .2) _ _ (head .ends .inv .1) (at-list .before .before .before .before .next-end .ensures) (at-list .before .before .before .if1 .left) _ (at-list .before .before .run-end .ensures .0) (at-list .before .before .run-end .ensures .1) (trying-none _ _ _ _ _ _ _ _ (c .before .loop .inv .3) (c .loop-test .left)),
+    let a = head .before .before .before .before .before .before .before .before .before .before in (
+      ap length (at-list .list-outside .ensures .2) ∙ length-put 0 _ _ ∙ head .ends .inv .0,
+      runs-next _ _ _ _ _ _ (a .pre .0) _ _ (a .pre .2) _ _ (head .ends .inv .1) (at-list .before .before .before .before .next-end .ensures) (at-list .before .before .before .if1 .left) _ (at-list .before .before .run-end .ensures .0) (at-list .before .before .run-end .ensures .1) (trying-none _ _ _ _ _ _ _ _ (c .before .loop .inv .3) (c .loop-test .left)),
     )
 
 same-length : tie.Need-same-length Inv-loop μ-loop Inv-ends μ-ends
@@ -137,43 +138,43 @@ same-length c = c .before .before .ends .inv .0
 returns : tie.Need-returns Inv-loop μ-loop Inv-ends μ-ends
 returns c =
     let head = c .before .before in
-    let a = head .before .before .before .before .before .before .before in
-    (runs-none _ _ _ _ _ _ _ (a .pre .0) _ _ (a .pre .2) _ _ (head .ends .inv .1) (c .before .next-end .ensures) (c .if1 .taken), head .ends .inv .0)
+    let a = head .before .before .before .before .before .before .before .before .before .before in
+    (runs-none _ _ _ _ _ _ (a .pre .0) _ _ (a .pre .2) _ _ (head .ends .inv .1) (c .before .next-end .ensures) (c .if1 .taken), head .ends .inv .0)
 
 same-length-2 : tie.Need-same-length-2 Inv-loop μ-loop Inv-ends μ-ends
 same-length-2 c =
     let at-list = c .before .before .before in
     let head = at-list .before .before .before .before .before in
-    let a = head .before .before .before .before .before .before .before in
-    ap length (at-list .list-outside .ensures .1) ∙ length-put 0 _ _ ∙ head .ends .inv .0
+    let a = head .before .before .before .before .before .before .before .before .before .before in
+    ap length (at-list .list-outside .ensures .2) ∙ length-put 0 _ _ ∙ head .ends .inv .0
 
 returns-2 : tie.Need-returns-2 Inv-loop μ-loop Inv-ends μ-ends
 returns-2 c =
     let at-list = c .before .before .before in
     let head = at-list .before .before .before .before .before in
-    let a = head .before .before .before .before .before .before .before in (
-      runs-found _ _ _ _ _ _ _ (a .pre .0) _ _ (a .pre .2) _ _ (head .ends .inv .1) (at-list .before .before .before .before .next-end .ensures) (at-list .before .before .before .if1 .left) _ (at-list .before .before .run-end .ensures .0) (at-list .before .before .run-end .ensures .1) 0 (none-needed _ _ _ _ _ _ _ (c .if2 .taken) (listed-needs _ _ _ _ _ _ _ _ _ (a .pre .0) (omega (arith, a .pre .1, head .ends .inv .0)) _ _ (at-list .list-outside .ensures .0 .0) (at-list .list-outside .ensures .0 .1) (at-list .list-outside .ensures .1))) (omega arith),
-      ap length (at-list .list-outside .ensures .1) ∙ length-put 0 _ _ ∙ head .ends .inv .0,
+    let a = head .before .before .before .before .before .before .before .before .before .before in (
+      runs-found _ _ _ _ _ _ (a .pre .0) _ _ (a .pre .2) _ _ (head .ends .inv .1) (at-list .before .before .before .before .next-end .ensures) (at-list .before .before .before .if1 .left) _ (at-list .before .before .run-end .ensures .0) (at-list .before .before .run-end .ensures .1) 0 (none-needed _ _ _ _ _ _ (c .if2 .taken) (listed-needs _ _ _ _ _ _ _ _ (a .pre .0) (omega (arith, a .pre .1, head .ends .inv .0)) _ _ (at-list .list-outside .ensures .0) (at-list .list-outside .ensures .1) (at-list .list-outside .ensures .2))) (omega arith),
+      ap length (at-list .list-outside .ensures .2) ∙ length-put 0 _ _ ∙ head .ends .inv .0,
     )
 
 same-length-3 : tie.Need-same-length-3 Inv-loop μ-loop Inv-ends μ-ends
 same-length-3 c =
     let at-list = c .before .before .before .before .before .before .before .before .before .before .before .before .before .before in
     let head = at-list .before .before .before .before .before in
-    let a = head .before .before .before .before .before .before .before in
-    ap length (at-list .list-outside .ensures .1) ∙ length-put 0 _ _ ∙ head .ends .inv .0
+    let a = head .before .before .before .before .before .before .before .before .before .before in
+    ap length (at-list .list-outside .ensures .2) ∙ length-put 0 _ _ ∙ head .ends .inv .0
 
 returns-3 : tie.Need-returns-3 Inv-loop μ-loop Inv-ends μ-ends
 returns-3 c =
     let at-list = c .before .before .before .before .before .before .before .before .before .before .before .before .before .before in
     let head = at-list .before .before .before .before .before in
-    let a = head .before .before .before .before .before .before .before in
+    let a = head .before .before .before .before .before .before .before .before .before .before in
     let loop = c .before .before .before .before .before .before .before .before .loop in
     let b = rw (c .before .before .union .ensures) at (c .before .predicate-step .ensures) in (
-      runs-found _ _ _ _ _ _ _ (a .pre .0) _ _ (a .pre .2) _ _ (head .ends .inv .1) (at-list .before .before .before .before .next-end .ensures) (at-list .before .before .before .if1 .left) _ (at-list .before .before .run-end .ensures .0) (at-list .before .before .run-end .ensures .1) _
+      runs-found _ _ _ _ _ _ (a .pre .0) _ _ (a .pre .2) _ _ (head .ends .inv .1) (at-list .before .before .before .before .next-end .ensures) (at-list .before .before .before .if1 .left) _ (at-list .before .before .run-end .ensures .0) (at-list .before .before .run-end .ensures .1) _
           (trying-stop _ _ _ _ _ _ (loop .at) (loop .left) (loop .inv .3) (c .before .before .before .before .before .before .before .loop-test .taken) (loop .inv .0) _
           (sym (c .before .before .before .before .before .worth .ensures) ∙ c .before .before .before .before .if3 .taken) b (c .if4 .taken)) (c .if4 .taken),
-      ap length (at-list .list-outside .ensures .1) ∙ length-put 0 _ _ ∙ head .ends .inv .0,
+      ap length (at-list .list-outside .ensures .2) ∙ length-put 0 _ _ ∙ head .ends .inv .0,
     )
 
 pub first-run-spec : {M : Type 1} → statement M

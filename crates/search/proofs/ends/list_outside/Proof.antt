@@ -70,7 +70,7 @@ returns c =
     let head = c .before in
     let done : head .loop .i ≡ head .before .args .rows = omega arith in
     let listing = rw done at (head .loop .inv .1) in
-    ((listing .counted, listing .few), listing .stored)
+    (listing .counted, listing .few, listing .stored)
 
 pub list-outside-spec : {M : Type 1} → statement M
 list-outside-spec =

@@ -25,23 +25,25 @@ use Rattle.names.proofs.union.Reads as union-reads
 use Rattle.search.proofs.search.+predicate_step+term_step.{statement}
 use Rattle.search.proofs.search.+predicate_step+term_step.Tie.{close}
 
-abbrev μ-predicate-step : Measures 3 predicate-step-kinds.ps ℕ
-μ-predicate-step κs a = (a .1 .1 .1 .0 - a .1 .1 .1 .1 .1 .1 .0) * 1000
+abbrev μ-predicate-step : Measures 6 predicate-step-kinds.ps ℕ
+μ-predicate-step κs a = (a .1 .1 .1 .1 .1 .1 .0 - a .1 .1 .1 .1 .1 .1 .1 .1 .1 .0) * 1000
 
-abbrev μ-term-step : Measures 3 term-step-kinds.ps ℕ
-μ-term-step κs a = (a .1 .1 .1 .0 - (a .1 .1 .1 .1 .1 .1 .0 + 1)) * 1000 + (a .1 .1 .1 .1 .1 .1 .1 .1 .0 - a .1 .1 .1 .1 .1 .1 .1 .0)
+abbrev μ-term-step : Measures 6 term-step-kinds.ps ℕ
+μ-term-step κs a =
+    (a .1 .1 .1 .1 .1 .1 .0 - (a .1 .1 .1 .1 .1 .1 .1 .1 .1 .0 + 1)) * 1000
+    + (a .1 .1 .1 .1 .1 .1 .1 .1 .1 .1 .1 .0 - a .1 .1 .1 .1 .1 .1 .1 .1 .1 .1 .0)
 
-abbrev predicate-step-at : ℕ → In 3 predicate-step-kinds.ps
-predicate-step-at t = and 3 predicate-step-kinds.ps (is 3 predicate-step-kinds.ps μ-predicate-step t) predicate-step.Pre
+abbrev predicate-step-at : ℕ → In 6 predicate-step-kinds.ps
+predicate-step-at t = and 6 predicate-step-kinds.ps (is 6 predicate-step-kinds.ps μ-predicate-step t) predicate-step.Pre
 
-abbrev predicate-step-below : ℕ → In 3 predicate-step-kinds.ps
-predicate-step-below t = and 3 predicate-step-kinds.ps (falls 3 predicate-step-kinds.ps _<_ μ-predicate-step t) predicate-step.Pre
+abbrev predicate-step-below : ℕ → In 6 predicate-step-kinds.ps
+predicate-step-below t = and 6 predicate-step-kinds.ps (falls 6 predicate-step-kinds.ps _<_ μ-predicate-step t) predicate-step.Pre
 
-abbrev term-step-at : ℕ → In 3 term-step-kinds.ps
-term-step-at t = and 3 term-step-kinds.ps (is 3 term-step-kinds.ps μ-term-step t) term-step.Pre
+abbrev term-step-at : ℕ → In 6 term-step-kinds.ps
+term-step-at t = and 6 term-step-kinds.ps (is 6 term-step-kinds.ps μ-term-step t) term-step.Pre
 
-abbrev term-step-below : ℕ → In 3 term-step-kinds.ps
-term-step-below t = and 3 term-step-kinds.ps (falls 3 term-step-kinds.ps _<_ μ-term-step t) term-step.Pre
+abbrev term-step-below : ℕ → In 6 term-step-kinds.ps
+term-step-below t = and 6 term-step-kinds.ps (falls 6 term-step-kinds.ps _<_ μ-term-step t) term-step.Pre
 
 abbrev predicate-step-claims : ℕ → predicate-step-lts.Claims
 predicate-step-claims t = (
@@ -74,44 +76,44 @@ term-step-claims t = (
 )
 
 predicate-step-next-unexplained-requires : (t : ℕ) → predicate-step-lts.Need-next-unexplained-requires (predicate-step-claims t) (predicate-step-at t) predicate-step.Post
-predicate-step-next-unexplained-requires t c κs = let a = c .before .before .before in (a .pre .1 .0, a .pre .1 .1)
+predicate-step-next-unexplained-requires t c κs = let a = c .before .before .before .before .before .before in (a .pre .1 .0, a .pre .1 .1)
 
 predicate-step-returns : (t : ℕ) → predicate-step-lts.Need-returns (predicate-step-claims t) (predicate-step-at t) predicate-step.Post
 predicate-step-returns t c =
     let at-next = c .before .before in
-    let a = at-next .before .before .before .before in
-    rw (c .lesser .ensures) (step-done _ _ _ _ _ (a .args .i) _ (at-next .next-unexplained .ensures .2) _ _ _ _ (c .before .if1 .taken) (a .pre .1 .2))
+    let a = at-next .before .before .before .before .before .before .before in
+    rw (c .lesser .ensures) (step-done _ _ _ _ (a .args .i) _ (at-next .next-unexplained .ensures .2) _ _ _ _ (c .before .if1 .taken) (a .pre .1 .2))
 
 predicate-step-returns-2 : (t : ℕ) → predicate-step-lts.Need-returns-2 (predicate-step-claims t) (predicate-step-at t) predicate-step.Post
 predicate-step-returns-2 t c =
     let at-next = c .before .before .before in
-    let a = at-next .before .before .before .before in
-    step-full _ _ _ _ _ (a .args .i) _ (at-next .next-unexplained .ensures .2) _ _ _ _ (c .before .before .if1 .left) (omega (arith, c .before .count .ensures .0, c .if2 .taken))
+    let a = at-next .before .before .before .before .before .before .before in
+    step-full _ _ _ _ (a .args .i) _ (at-next .next-unexplained .ensures .2) _ _ _ _ (c .before .before .if1 .left) (omega (arith, c .before .count .ensures .0, c .if2 .taken))
 
 predicate-step-last-name-requires : (t : ℕ) → predicate-step-lts.Need-last-name-requires (predicate-step-claims t) (predicate-step-at t) predicate-step.Post
 predicate-step-last-name-requires t c κs =
     let at-next = c .before .before .before .before in
-    let a = at-next .before .before .before .before in
+    let a = at-next .before .before .before .before .before .before .before in
     let h = c .before .before .before .if1 .left in
-    ((a .pre .1 .0, h, omega (arith, c .before .before .count .ensures .0, c .if3 .taken)), next-false _ _ _ _ _ (a .args .i) _ (at-next .next-unexplained .ensures .2) h)
+    (a .pre .1 .0, h, omega (arith, c .before .before .count .ensures .0, c .if3 .taken), next-false _ _ _ _ (a .args .i) _ (at-next .next-unexplained .ensures .2) h)
 
 predicate-step-returns-3 : (t : ℕ) → predicate-step-lts.Need-returns-3 (predicate-step-claims t) (predicate-step-at t) predicate-step.Post
 predicate-step-returns-3 t c =
     let at-next = c .before .before .before .before .before in
-    let a = at-next .before .before .before .before in
-    step-back _ _ _ _ _ (a .args .i) (at-next .next-unexplained .result) (at-next .next-unexplained .ensures .2) _ _ _ _ _ (c .last-name .ensures _)
+    let a = at-next .before .before .before .before .before .before .before in
+    step-back _ _ _ _ (a .args .i) (at-next .next-unexplained .result) (at-next .next-unexplained .ensures .2) _ _ _ _ _ (c .last-name .ensures _)
 
 predicate-step-terms-at-requires : (t : ℕ) → predicate-step-lts.Need-terms-at-requires (predicate-step-claims t) (predicate-step-at t) predicate-step.Post
 predicate-step-terms-at-requires t c κs =
     let at-next = c .before .before .before .before in
-    let rows = at-next .before .before .before .before .pre .1 .0 in
+    let rows = at-next .before .before .before .before .before .before .before .pre .1 .0 in
     let h = c .before .before .before .if1 .left in
     (omega (arith, rows .listed-long), rows .counted _ h, rows .long _ h)
 
 predicate-step-term-step-requires : (t : ℕ) → predicate-step-lts.Need-term-step-requires (predicate-step-claims t) (predicate-step-at t) predicate-step.Post
 predicate-step-term-step-requires t c κs =
     let at-next = c .before .before .before .before .before in
-    let a = at-next .before .before .before .before in
+    let a = at-next .before .before .before .before .before .before .before in
     let h = c .before .before .before .before .if1 .left in
     let rows = a .pre .1 .0 in
     let narrow = rows .narrow (at-next .next-unexplained .result) h in
@@ -124,30 +126,30 @@ predicate-step-term-step-requires t c κs =
 predicate-step-returns-4 : (t : ℕ) → predicate-step-lts.Need-returns-4 (predicate-step-claims t) (predicate-step-at t) predicate-step.Post
 predicate-step-returns-4 t c =
     let at-next = c .before .before .before .before .before .before in
-    let a = at-next .before .before .before .before in
-    step-terms _ _ _ _ _ (a .args .i) (at-next .next-unexplained .result) (at-next .next-unexplained .ensures .2) _ _ _ _ _ _ _ (c .before .before .before .before .before .if1 .left) (c .before .terms-at .ensures .0) (c .before .terms-at .ensures .1) (c .term-step .ensures)
+    let a = at-next .before .before .before .before .before .before .before in
+    step-terms _ _ _ _ (a .args .i) (at-next .next-unexplained .result) (at-next .next-unexplained .ensures .2) _ _ _ _ _ _ _ (c .before .before .before .before .before .if1 .left) (c .before .terms-at .ensures .0) (c .before .terms-at .ensures .1) (c .term-step .ensures)
 
 term-step-returns : (t : ℕ) → term-step-lts.Need-returns (term-step-claims t) (term-step-at t) term-step.Post
 term-step-returns t c =
-    let a = c .before .before .before .before in
+    let a = c .before .before .before .before .before .before .before in
     term-none _ _ _ _ _ _ _ _ _ (c .if1 .taken)
 
 term-step-predicate-step-requires : (t : ℕ) → term-step-lts.Need-predicate-step-requires (term-step-claims t) (term-step-at t) term-step.Post
 term-step-predicate-step-requires t c κs =
-    let a = c .before .before .before .before .before .before .before .before in
+    let a = c .before .before .before .before .before .before .before .before .before .before .before in
     let few = worth-few _ _ _ _ _ (sym (c .before .before .worth .ensures) ∙ c .before .if2 .taken) in
     (omega (arith, a .pre .0, a .pre .1 .1, c .before .before .before .before .if1 .left), (a .pre .1 .0, omega (arith, a .pre .1 .1), rw (c .union .ensures) few))
 
 term-step-returns-2 : (t : ℕ) → term-step-lts.Need-returns-2 (term-step-claims t) (term-step-at t) term-step.Post
 term-step-returns-2 t c =
-    let a = c .before .before .before .before .before .before .before .before .before .before in
+    let a = c .before .before .before .before .before .before .before .before .before .before .before .before .before in
     let h = c .before .before .before .before .before .before .if1 .left in
     let long = a .pre .1 .3 in
     term-stop _ _ _ _ _ _ _ _ _ h long _ (sym (c .before .before .before .before .worth .ensures) ∙ c .before .before .before .if2 .taken) (rw (c .before .before .union .ensures) at (c .before .predicate-step .ensures)) (c .if3 .taken)
 
 term-step-term-step-requires : (t : ℕ) → term-step-lts.Need-term-step-requires (term-step-claims t) (term-step-at t) term-step.Post
 term-step-term-step-requires t c κs =
-    let a = c .before .before .before .before .before .before .before in
+    let a = c .before .before .before .before .before .before .before .before .before .before in
     let h = c .before .before .before .if1 .left in
     let long = a .pre .1 .3 in
     (omega (arith, a .pre .0), (a .pre .1 .0, a .pre .1 .1, omega (arith, a .pre .1 .2), long, a .pre .1 .4))
@@ -155,7 +157,7 @@ term-step-term-step-requires t c κs =
 term-step-returns-3 : (t : ℕ) → term-step-lts.Need-returns-3 (term-step-claims t) (term-step-at t) term-step.Post
 term-step-returns-3 t c =
     let joined = c .before in
-    let a = joined .before .before .before .before .before .before .before in
+    let a = joined .before .before .before .before .before .before .before .before .before .before in
     let h = joined .before .before .before .if1 .left in
     let long = a .pre .1 .3 in
     let test = sym (joined .before .worth .ensures) in

@@ -7,17 +7,17 @@ use native.Mathlib.Omega.{arith}
 use borrow.Author.Needs.{needs}
 use borrow.Author.Tests.{not-true, not-false}
 use lib.ListN.{drop}
-use Rattle.search.specs.Search.{preds, skipped}
+use Rattle.search.specs.Search.{rowsOf, preds, skipped}
 use Rattle.search.proofs.SearchSteps.{skip-here, skip-next, skip-done}
 use Rattle.search.proofs.search.next_unexplained.Statement.{statement}
 use Rattle.search.proofs.search.next_unexplained.Tie as tie
 
 abbrev Inv-loop : tie.InvT-loop
-Inv-loop listed counts masks n i set k₀ k =
-    (i ≤ k) × (k ≤ n) × (skipped set (drop k (preds n listed counts masks)) ≡ skipped set (drop i (preds n listed counts masks)))
+Inv-loop listed counts masks several rests singles n i set k₀ k =
+    (i ≤ k) × (k ≤ n) × (skipped set (drop k (preds n listed (rowsOf counts masks several rests singles))) ≡ skipped set (drop i (preds n listed (rowsOf counts masks several rests singles))))
 
 abbrev μ-loop : tie.MeasureT-loop
-μ-loop listed counts masks n i set k₀ k = n - k
+μ-loop listed counts masks several rests singles n i set k₀ k = n - k
 
 loop-holds : tie.Need-loop-holds Inv-loop μ-loop
 loop-holds c = (le-refl _, search needs, refl)
@@ -25,7 +25,7 @@ loop-holds c = (le-refl _, search needs, refl)
 explained-requires : tie.Need-explained-requires Inv-loop μ-loop
 explained-requires c κs =
     let head = c .before in
-    let a = head .before .before .before .before in
+    let a = head .before .before .before .before .before .before .before in
     let rows = a .pre .0 in
     let h = c .loop-test .taken in
     (omega (arith, rows .listed-long), rows .parted (head .loop .k) h)
@@ -33,32 +33,32 @@ explained-requires c κs =
 returns : tie.Need-returns Inv-loop μ-loop
 returns c =
     let head = c .before .before .before in
-    let a = head .before .before .before .before .args in
+    let a = head .before .before .before .before .before .before .before .args in
     let k = head .loop .k in (
       head .loop .inv .0,
       head .loop .inv .1,
-      skip-here (a .n) (a .listed .now) (a .counts .now) (a .masks .now) (a .set) k (c .before .before .loop-test .taken) (sym (c .before .explained .ensures) ∙ not-true _ (c .if1 .taken))
+      skip-here (a .n) (a .listed .now) _ (a .set) k (c .before .before .loop-test .taken) (sym (c .before .explained .ensures) ∙ not-true _ (c .if1 .taken))
           ∙ head .loop .inv .2,
     )
 
 loop-again : tie.Need-loop-again Inv-loop μ-loop
 loop-again c =
     let head = c .before .before .before in
-    let a = head .before .before .before .before .args in
+    let a = head .before .before .before .before .before .before .before .args in
     let k = head .loop .k in (
       omega arith,
       omega arith,
-      skip-next (a .n) (a .listed .now) (a .counts .now) (a .masks .now) (a .set) k (c .before .before .loop-test .taken) (sym (c .before .explained .ensures) ∙ not-false _ (c .if1 .left))
+      skip-next (a .n) (a .listed .now) _ (a .set) k (c .before .before .loop-test .taken) (sym (c .before .explained .ensures) ∙ not-false _ (c .if1 .left))
           ∙ head .loop .inv .2,
     )
 
 returns-2 : tie.Need-returns-2 Inv-loop μ-loop
 returns-2 c =
     let head = c .before in
-    let a = head .before .before .before .before .args in (
+    let a = head .before .before .before .before .before .before .before .args in (
       omega arith,
       le-refl _,
-      skip-done (a .n) (a .listed .now) (a .counts .now) (a .masks .now) (a .set) (head .loop .k) (c .loop-test .left) ∙ head .loop .inv .2,
+      skip-done (a .n) (a .listed .now) _ (a .set) (head .loop .k) (c .loop-test .left) ∙ head .loop .inv .2,
     )
 
 pub next-unexplained-spec : {M : Type 1} → statement M

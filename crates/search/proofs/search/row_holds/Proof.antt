@@ -8,15 +8,15 @@ use Rattle.search.proofs.search.row_holds.Tie as tie
 returns : tie.Need-returns
 returns c =
     let at-shared = c .before in
-    let a = at-shared .before .before .before .before in
-    sym (row-hit (a .args .counts .now) (a .args .masks .now) (a .args .row) (a .args .set) (a .pre) _ (at-shared .shared .ensures) (c .if1 .taken))
+    let a = at-shared .before .before .before .before .before .before .before in
+    sym (row-hit _ (a .args .row) (a .args .set) (a .pre) _ (at-shared .shared .ensures) (c .if1 .taken))
 
 returns-2 : tie.Need-returns-2
 returns-2 c =
     let at-shared = c .before .before .before .before in
-    let a = at-shared .before .before .before .before in
+    let a = at-shared .before .before .before .before .before .before .before in
     c .holds .ensures
-    ∙ row-miss (a .args .counts .now) (a .args .masks .now) (a .args .row) (a .args .set) (a .pre) _ (at-shared .shared .ensures)
+    ∙ row-miss _ (a .args .row) (a .args .set) (a .pre) _ (at-shared .shared .ensures)
     (c .before .before .before .if1 .left) _ refl
 
 pub row-holds-spec : {M : Type 1} → statement M
@@ -25,11 +25,8 @@ row-holds-spec =
     (tie.spec
     (λ c. search needs)
     (λ c. search needs)
-    (λ c. search needs)
     (λ c κs. search needs)
     returns
-    (λ c. search needs)
-    (λ c. search needs)
     (λ c. search needs)
     (λ c. search needs)
     (λ c. search needs)

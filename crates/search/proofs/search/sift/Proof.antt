@@ -12,17 +12,17 @@ returns : tie.Need-returns
 unfolding predAt
 returns c =
     let at-shared = c .before in
-    let a = at-shared .before .before .before .before .before .before in
-    rw (row-hit (a .args .counts .now) (a .args .masks .now) (getD (a .args .listed .now) (a .args .j) 0) (a .args .set) (a .pre .1) _ (at-shared .shared .ensures) (c .if1 .taken)) refl
+    let a = at-shared .before .before .before .before .before .before .before .before .before in
+    rw (row-hit _ (getD (a .args .listed .now) (a .args .j) 0) (a .args .set) (a .pre .1) _ (at-shared .shared .ensures) (c .if1 .taken)) refl
 
 returns-2 : tie.Need-returns-2
 unfolding predAt
 returns-2 c =
     let at-shared = c .before .before .before .before .before in
-    let a = at-shared .before .before .before .before .before .before in
+    let a = at-shared .before .before .before .before .before .before .before .before .before in
     let miss = c .before .before .before .before .if1 .left in
     let row = getD (a .args .listed .now) (a .args .j) 0 in
-    row-sift (a .args .counts .now) (a .args .masks .now) row (a .args .set) (a .pre .1) _ (at-shared .shared .ensures) miss _ refl _ _
+    row-sift _ row (a .args .set) (a .pre .1) _ (at-shared .shared .ensures) miss _ refl _ _
     (rw (c .before .union .ensures) at (c .sift-terms .ensures))
 
 pub sift-spec : {M : Type 1} → statement M
@@ -34,11 +34,8 @@ sift-spec =
     (λ c. search needs)
     (λ c. search needs)
     (λ c. search needs)
-    (λ c. search needs)
     (λ c κs. search needs)
     returns
-    (λ c. search needs)
-    (λ c. search needs)
     (λ c. search needs)
     (λ c. search needs)
     (λ c. search needs)
