@@ -24,10 +24,10 @@ use Rattle.predicates.proofs.ListLaws.{both-l, both-r, all-in, all-out, keep-in
 use Rattle.state.specs.Model.{Datum, Store}
 use Rattle.state.proofs.LayoutLaws.{all-tab}
 use Rattle.asking.specs.Instants.{Allowed}
-use Rattle.asking.specs.Claims.{inside, neededAt, everything}
-use Rattle.search.specs.Search.{Rows, Fits, RowsFit, rowTerms, predAt, preds}
-use Rattle.asking.specs.Tables.{entryClaim, claimsOf, claimAt, Loaded, Bounded}
-use Rattle.search.specs.Ends.{outside, needs, Complete}
+use Rattle.asking.specs.code.Claims.{inside, neededAt, everything}
+use Rattle.search.specs.code.Search.{Rows, Fits, RowsFit, rowTerms, predAt, preds}
+use Rattle.asking.specs.code.Tables.{entryClaim, claimsOf, claimAt, Loaded, Bounded}
+use Rattle.search.specs.code.LeftEnds.{outside, needs, Complete}
 use Rattle.asking.proofs.ClaimLaws.{claims-in, claims-out}
 use Rattle.search.proofs.EndSteps.{in-take, take-in, at-in, getD-map}
 
@@ -161,7 +161,7 @@ module _ (k : Store) (n rows : ℕ) (table : Rows) (order : List ℕ) (loaded : 
       record {
         listed-long = complete .ordered;
         counted = λ j h. omega (arith, complete .placed j h, loaded .counted);
-        narrow = λ j h. loaded .few (getD order j 0) (complete .placed j h) .1;
+        few = λ j h. loaded .few (getD order j 0) (complete .placed j h) .1;
         long = λ j h. omega (arith, complete .placed j h, loaded .few (getD order j 0) (complete .placed j h) .1, loaded .long);
         parted = λ j h. loaded .parted (getD order j 0) (complete .placed j h);
       }

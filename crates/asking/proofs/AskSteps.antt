@@ -24,11 +24,11 @@ use Rattle.state.specs.Form.{inForm}
 use Rattle.state.proofs.StateLaws.{state-out, length-held, length-entries, form-ok}
 use Rattle.state.proofs.StoreLaws.{column-front, length-column}
 use Rattle.asking.specs.declared.Answer.the-variants.{Contradicted, Open, Between}
-use Rattle.asking.specs.Asking.{interval, highest, lowest, answer}
-use Rattle.asking.specs.Claims.{inside, neededAt, everything, Explained}
-use Rattle.search.specs.Search.{Rows, Fits, Best, preds}
-use Rattle.asking.specs.Tables.{entryClaim, claimAt, Loaded, Bounded, claimLeft, claimRight}
-use Rattle.search.specs.Ends.{outside, Ready, needs, First, Complete}
+use Rattle.asking.specs.Asking.{interval, greatestLeft, leastRight, answer}
+use Rattle.asking.specs.code.Claims.{inside, neededAt, everything, Explained}
+use Rattle.search.specs.code.Search.{Rows, Fits, Best, preds}
+use Rattle.asking.specs.code.Tables.{entryClaim, claimAt, Loaded, Bounded, claimLeft, claimRight}
+use Rattle.search.specs.code.LeftEnds.{outside, Ready, needs, FirstEnd, Complete}
 use Rattle.asking.proofs.TableLaws.{bounded-in}
 use Rattle.asking.proofs.ReadyLaws.{ready-in, rows-most, ends-below}
 use Rattle.asking.proofs.PlainLaws.{plain-contradicted, plain-open, plain-interval, form-bare, form-right}
@@ -48,26 +48,26 @@ module _ (s : List ℕ) (i : ℕ) (h : i < heldCount s) where
       (drop-cons (tab (heldCount s) (datumAt s)) i (datumAt s i) (rw length-tab h)
       ∙ ap (λ (d : Datum). d ∷ drop (suc i) (tab (heldCount s) (datumAt s))) (getD-tab (heldCount s) i (datumAt s) (datumAt s i) h))
 
-  pub highest-turn : (m l r : ℕ) → l ≡ num (datumPlace i) 8 s → r ≡ max m l → highest r (drop (i + 1) held) ≡ highest m (drop i held)
-  unfolding highest datumAt
-  highest-turn m l r e f = sym (ap (highest m) next ∙ ap (λ (x : ℕ). highest x (drop (i + 1) held)) (sym (f ∙ ap (max m) e)))
+  pub greatest-left-turn : (m l r : ℕ) → l ≡ num (datumPlace i) 8 s → r ≡ max m l → greatestLeft r (drop (i + 1) held) ≡ greatestLeft m (drop i held)
+  unfolding greatestLeft datumAt
+  greatest-left-turn m l r e f = sym (ap (greatestLeft m) next ∙ ap (λ (x : ℕ). greatestLeft x (drop (i + 1) held)) (sym (f ∙ ap (max m) e)))
 
-  pub lowest-turn : (m l r : ℕ) → l ≡ num (datumPlace i + 8) 8 s → r ≡ min m l → lowest r (drop (i + 1) held) ≡ lowest m (drop i held)
-  unfolding lowest datumAt
-  lowest-turn m l r e f = sym (ap (lowest m) next ∙ ap (λ (x : ℕ). lowest x (drop (i + 1) held)) (sym (f ∙ ap (min m) e)))
+  pub least-right-turn : (m l r : ℕ) → l ≡ num (datumPlace i + 8) 8 s → r ≡ min m l → leastRight r (drop (i + 1) held) ≡ leastRight m (drop i held)
+  unfolding leastRight datumAt
+  least-right-turn m l r e f = sym (ap (leastRight m) next ∙ ap (λ (x : ℕ). leastRight x (drop (i + 1) held)) (sym (f ∙ ap (min m) e)))
 
 module _ (s : List ℕ) (i m : ℕ) (h : heldCount s ≤ i) where
   none-left : drop i (storeOf s .held) ≡ []
   unfolding storeOf
   none-left = drop-of-length-le (tab (heldCount s) (datumAt s)) {i = i} (rw length-tab h)
 
-  pub highest-done : highest m (drop i (storeOf s .held)) ≡ m
-  unfolding highest
-  highest-done = ap (highest m) none-left
+  pub greatest-left-done : greatestLeft m (drop i (storeOf s .held)) ≡ m
+  unfolding greatestLeft
+  greatest-left-done = ap (greatestLeft m) none-left
 
-  pub lowest-done : lowest m (drop i (storeOf s .held)) ≡ m
-  unfolding lowest
-  lowest-done = ap (lowest m) none-left
+  pub least-right-done : leastRight m (drop i (storeOf s .held)) ≡ m
+  unfolding leastRight
+  least-right-done = ap (leastRight m) none-left
 
 -- ---- the search over all claims, and over the ends
 
@@ -119,7 +119,7 @@ module _ (limit : ℕ) (st : State) (n rows : ℕ) (table : Rows) (order : List 
     left-is : (d : Datum) (i : ℕ) → i < rows → claimAt k i ≡ d → getD lefts i 0 ≡ d .left
     left-is d i l e = bounded .left-is i l ∙ ap (λ (c : Datum). c .left) e
 
-    module _ (end set : ℕ) (first : First n rows lefts rights table order limit free end set) where
+    module _ (end set : ℕ) (first : FirstEnd n rows lefts rights table order limit free end set) where
       pub ends-contradicted : noSet ≤ set → Contradicted ≡ answer limit st
       ends-contradicted h =
           sym (answer-none limit st every (λ d m w.
@@ -130,7 +130,7 @@ module _ (limit : ℕ) (st : State) (n rows : ℕ) (table : Rows) (order : List 
       module _ (some : set < noSet) (last : ℕ) (low high : List ℕ) (lows : (i : ℕ) → i < rows → getD low i 0 ≡ last - getD rights i 0)
           (highs : (i : ℕ) → i < rows → getD high i 0 ≡ last - getD lefts i 0)
           (below : (i : ℕ) → i < rows → (getD lefts i 0 ≤ last) × (getD rights i 0 ≤ last))
-          (end′ set′ : ℕ) (first′ : First n rows low high table order limit free end′ set′) where
+          (end′ set′ : ℕ) (first′ : FirstEnd n rows low high table order limit free end′ set′) where
         right-same : (x y : ℕ) → y ≤ last → x ≡ last - y → (i : ℕ) → i < rows → outside low high x i ≡ not (inside y (claimAt k i))
         right-same x y h e i l = right-outside k rows lefts rights bounded last low high lows highs below x y i h e l
 
@@ -195,7 +195,7 @@ module _ (s : List ℕ) (t : T (inForm s)) where
     unfolding stateOf
     plain-free h b e = sym (plain-open st (form-bare st (form-ok s t)) (rw length-entries (omega arith)) (rw length-held (omega arith)))
 
-    module _ (h : ℕ) (b : h ≡ heldCount s) (some : h ≡ 0 → ⊥) (l r : ℕ) (c : l ≡ highest 0 (storeOf s .held)) (d : r ≡ lowest 288230376151711744 (storeOf s .held)) where
+    module _ (h : ℕ) (b : h ≡ heldCount s) (some : h ≡ 0 → ⊥) (l r : ℕ) (c : l ≡ greatestLeft 0 (storeOf s .held)) (d : r ≡ leastRight 288230376151711744 (storeOf s .held)) where
       ends : answer 0 st ≡ interval l r
       unfolding stateOf
       ends =
@@ -268,7 +268,7 @@ module _ (s : List ℕ) (t : T (inForm s)) (n rows : ℕ) (table : Rows) (order 
             empty = λ i h.
                 let j : i < rows = omega (arith, w .entries-le) in omega (arith, low-is i j, high-is i j, w .empty i h, ends-low i j);
             counted = w .counted;
-            narrow = w .narrow;
+            few = w .few;
             long = w .long;
             ordered = w .ordered;
             placed = w .placed;
@@ -277,8 +277,8 @@ module _ (s : List ℕ) (t : T (inForm s)) (n rows : ℕ) (table : Rows) (order 
           }
 
       module _ (limit free : ℕ) (g : free ≡ others (num 0 4 s)) (every : Explained limit (stateOf s) (everything (storeOf s)) → ⊥)
-          (end set end′ set′ : ℕ) (first : First n rows l r table order limit free end set) (some : set < noSet)
-          (first′ : First n rows low high table order limit free end′ set′) where
+          (end set end′ set′ : ℕ) (first : FirstEnd n rows l r table order limit free end set) (some : set < noSet)
+          (first′ : FirstEnd n rows low high table order limit free end′ set′) where
         pub between-room : end′ ≤ last
         unfolding stateOf headOf
         between-room =
@@ -292,7 +292,7 @@ module _ (s : List ℕ) (t : T (inForm s)) (n rows : ℕ) (table : Rows) (order 
             high-is ends-low end′ set′ (rw g at first′)
 
     pub between-none : (limit free : ℕ) → free ≡ others (num 0 4 s) → (Explained limit (stateOf s) (everything (storeOf s)) → ⊥) → (end set : ℕ)
-        → First n rows l r table order limit free end set → noSet ≤ set → Contradicted ≡ answer limit (stateOf s)
+        → FirstEnd n rows l r table order limit free end set → noSet ≤ set → Contradicted ≡ answer limit (stateOf s)
     unfolding stateOf headOf
     between-none limit free g every end set first h =
         ends-contradicted limit (stateOf s) n rows table order loaded complete every l r ends-bounded end set (rw g at first) h

@@ -12,13 +12,13 @@ use lib.Count.{ones}
 use lib.ListN.{length, getD}
 use Rattle.names.specs.Sets.{others, noSet}
 use Rattle.state.specs.Model.{Datum, Store, State}
-use Rattle.search.specs.Search.{Rows}
+use Rattle.search.specs.code.Search.{Rows}
 use Rattle.asking.specs.declared.Fewest.the-variants.{Over, Few}
 use Rattle.asking.specs.Instants.{Allowed}
-use Rattle.asking.specs.Tables.{entryClaim, claimAt, Loaded, Bounded}
-use Rattle.search.specs.Ends.{outside, Complete, Least}
+use Rattle.asking.specs.code.Tables.{entryClaim, claimAt, Loaded, Bounded}
+use Rattle.search.specs.code.LeftEnds.{outside, Complete, LeastSet}
 use Rattle.asking.specs.Asking.{answer}
-use Rattle.asking.specs.Fewest.{some, fewest, Works}
+use Rattle.asking.specs.Fewest.{notContradicted, fewest, Works}
 use Rattle.search.proofs.EndSteps.{at-in}
 use Rattle.asking.proofs.ArrayLaws.{fits-allowed, allowed-fits, in-at, claim-datum, order-everything, everything-order, needs-needed, needed-needs, left-outside}
 use Rattle.asking.proofs.ReadyLaws.{Prepared}
@@ -65,14 +65,14 @@ module _ (k : Store) (n rows : ℕ) (table : Rows) (order lefts rights : List �
 pub record Floor (st : State) (limit : ℕ) : Type 0 where
   pub under : (s : ℕ) → Works st s → limit ≤ ones s
 
-pub floor-one : (st : State) → some (answer 0 st) ≡ false → Floor st 1
+pub floor-one : (st : State) → notContradicted (answer 0 st) ≡ false → Floor st 1
 floor-one st e = record { under = λ s w. omega (arith, works-failed st e s w) }
 
 pub floor-over : (st : State) → Floor st 5 → Over ≡ fewest st
 floor-over st f = fewest-over st (λ s w. omega (arith, f .under s w, w .0 .few))
 
 module _ {st : State} {n rows : ℕ} {table : Rows} {order lefts rights : List ℕ} (p : Prepared st n rows table order lefts rights) {limit r : ℕ}
-    (small : limit ≤ 4) (w : Least n rows lefts rights table order limit (others (st .head .own)) r) (floor : Floor st limit) where
+    (small : limit ≤ 4) (w : LeastSet n rows lefts rights table order limit (others (st .head .own)) r) (floor : Floor st limit) where
   abbrev own : ℕ
   own = st .head .own
 

@@ -15,9 +15,9 @@ use Rattle.state.specs.Layout.{heldCount, entryCount, zeros, storeOf, stateOf}
 use Rattle.state.specs.Form.{inForm, stateOk, datumOk}
 use Rattle.state.proofs.StateLaws.{state-out, held-count-le, entry-count-le, form-ok}
 use Rattle.state.proofs.OkLaws.{ok-datum-out}
-use Rattle.search.specs.Search.{Rows}
-use Rattle.asking.specs.Tables.{entryClaim, claimAt, Loaded, Bounded, claimLeft, claimRight}
-use Rattle.search.specs.Ends.{noEnd, Ready, Complete}
+use Rattle.search.specs.code.Search.{Rows}
+use Rattle.asking.specs.code.Tables.{entryClaim, claimAt, Loaded, Bounded, claimLeft, claimRight}
+use Rattle.search.specs.code.LeftEnds.{noEnd, Ready, Complete}
 use Rattle.asking.proofs.TableLaws.{bounded-in}
 use Rattle.search.proofs.EndSteps.{at-in}
 use Rattle.asking.proofs.ArrayLaws.{claim-entry, claim-datum}
@@ -34,7 +34,7 @@ module _ {k : Store} {n rows : ℕ} {table : Rows} (loaded : Loaded k n rows tab
         below = below;
         empty = λ i h. hollow i (omega (arith, loaded .entries-are)) (bounded .left-is i (omega (arith, loaded .rows-are))) (bounded .right-is i (omega (arith, loaded .rows-are)));
         counted = loaded .counted;
-        narrow = λ i h. loaded .few i h .1;
+        few = λ i h. loaded .few i h .1;
         long = loaded .long;
         ordered = complete .ordered;
         placed = complete .placed;

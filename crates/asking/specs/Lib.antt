@@ -1,5 +1,4 @@
 pub mod Instants
 pub mod Asking
 pub mod Fewest
-pub mod Claims
-pub mod Tables
+pub mod code

@@ -7,20 +7,20 @@ ghost use lib.ListN.{length, getD, drop};
 ghost use Rattle.numbers.specs.Numbers.{tab};
 ghost use Rattle.state.specs.Layout.{heldCount, storeOf, stateOf, stateSize, dataMost, entriesMost};
 ghost use Rattle.state.specs.Form.{inForm};
-ghost use Rattle.asking.specs.Asking.{highest, lowest, answer};
-ghost use Rattle.asking.specs.Fewest.{some};
-ghost use Rattle.asking.specs.Claims.{everything, Explained};
-ghost use Rattle.asking.specs.Tables.{Loaded, lastEnd};
-ghost use Rattle.search.specs.Ends.{Complete};
+ghost use Rattle.asking.specs.Asking.{greatestLeft, leastRight, answer};
+ghost use Rattle.asking.specs.Fewest.{notContradicted};
+ghost use Rattle.asking.specs.code.Claims.{everything, Explained};
+ghost use Rattle.asking.specs.code.Tables.{Loaded, lastEnd};
+ghost use Rattle.search.specs.code.LeftEnds.{Complete};
 use super::Answer;
 ghost use Rattle.state.specs.Model.{endLimit};
-ghost use Rattle.search.specs.Search.{Rows, rowsOf};
+ghost use Rattle.search.specs.code.Search.{Rows, rowsOf};
 
 // The last end that can be stored.
 const LAST_END: u64 = state::END_LIMIT - 1;
 
 // The ends of an interval, in order or not.
-pub struct Span {
+pub struct Overlap {
     pub left: u64,
     pub right: u64,
 }
@@ -34,7 +34,7 @@ fn greater(a: u64, b: u64) -> u64
     a
 }
 
-fn less(a: u64, b: u64) -> u64
+fn lesser(a: u64, b: u64) -> u64
     ensures { λ r. ⌜ r ≡ min a b ⌝ }
 {
     if b < a {
@@ -44,10 +44,10 @@ fn less(a: u64, b: u64) -> u64
 }
 
 // The greatest left end of the held data and the least right end.
-fn meeting(s: &[u8], h: usize) -> Span
+fn meeting(s: &[u8], h: usize) -> Overlap
     requires { ⌜ (stateSize ≤ length (now s)) × (h ≡ heldCount (now s)) × (h ≤ dataMost) ⌝ }
-    ensures { λ r. ⌜ (r .left ≡ highest 0 (storeOf (now (s .entry)) .held))
-        × (r .right ≡ lowest endLimit (storeOf (now (s .entry)) .held)) ⌝ }
+    ensures { λ r. ⌜ (r .left ≡ greatestLeft 0 (storeOf (now (s .entry)) .held))
+        × (r .right ≡ leastRight endLimit (storeOf (now (s .entry)) .held)) ⌝ }
 {
     let mut left: u64 = 0;
     let mut right: u64 = state::END_LIMIT;
@@ -57,10 +57,10 @@ fn meeting(s: &[u8], h: usize) -> Span
         let l = numbers::get64(s, at);
         let r = numbers::get64(s, at + state::RIGHT_IN);
         left = greater(left, l);
-        right = less(right, r);
+        right = lesser(right, r);
         i += 1;
     }
-    Span { left, right }
+    Overlap { left, right }
 }
 
 // The answer at limit 0, where no name may have failed: what all held intervals have in common, if nothing is known to have failed.
@@ -85,7 +85,7 @@ fn plain(s: &[u8]) -> Answer
 // Whether an instant counts where no name has failed.
 pub fn agree(s: &[u8]) -> bool
     requires { ⌜ (stateSize ≤ length (now s)) × T (inForm (now s)) ⌝ }
-    ensures { λ r. ⌜ r ≡ some (answer 0 (stateOf (now (s .entry)))) ⌝ }
+    ensures { λ r. ⌜ r ≡ notContradicted (answer 0 (stateOf (now (s .entry)))) ⌝ }
 {
     match plain(s) {
         Answer::Contradicted => false,

@@ -20,8 +20,8 @@ use Rattle.numbers.proofs.NumberLaws.{put-then, put-front, tab-ext}
 use Rattle.predicates.specs.Lists.{keep, In}
 use Rattle.predicates.specs.Predicates.{holds}
 use Rattle.predicates.proofs.ListLaws.{both, both-l, both-r, true-T, split, keep-out, keep-append}
-use Rattle.search.specs.Search.{Rows, rowWidth, Best, RowsFit, rowTerms, predAt, preds}
-use Rattle.search.specs.Ends.{outside, noEnd, Next, Last, Latest, Ready, needs, Trying}
+use Rattle.search.specs.code.Search.{Rows, rowWidth, Best, RowsFit, rowTerms, predAt, preds}
+use Rattle.search.specs.code.LeftEnds.{outside, noEnd, Next, Last, Latest, Ready, needs, Trying}
 use Rattle.search.proofs.SearchLaws.{best-done}
 use Rattle.search.proofs.SearchSteps.{rest-next, pred-part, term-none, term-skip, term-stop, term-on}
 
@@ -238,8 +238,8 @@ module _ (n rows : ℕ) (lefts rights : List ℕ) (table : Rows) (order l₀ l :
       record {
         listed-long = omega (arith, ap length front, length-append kept (drop m l₀), count);
         counted = λ j h. omega (arith, kept-row j h, ready .counted);
-        narrow = λ j h. ready .narrow (getD l j 0) (kept-row j h);
-        long = λ j h. omega (arith, kept-row j h, ready .narrow (getD l j 0) (kept-row j h), ready .long);
+        few = λ j h. ready .few (getD l j 0) (kept-row j h);
+        long = λ j h. omega (arith, kept-row j h, ready .few (getD l j 0) (kept-row j h), ready .long);
         parted = λ j h. ready .parted (getD l j 0) (kept-row j h);
       }
 
@@ -274,29 +274,29 @@ module _ (limit free : ℕ) (whole : List (List ℕ)) where
       subst (λ (ps : List (List ℕ)). Best noSet limit 0 free ps noSet r) (sym (rest-next m l table 0 h) ∙ e)
       (subst (λ (ts : List ℕ). Best noSet limit 0 free (ts ∷ drop 1 (preds m l table)) noSet r) (pred-part l table 0 at end p q) b)
 
-  module _ (masks : List ℕ) (ps : List (List ℕ)) (end at left : ℕ) (w : Trying limit free whole masks ps end at left) where
+  module _ (masks : List ℕ) (ps : List (List ℕ)) (end at free′ : ℕ) (w : Trying limit free whole masks ps end at free′) where
     pub trying-none : end ≤ at → Best noSet limit 0 free whole noSet noSet
-    trying-none h = w noSet (term-none noSet limit 0 left noSet masks at end ps h)
+    trying-none h = w noSet (term-none noSet limit 0 free′ noSet masks at end ps h)
 
     module _ (h : at < end) (k : end ≤ length masks) where
       abbrev t : ℕ
       t = getD masks at 0
 
       abbrev worth : Bool
-      worth = subset t (union 0 left) && (ltb (union 0 t) noSet && leb (ones (union 0 t)) limit)
+      worth = subset t (union 0 free′) && (ltb (union 0 t) noSet && leb (ones (union 0 t)) limit)
 
-      pub trying-skip : worth ≡ false → Trying limit free whole masks ps end (at + 1) left
-      trying-skip e r b = w r (term-skip noSet limit 0 left noSet masks at end ps h k r e b)
+      pub trying-skip : worth ≡ false → Trying limit free whole masks ps end (at + 1) free′
+      trying-skip e r b = w r (term-skip noSet limit 0 free′ noSet masks at end ps h k r e b)
 
-      module _ (found : ℕ) (e : worth ≡ true) (b : Best noSet limit (union 0 t) left ps noSet found) where
+      module _ (found : ℕ) (e : worth ≡ true) (b : Best noSet limit (union 0 t) free′ ps noSet found) where
         pub trying-stop : found < noSet → Best noSet limit 0 free whole noSet found
-        trying-stop l = w found (term-stop noSet limit 0 left noSet masks at end ps h k found e b l)
+        trying-stop l = w found (term-stop noSet limit 0 free′ noSet masks at end ps h k found e b l)
 
-        pub trying-on : (rest : ℕ) → noSet ≤ found → rest ≡ cond (eqb (ones (union 0 t)) (ones 0 + 1)) (less left t) left
+        pub trying-on : (rest : ℕ) → noSet ≤ found → rest ≡ cond (eqb (ones (union 0 t)) (ones 0 + 1)) (less free′ t) free′
             → Trying limit free whole masks ps end (at + 1) rest
         trying-on rest l q r d =
             let same : noSet ≡ found = omega (arith, b .low) in
-            w r (term-on noSet limit 0 left noSet masks at end ps h k found e b rest r l q
+            w r (term-on noSet limit 0 free′ noSet masks at end ps h k found e b rest r l q
             (subst (λ (x : ℕ). Best noSet limit 0 rest (take (end - (at + 1)) (drop (at + 1) masks) ∷ ps) x r) same d))
 
 -- no row lacks the instant: no name need have failed

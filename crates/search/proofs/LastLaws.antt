@@ -19,7 +19,7 @@ use Rattle.predicates.specs.Lists.{all, In}
 use Rattle.predicates.specs.Predicates.{holds}
 use Rattle.predicates.proofs.ListLaws.{both, both-l, both-r, cond-ind}
 use Rattle.predicates.proofs.PredicateLaws.{holds-in, holds-out, holds-mono}
-use Rattle.search.specs.Search.{Fits, Best, gather, alone, sieve}
+use Rattle.search.specs.code.Search.{Fits, Best, gather, alone, narrowed}
 use Rattle.search.proofs.SearchLaws.{best-none, best-of}
 
 -- what is free once a term was tried: v is what it adds
@@ -108,86 +108,86 @@ module _ (limit s : ℕ) (last : ones s + 1 ≡ limit) where
 
   -- ---- for every predicate that s leaves false
 
-  pub sieve-stop : (ps : List (List ℕ)) → sieve limit s s ps ≡ s
-  unfolding sieve
-  sieve-stop [] = refl
-  sieve-stop (p ∷ ps) =
-      ap (λ (x : ℕ). sieve limit s x ps)
+  pub narrowed-stop : (ps : List (List ℕ)) → narrowed limit s s ps ≡ s
+  unfolding narrowed
+  narrowed-stop [] = refl
+  narrowed-stop (p ∷ ps) =
+      ap (λ (x : ℕ). narrowed limit s x ps)
       (cond-ind (λ x. x ≡ s) (holds s p) s (shared s (alone limit s p)) (λ _. refl)
       (λ _. subset-antisym (shared s (alone limit s p)) s (shared-left s (alone limit s p))
       (shared-greatest s s (alone limit s p) (subset-refl s) (alone-above p))))
-      ∙ sieve-stop ps
+      ∙ narrowed-stop ps
 
   -- what has all names of s keeps them
-  pub sieve-above : (m : ℕ) (ps : List (List ℕ)) → T (subset s m) → T (subset s (sieve limit s m ps))
-  unfolding sieve
-  sieve-above m [] h = h
-  sieve-above m (p ∷ ps) h =
-      sieve-above (cond (holds s p) m (shared m (alone limit s p))) ps
+  pub narrowed-above : (m : ℕ) (ps : List (List ℕ)) → T (subset s m) → T (subset s (narrowed limit s m ps))
+  unfolding narrowed
+  narrowed-above m [] h = h
+  narrowed-above m (p ∷ ps) h =
+      narrowed-above (cond (holds s p) m (shared m (alone limit s p))) ps
       (cond-ind (λ x. T (subset s x)) (holds s p) m (shared m (alone limit s p)) (λ _. h) (λ _. shared-greatest s m (alone limit s p) h (alone-above p)))
 
-  sieve-in : (m u free : ℕ) (qs ps : List (List ℕ)) → T (subset u m) → Fits limit s free qs u → T (all (holds u) ps)
-      → T (subset u (sieve limit s m ps))
-  unfolding sieve
-  sieve-in m u free qs [] h f a = h
-  sieve-in m u free qs (p ∷ ps) h f a =
-      sieve-in (cond (holds s p) m (shared m (alone limit s p))) u free qs ps
+  narrowed-in : (m u free : ℕ) (qs ps : List (List ℕ)) → T (subset u m) → Fits limit s free qs u → T (all (holds u) ps)
+      → T (subset u (narrowed limit s m ps))
+  unfolding narrowed
+  narrowed-in m u free qs [] h f a = h
+  narrowed-in m u free qs (p ∷ ps) h f a =
+      narrowed-in (cond (holds s p) m (shared m (alone limit s p))) u free qs ps
       (cond-ind (λ x. T (subset u x)) (holds s p) m (shared m (alone limit s p)) (λ _. h)
       (λ n. shared-greatest u m (alone limit s p) h (fits-alone free u p qs f (both-l (holds u p) (all (holds u) ps) a) n)))
       f (both-r (holds u p) (all (holds u) ps) a)
 
-  sieve-part : (m : ℕ) (ps : List (List ℕ)) → T (subset (sieve limit s m ps) m)
-  unfolding sieve
-  sieve-part m [] = subset-refl m
-  sieve-part m (p ∷ ps) =
+  narrowed-part : (m : ℕ) (ps : List (List ℕ)) → T (subset (narrowed limit s m ps) m)
+  unfolding narrowed
+  narrowed-part m [] = subset-refl m
+  narrowed-part m (p ∷ ps) =
       let n : ℕ = cond (holds s p) m (shared m (alone limit s p)) in
-      subset-trans (sieve limit s n ps) n m (sieve-part n ps)
+      subset-trans (narrowed limit s n ps) n m (narrowed-part n ps)
       (cond-ind (λ x. T (subset x m)) (holds s p) m (shared m (alone limit s p)) (λ _. subset-refl m) (λ _. shared-left m (alone limit s p)))
 
-  sieve-holds : (m : ℕ) (ps : List (List ℕ)) (c : ℕ) → ones c ≡ 1 → (T (subset c s) → ⊥) → T (subset c (sieve limit s m ps))
+  narrowed-holds : (m : ℕ) (ps : List (List ℕ)) (c : ℕ) → ones c ≡ 1 → (T (subset c s) → ⊥) → T (subset c (narrowed limit s m ps))
       → T (all (holds (union s c)) ps)
-  unfolding sieve
-  sieve-holds m [] c e f h = tt
-  sieve-holds m (p ∷ ps) c e f h =
+  unfolding narrowed
+  narrowed-holds m [] c e f h = tt
+  narrowed-holds m (p ∷ ps) c e f h =
       both (holds (union s c) p) (all (holds (union s c)) ps)
       (cond-ind (λ x. T (subset c x) → T (holds (union s c) p)) (holds s p) m (shared m (alone limit s p))
       (λ k _. holds-mono s (union s c) p (union-left s c) k)
       (λ _ i. alone-holds p c e f (subset-trans c (shared m (alone limit s p)) (alone limit s p) i (shared-right m (alone limit s p))))
-      (subset-trans c (sieve limit s n ps) n h (sieve-part n ps)))
-      (sieve-holds n ps c e f h)
+      (subset-trans c (narrowed limit s n ps) n h (narrowed-part n ps)))
+      (narrowed-holds n ps c e f h)
     where
       n : ℕ
       n = cond (holds s p) m (shared m (alone limit s p))
 
   -- ---- one name is left of those to try
 
-  pub one-all : (c : ℕ) (ps : List (List ℕ)) → ones c ≡ 1 → T (all (holds (union s c)) ps) → sieve limit s (union s c) ps ≡ union s c
+  pub one-all : (c : ℕ) (ps : List (List ℕ)) → ones c ≡ 1 → T (all (holds (union s c)) ps) → narrowed limit s (union s c) ps ≡ union s c
   one-all c ps one h =
       let m = union s c in
       let fits : Fits limit s c ps m =
       record { above = union-left s c; within = subset-refl m; few = omega (arith, ones-union s c, one); holding = h } in
-      subset-antisym (sieve limit s m ps) m (sieve-part m ps) (sieve-in m m c ps ps (subset-refl m) fits h)
+      subset-antisym (narrowed limit s m ps) m (narrowed-part m ps) (narrowed-in m m c ps ps (subset-refl m) fits h)
 
   pub one-none : (c : ℕ) (ps : List (List ℕ)) → ones c ≡ 1 → (T (subset c s) → ⊥) → (T (all (holds (union s c)) ps) → ⊥)
-      → sieve limit s (union s c) ps ≡ s
+      → narrowed limit s (union s c) ps ≡ s
   one-none c ps one apart f =
       let m = union s c in
-      subset-antisym (sieve limit s m ps) s (without-one s c (sieve limit s m ps) one (sieve-part m ps) (λ i. f (sieve-holds m ps c one apart i)))
-      (sieve-above m ps (union-left s c))
+      subset-antisym (narrowed limit s m ps) s (without-one s c (narrowed limit s m ps) one (narrowed-part m ps) (λ i. f (narrowed-holds m ps c one apart i)))
+      (narrowed-above m ps (union-left s c))
 
   -- ---- the search with one name left
 
-  module _ (enough free best : ℕ) (p : List ℕ) (ps : List (List ℕ)) (left : T (not (holds s p))) where
+  module _ (enough free best : ℕ) (p : List ℕ) (ps : List (List ℕ)) (left-false : T (not (holds s p))) where
     abbrev names : ℕ
-    names = sieve limit s (union s free) (p ∷ ps)
+    names = narrowed limit s (union s free) (p ∷ ps)
 
     fits-names : (u : ℕ) → Fits limit s free (p ∷ ps) u → T (subset u names)
-    fits-names u f = sieve-in (union s free) u free (p ∷ ps) (p ∷ ps) (f .within) f (f .holding)
+    fits-names u f = narrowed-in (union s free) u free (p ∷ ps) (p ∷ ps) (f .within) f (f .holding)
 
     -- a set that fits is more than s
     fits-more : (u : ℕ) → Fits limit s free (p ∷ ps) u → s ≡ u → ⊥
     fits-more u f e =
-        T-not (holds s p) left (subst (λ (x : ℕ). T (holds x p)) (sym e) (both-l (holds u p) (all (holds u) ps) (f .holding)))
+        T-not (holds s p) left-false (subst (λ (x : ℕ). T (holds x p)) (sym e) (both-l (holds u p) (all (holds u) ps) (f .holding)))
 
     -- no name does alone
     pub last-none : names ≡ s → Best enough limit s free (p ∷ ps) best best
@@ -212,7 +212,7 @@ module _ (limit s : ℕ) (last : ones s + 1 ≡ limit) where
         c = lowest rest
 
         some : 0 < rest
-        some = beyond names (sieve-above (union s free) (p ∷ ps) (union-left s free)) f
+        some = beyond names (narrowed-above (union s free) (p ∷ ps) (union-left s free)) f
 
         one : ones c ≡ 1
         one = lowest-one rest some
@@ -227,9 +227,9 @@ module _ (limit s : ℕ) (last : ones s + 1 ≡ limit) where
         fits =
             record {
               above = union-left s c;
-              within = union-least s c (union s free) (union-left s free) (subset-trans c names (union s free) c-in (sieve-part (union s free) (p ∷ ps)));
+              within = union-least s c (union s free) (union-left s free) (subset-trans c names (union s free) c-in (narrowed-part (union s free) (p ∷ ps)));
               few = omega (arith, ones-union s c, one);
-              holding = sieve-holds (union s free) (p ∷ ps) c one apart c-in;
+              holding = narrowed-holds (union s free) (p ∷ ps) c one apart c-in;
             }
 
         below : (u : ℕ) → Fits limit s free (p ∷ ps) u → union s c ≤ u

@@ -1,6 +1,6 @@
--- The least set of all, run by run.
--- The idea: a search keeps the least of the sets tried so far; the last end of a run needs the fewest predicates, so with all runs tried the least
--- set of every end is found. No contract cites this file. Assumes nothing.
+-- The least set of all, stretch by stretch.
+-- The idea: a search keeps the least of the sets tried so far; the last end of a stretch needs the fewest predicates, so with all stretches tried the
+-- least set of every end is found. No contract cites this file. Assumes nothing.
 use Prim.Native.Nat.{ℕ, _+_, _-_, _≤_, _<_}
 use mathlib.Core.Path.{_≡_, refl, sym, ap, subst, _∙_}
 use mathlib.Core.Logic.{_⊎_, inl, inr, ⊎-elim}
@@ -15,11 +15,11 @@ use Rattle.numbers.proofs.NumberLaws.{length-tab, getD-tab}
 use Rattle.predicates.specs.Lists.{keep, In}
 use Rattle.predicates.specs.Predicates.{holds}
 use Rattle.predicates.proofs.ListLaws.{all-in, all-out, keep-in, keep-out, map-in, map-out}
-use Rattle.search.specs.Search.{Rows, Fits, Best, RowsFit, rowTerms, predAt, preds}
+use Rattle.search.specs.code.Search.{Rows, Fits, Best, RowsFit, rowTerms, predAt, preds}
 use Rattle.names.specs.Sets.{noSet}
-use Rattle.search.specs.Ends.{outside, noEnd, Next, IsEnd, Unbroken, Ready, Least, needs}
+use Rattle.search.specs.code.LeftEnds.{outside, noEnd, Next, IsEnd, Unbroken, Ready, LeastSet, needs}
 use Rattle.search.proofs.EndSteps.{in-take, take-in, at-in}
-use Rattle.search.proofs.RunLaws.{out-empty, under-floor, run-is-end, runs-room, run-needs, all-explains}
+use Rattle.search.proofs.StretchLaws.{out-empty, under-floor, stretch-is-end, stretches-room, stretch-needs, all-explains}
 
 -- r is the least of the sets W, or no set
 pub record LeastOf (W : ℕ → Type 0) (r : ℕ) : Type 0 where
@@ -27,7 +27,7 @@ pub record LeastOf (W : ℕ → Type 0) (r : ℕ) : Type 0 where
   pub low : r ≤ noSet
   pub least : (u : ℕ) → W u → r ≤ u
 
--- ---- run by run
+-- ---- stretch by stretch
 
 module _ (n rows : ℕ) (lefts rights : List ℕ) (table : Rows) (order : List ℕ) (limit free : ℕ) where
   abbrev Explains : ℕ → ℕ → Type 0
@@ -42,13 +42,13 @@ module _ (n rows : ℕ) (lefts rights : List ℕ) (table : Rows) (order : List �
 
   module _ (ready : Ready n rows lefts rights table order) (floor from best : ℕ) (w : LeastOf (Passed floor) best)
       (next : Next lefts n rows floor from) where
-    module _ (some : from ≡ noEnd → ⊥) (x : ℕ) (run : Unbroken n rows rights from x) (at : (x ≡ from) ⊎ IsEnd n rows lefts x) (r : ℕ)
+    module _ (some : from ≡ noEnd → ⊥) (x : ℕ) (stretch : Unbroken n rows rights from x) (at : (x ≡ from) ⊎ IsEnd n rows lefts x) (r : ℕ)
         (b : Best 0 limit 0 free (needs rows lefts rights table order x) best r) where
       end : IsEnd n rows lefts x
-      end = run-is-end n rows lefts rights table order ready floor from next some x run at
+      end = stretch-is-end n rows lefts rights table order ready floor from next some x stretch at
 
       room : (x < noEnd) × (floor ≤ x)
-      room = runs-room n rows lefts rights table order ready floor from next some x run at
+      room = stretches-room n rows lefts rights table order ready floor from next some x stretch at
 
       pub least-next : LeastOf (Passed (x + 1)) r
       least-next =
@@ -68,10 +68,10 @@ module _ (n rows : ℕ) (lefts rights : List ℕ) (table : Rows) (order : List �
           go u p (yes l) = le-trans (b .low) (w .least u (p .0, p .1, p .2, under-floor n rows lefts rights table order ready floor from next (p .0) (p .1) (p .2) l, p .4))
           go u p (no l) =
               ⊎-elim (λ h. h) (λ h. absurd (omega arith))
-              (b .least u (run-needs n rows lefts rights table order ready limit free from x run (getD lefts (p .0) 0) u (omega arith) (omega (arith, p .3)) (p .4)))
+              (b .least u (stretch-needs n rows lefts rights table order ready limit free from x stretch (getD lefts (p .0) 0) u (omega arith) (omega (arith, p .3)) (p .4)))
 
     -- no end is left
-    pub least-in : from ≡ noEnd → (n ≡ rows → ⊥) → Least n rows lefts rights table order limit free best
+    pub least-in : from ≡ noEnd → (n ≡ rows → ⊥) → LeastSet n rows lefts rights table order limit free best
     least-in e some =
         record {
           from = ⊎-elim (λ q. inl q) (λ p. inr (inr (p .0, p .1, p .2, p .4))) (w .from);
@@ -91,7 +91,7 @@ module _ (n rows : ℕ) (lefts rights : List ℕ) (table : Rows) (order : List �
 
   -- there is no end at all
   pub least-alone : n ≡ rows → (r : ℕ) → Best 0 limit 0 free (preds rows order table) noSet r
-      → Least n rows lefts rights table order limit free r
+      → LeastSet n rows lefts rights table order limit free r
   least-alone e r b =
       record {
         from = ⊎-elim (λ q. inl q) (λ f. inr (inl f)) (b .from);
@@ -121,7 +121,7 @@ module _ (n rows : ℕ) (lefts rights : List ℕ) (table : Rows) (order : List �
             let row : w .0 < rows = omega (arith, j .2, ready .placed (j .0) (j .1)) in
             rw (w .2) (all-out (holds u) ps (f .holding) _ (there (w .0) row (ltb→lt (w .0) n (v .1))))
 
-    pub least-unknown : Least n rows lefts rights table order limit free noSet
+    pub least-unknown : LeastSet n rows lefts rights table order limit free noSet
     unfolding needs preds predAt
     least-unknown =
         record {
@@ -143,7 +143,7 @@ module _ (n rows : ℕ) (lefts rights : List ℕ) (table : Rows) (order : List �
   Tried u =
       Fits limit 0 free (preds rows order table) u ⊎ ((k : ℕ) × (n ≤ k) × (k < rows) × Explains (getD lefts k 0) u)
 
-  pub least-out : (r : ℕ) → Least n rows lefts rights table order limit free r → LeastOf Tried r
+  pub least-out : (r : ℕ) → LeastSet n rows lefts rights table order limit free r → LeastOf Tried r
   least-out r w =
       record { from = w .from; low = w .low; least = λ u. ⊎-elim (w .all u) (λ t. w .each (t .0) (t .1) (t .2) u (t .3)) }
 
@@ -153,7 +153,7 @@ ready-rows {order = order} ready =
     record {
       listed-long = ready .ordered;
       counted = λ j h. omega (arith, ready .placed j h, ready .counted);
-      narrow = λ j h. ready .narrow (getD order j 0) (ready .placed j h);
-      long = λ j h. omega (arith, ready .placed j h, ready .narrow (getD order j 0) (ready .placed j h), ready .long);
+      few = λ j h. ready .few (getD order j 0) (ready .placed j h);
+      long = λ j h. omega (arith, ready .placed j h, ready .few (getD order j 0) (ready .placed j h), ready .long);
       parted = λ j h. ready .parted (getD order j 0) (ready .placed j h);
     }

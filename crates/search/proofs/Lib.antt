@@ -4,5 +4,5 @@ pub mod LastLaws
 pub mod PartedLaws
 pub mod SearchSteps
 pub mod EndSteps
-pub mod RunLaws
+pub mod StretchLaws
 pub mod LeastLaws

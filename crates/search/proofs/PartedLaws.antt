@@ -19,22 +19,22 @@ use Rattle.predicates.specs.Predicates.{holds, singles}
 use Rattle.predicates.proofs.ListLaws.{true-T, T-true, T-false, split, cond-ind, keep-in, keep-out}
 use Rattle.predicates.proofs.PredicateLaws.{holds-in, holds-out}
 use Rattle.predicates.proofs.MaskLaws.{singles-holds}
-use Rattle.search.specs.Search.{Rows, rowWidth, gather, alone, single, rowTerms, Parted, several}
+use Rattle.search.specs.code.Search.{Rows, rowWidth, gather, alone, isSingle, rowTerms, Parted, several}
 
 -- ---- one term
 
-single-one : (t : ℕ) → T (single t) → ones t ≡ 1
-single-one t h = eqb→eq (ones t) 1 h
+is-single-one : (t : ℕ) → T (isSingle t) → ones t ≡ 1
+is-single-one t h = eqb→eq (ones t) 1 h
 
-pub single-zero : (t : ℕ) → t ≡ 0 → false ≡ single t
-single-zero t z = rw (z, ones-empty) refl
+pub is-single-zero : (t : ℕ) → t ≡ 0 → false ≡ isSingle t
+is-single-zero t z = rw (z, ones-empty) refl
 
 -- of those that have a name, the ones that have at most one
-pub single-some : (t : ℕ) (r : Bool) → (t ≡ 0 → ⊥) → r ≡ leb (ones t) 1 → r ≡ single t
-single-some t r f e =
-    e ∙ test-ext (leb (ones t) 1) (single t)
+pub is-single-some : (t : ℕ) (r : Bool) → (t ≡ 0 → ⊥) → r ≡ leb (ones t) 1 → r ≡ isSingle t
+is-single-some t r f e =
+    e ∙ test-ext (leb (ones t) 1) (isSingle t)
     (λ h. true-T _ (eq-eqb (ones t) 1 (just (ones t) (λ z. f (ones-none t z)) (leb→le (ones t) 1 h))))
-    (λ h. le→leb (ones t) 1 (omega (arith, single-one t h)))
+    (λ h. le→leb (ones t) 1 (omega (arith, is-single-one t h)))
   where
     just : (n : ℕ) → (n ≡ 0 → ⊥) → n ≤ 1 → n ≡ 1
     just n g l = omega arith
@@ -44,16 +44,16 @@ one-not-empty c e z = absurd (omega (arith, e, ap ones z, ones-empty))
 
 -- ---- the mask
 
-singles-in : (p : List ℕ) (t : ℕ) → In t p → T (single t) → T (subset t (singles p))
+singles-in : (p : List ℕ) (t : ℕ) → In t p → T (isSingle t) → T (subset t (singles p))
 unfolding singles
 singles-in [] t m h = absurd m
 singles-in (v ∷ p) t (inl e) h =
-    cond-ind (λ x. T (subset t x)) (single v) (union v (singles p)) (singles p)
+    cond-ind (λ x. T (subset t x)) (isSingle v) (union v (singles p)) (singles p)
     (λ _. subst (λ (x : ℕ). T (subset x (union v (singles p)))) (sym e) (union-left v (singles p)))
-    (λ n. absurd (T-not (single v) n (subst (λ (x : ℕ). T (single x)) e h)))
+    (λ n. absurd (T-not (isSingle v) n (subst (λ (x : ℕ). T (isSingle x)) e h)))
 singles-in (v ∷ p) t (inr m) h =
     let rest = singles-in p t m h in
-    cond-ind (λ x. T (subset t x)) (single v) (union v (singles p)) (singles p)
+    cond-ind (λ x. T (subset t x)) (isSingle v) (union v (singles p)) (singles p)
     (λ _. subset-trans t (singles p) (union v (singles p)) rest (union-right v (singles p))) (λ _. rest)
 
 module _ (p : List ℕ) (s : ℕ) where
@@ -63,17 +63,17 @@ module _ (p : List ℕ) (s : ℕ) where
   pub holds-miss : shared s (singles p) ≡ 0 → holds s p ≡ holds s (several p)
   unfolding several
   holds-miss z =
-      test-ext (holds s p) (holds s (keep (λ t. not (single t)) p))
+      test-ext (holds s p) (holds s (keep (λ t. not (isSingle t)) p))
       (λ h. let w = holds-out s p h in
-      holds-in s (keep (λ t. not (single t)) p) (w .0) (keep-in (λ t. not (single t)) p (w .0) (w .1) (other (w .0) (w .1) (w .2) (split (single (w .0))))) (w .2))
-      (λ h. let w = holds-out s (keep (λ t. not (single t)) p) h in
-      holds-in s p (w .0) (keep-out (λ t. not (single t)) p (w .0) (w .1) .0) (w .2))
+      holds-in s (keep (λ t. not (isSingle t)) p) (w .0) (keep-in (λ t. not (isSingle t)) p (w .0) (w .1) (other (w .0) (w .1) (w .2) (split (isSingle (w .0))))) (w .2))
+      (λ h. let w = holds-out s (keep (λ t. not (isSingle t)) p) h in
+      holds-in s p (w .0) (keep-out (λ t. not (isSingle t)) p (w .0) (w .1) .0) (w .2))
     where
-      other : (t : ℕ) → In t p → T (subset t s) → T (single t) ⊎ T (not (single t)) → T (not (single t))
+      other : (t : ℕ) → In t p → T (subset t s) → T (isSingle t) ⊎ T (not (isSingle t)) → T (not (isSingle t))
       other t m k (inr n) = n
       other t m k (inl one) =
           let part = shared-greatest t s (singles p) k (singles-in p t m one) in
-          absurd (one-not-empty t (single-one t one) (subset-empty t (subst (λ (x : ℕ). T (subset t x)) z part)))
+          absurd (one-not-empty t (is-single-one t one) (subset-empty t (subst (λ (x : ℕ). T (subset t x)) z part)))
 
 -- ---- the names that do alone
 
@@ -104,19 +104,19 @@ module _ (limit s : ℕ) where
     parted-next : (t : ℕ) (p : List ℕ) → alone limit s p ≡ gather (union s (singles p)) limit s (several p)
         → alone limit s (t ∷ p) ≡ gather (union s (singles (t ∷ p))) limit s (several (t ∷ p))
     unfolding gather singles several
-    parted-next t p rest = go (split (single t))
+    parted-next t p rest = go (split (isSingle t))
       where
         m : ℕ
         m = singles p
 
         q : List ℕ
-        q = keep (λ v. not (single v)) p
+        q = keep (λ v. not (isSingle v)) p
 
         x : ℕ
         x = gather (union s m) limit s q
 
-        fits : T (single t) → leb (ones (union s t)) limit ≡ true
-        fits one = le-leb (ones (union s t)) limit (omega (arith, ones-union s t, single-one t one))
+        fits : T (isSingle t) → leb (ones (union s t)) limit ≡ true
+        fits one = le-leb (ones (union s t)) limit (omega (arith, ones-union s t, is-single-one t one))
 
         joined : union (union s t) x ≡ gather (union s (union t m)) limit s q
         joined =
@@ -126,10 +126,10 @@ module _ (limit s : ℕ) where
             omega (arith, digit-union (union s t) x n, digit-union s t n, digit-union t x n, subset-out s x in-x n)) in
             dropped ∙ sym (gather-base t (union s m) q) ∙ ap (λ (d : ℕ). gather d limit s q) (union-left-comm t s m)
 
-        go : T (single t) ⊎ T (not (single t))
-            → gather s limit s (t ∷ p) ≡ gather (union s (cond (single t) (union t m) m)) limit s (keep (λ v. not (single v)) (t ∷ p))
-        go (inl one) = rw (T-true (single t) one, fits one, rest) joined
-        go (inr n) = rw (T-false (single t) n, rest) refl
+        go : T (isSingle t) ⊎ T (not (isSingle t))
+            → gather s limit s (t ∷ p) ≡ gather (union s (cond (isSingle t) (union t m) m)) limit s (keep (λ v. not (isSingle v)) (t ∷ p))
+        go (inl one) = rw (T-true (isSingle t) one, fits one, rest) joined
+        go (inr n) = rw (T-false (isSingle t) n, rest) refl
 
     pub gather-parted : (p : List ℕ) → alone limit s p ≡ gather (union s (singles p)) limit s (several p)
     unfolding gather singles several
@@ -161,8 +161,8 @@ module _ (table : Rows) (k s : ℕ) (w : Parted table k) where
         ap (λ (m : ℕ). gather (union s m) (ones s + 1) s (take (end - k * rowWidth) (drop (k * rowWidth) (table .rests)))) (w .one)
         ∙ ap (gather (union s (singles row)) (ones s + 1) s) part ∙ sym (gather-parted (ones s + 1) s refl row)
 
-    pub row-sift : (names r : ℕ)
+    pub row-narrow : (names r : ℕ)
         → r ≡ cond (holds s (take (end - k * rowWidth) (drop (k * rowWidth) (table .rests)))) names
         (shared names (gather (union s (getD (table .singles) k 0)) (ones s + 1) s (take (end - k * rowWidth) (drop (k * rowWidth) (table .rests)))))
         → r ≡ cond (holds s row) names (shared names (alone (ones s + 1) s row))
-    row-sift names r e = rw (row-miss, row-gather) at e
+    row-narrow names r e = rw (row-miss, row-gather) at e

@@ -19,7 +19,7 @@ use Rattle.predicates.specs.Lists.{all}
 use Rattle.predicates.specs.Predicates.{holds}
 use Rattle.predicates.proofs.ListLaws.{both, both-l, both-r, or-cases, or-l, or-r, T-true, T-false, split, cond-ind}
 use Rattle.predicates.proofs.PredicateLaws.{holds-mono}
-use Rattle.search.specs.Search.{Fits, Best, skipped}
+use Rattle.search.specs.code.Search.{Fits, Best, skipped}
 
 -- ---- predicates that s makes true are passed
 
@@ -109,12 +109,12 @@ module _ (enough limit s free : ℕ) (ps : List (List ℕ)) where
     unfolding holds
     now u k h = both (holds u (t ∷ ts)) (all (holds u) ps) (or-l (subset t u) (holds u ts) k) h
 
-    fits-later : (left u : ℕ) → T (subset left free) → Fits limit s left (ts ∷ ps) u → Fits limit s free ((t ∷ ts) ∷ ps) u
-    fits-later left u l f =
+    fits-later : (free′ u : ℕ) → T (subset free′ free) → Fits limit s free′ (ts ∷ ps) u → Fits limit s free ((t ∷ ts) ∷ ps) u
+    fits-later free′ u l f =
         record {
           above = f .above;
-          within = subset-trans u (union s left) (union s free) (f .within)
-              (union-least s left (union s free) (union-left s free) (subset-trans left free (union s free) l (union-right s free)));
+          within = subset-trans u (union s free′) (union s free) (f .within)
+              (union-least s free′ (union s free) (union-left s free) (subset-trans free′ free (union s free) l (union-right s free)));
           few = f .few;
           holding = later u (f .holding);
         }
@@ -162,14 +162,14 @@ module _ (enough limit s free : ℕ) (ps : List (List ℕ)) where
       pub terms-stop : found < enough → Best enough limit s free ((t ∷ ts) ∷ ps) best found
       terms-stop h = record { from = from-term; low = b .low; least = λ u f. inr h }
 
-      -- the search goes on with the other terms; `left` is what is free then
-      go-on : (left r : ℕ) → enough ≤ found → T (subset left free)
-          → ((u : ℕ) → Fits limit s free ((t ∷ ts) ∷ ps) u → (T (subset t u) → ⊥) → T (subset u (union s left)))
-          → Best enough limit s left (ts ∷ ps) found r → Best enough limit s free ((t ∷ ts) ∷ ps) best r
-      go-on left r h l keeps c =
+      -- the search goes on with the other terms; `free′` is what is free then
+      go-on : (free′ r : ℕ) → enough ≤ found → T (subset free′ free)
+          → ((u : ℕ) → Fits limit s free ((t ∷ ts) ∷ ps) u → (T (subset t u) → ⊥) → T (subset u (union s free′)))
+          → Best enough limit s free′ (ts ∷ ps) found r → Best enough limit s free ((t ∷ ts) ∷ ps) best r
+      go-on free′ r h l keeps c =
           record {
             from = ⊎-elim (λ e. subst (λ (x : ℕ). (x ≡ best) ⊎ Fits limit s free ((t ∷ ts) ∷ ps) x) (sym e) from-term)
-                (λ f. inr (fits-later left r l f)) (c .from);
+                (λ f. inr (fits-later free′ r l f)) (c .from);
             low = le-trans (c .low) (b .low);
             least = λ u f. pick u f (first-or u (f .holding)) (split (subset t u));
           }

@@ -24,8 +24,8 @@ use Rattle.predicates.proofs.ListLaws.{both, both-l, both-r, true-T, T-true, T-
 use Rattle.predicates.specs.Lists.{all, In}
 use Rattle.predicates.proofs.PredicateLaws.{holds-in}
 use Rattle.predicates.proofs.LoopLaws.{drop-next}
-use Rattle.search.specs.Search.{Rows, rowWidth, Fits, Best, skipped, gather, alone, sieve, rowTerms, predAt, preds}
-use Rattle.search.proofs.LastLaws.{alone-above, sieve-stop, sieve-above, one-all, one-none, last-found, last-none}
+use Rattle.search.specs.code.Search.{Rows, rowWidth, Fits, Best, skipped, gather, alone, narrowed, rowTerms, predAt, preds}
+use Rattle.search.proofs.LastLaws.{alone-above, narrowed-stop, narrowed-above, one-all, one-none, last-found, last-none}
 use Rattle.search.proofs.SearchLaws.{terms-none, skipped-some, skipped-none, best-skipped, best-done, best-full, terms-skip, terms-stop, terms-on, terms-bar}
 
 -- ---- the predicates from place i on
@@ -58,16 +58,16 @@ module _ (n : ℕ) (listed : List ℕ) (table : Rows) where
     unfolding skipped
     skip-done h = rest-none n (omega arith) ∙ sym (ap (λ (ps : List (List ℕ)). skipped s ps) (rest-none i h))
 
-    pub sieve-turn : (limit m x : ℕ) → i < n → ones s + 1 ≡ limit
+    pub narrowed-turn : (limit m x : ℕ) → i < n → ones s + 1 ≡ limit
         → x ≡ cond (holds s (predAt listed table i)) m (shared m (alone (ones s + 1) s (predAt listed table i)))
-        → sieve limit s m (rest i) ≡ sieve limit s x (rest (i + 1))
-    unfolding sieve
-    sieve-turn limit m x h few e =
-        ap (λ (ps : List (List ℕ)). sieve limit s m ps) (rest-next i h) ∙ ap (λ (y : ℕ). sieve limit s y (rest (i + 1))) (sym (rw few at e))
+        → narrowed limit s m (rest i) ≡ narrowed limit s x (rest (i + 1))
+    unfolding narrowed
+    narrowed-turn limit m x h few e =
+        ap (λ (ps : List (List ℕ)). narrowed limit s m ps) (rest-next i h) ∙ ap (λ (y : ℕ). narrowed limit s y (rest (i + 1))) (sym (rw few at e))
 
-    pub sieve-done : (limit m : ℕ) → n ≤ i → sieve limit s m (rest i) ≡ m
-    unfolding sieve
-    sieve-done limit m h = ap (λ (ps : List (List ℕ)). sieve limit s m ps) (rest-none i h)
+    pub narrowed-done : (limit m : ℕ) → n ≤ i → narrowed limit s m (rest i) ≡ m
+    unfolding narrowed
+    narrowed-done limit m h = ap (λ (ps : List (List ℕ)). narrowed limit s m ps) (rest-none i h)
 
   -- a set that alone is left to try: it leaves the predicate at place k false, or none
   module _ (u best j k : ℕ) (e : rest k ≡ skipped u (rest j)) where
@@ -90,21 +90,21 @@ unfolding predAt
 pred-part listed table j = row-part table (getD listed j 0)
 
 -- the first of the predicates, if there is one, is left false
-abbrev First : ℕ → List (List ℕ) → Type 0
-First s [] = Unit {0}
-First s (p ∷ ps) = T (not (holds s p))
+abbrev FirstFalse : ℕ → List (List ℕ) → Type 0
+FirstFalse s [] = Unit {0}
+FirstFalse s (p ∷ ps) = T (not (holds s p))
 
-skipped-first : (s : ℕ) (ps : List (List ℕ)) → First s (skipped s ps)
+skipped-first : (s : ℕ) (ps : List (List ℕ)) → FirstFalse s (skipped s ps)
 unfolding skipped
 skipped-first s [] = tt
-skipped-first s (p ∷ ps) = cond-ind (First s) (holds s p) (skipped s ps) (p ∷ ps) (λ _. skipped-first s ps) (λ n. n)
+skipped-first s (p ∷ ps) = cond-ind (FirstFalse s) (holds s p) (skipped s ps) (p ∷ ps) (λ _. skipped-first s ps) (λ n. n)
 
 -- ---- the predicate step: k is the place of the next predicate from i on that s leaves false
 
 module _ (n : ℕ) (listed : List ℕ) (table : Rows) (s i k : ℕ) (e : rest n listed table k ≡ skipped s (rest n listed table i)) where
   pub next-false : k < n → T (not (holds s (predAt listed table k)))
   next-false h =
-      subst (First s) (sym e ∙ rest-next n listed table k h) (skipped-first s (rest n listed table i))
+      subst (FirstFalse s) (sym e ∙ rest-next n listed table k h) (skipped-first s (rest n listed table i))
 
   module _ (enough limit free best : ℕ) where
     pub step-back : (r : ℕ) → Best enough limit s free (rest n listed table k) best r → Best enough limit s free (rest n listed table i) best r
@@ -181,9 +181,9 @@ module _ (enough limit s free best : ℕ) (masks : List ℕ) (at end : ℕ) (ps 
       pub term-stop : found < enough → Best enough limit s free (take (end - at) (drop at masks) ∷ ps) best found
       term-stop l = back found (terms-stop enough limit s free ps t ts best found room b l)
 
-      pub term-on : (left r : ℕ) → enough ≤ found → left ≡ cond (eqb (ones (union s t)) (ones s + 1)) (less free t) free
-          → Best enough limit s left (ts ∷ ps) found r → Best enough limit s free (take (end - at) (drop at masks) ∷ ps) best r
-      term-on left r l e c =
+      pub term-on : (free′ r : ℕ) → enough ≤ found → free′ ≡ cond (eqb (ones (union s t)) (ones s + 1)) (less free t) free
+          → Best enough limit s free′ (ts ∷ ps) found r → Best enough limit s free (take (end - at) (drop at masks) ∷ ps) best r
+      term-on free′ r l e c =
           cond-ind (λ x. Best enough limit s x (ts ∷ ps) found r → Best enough limit s free (take (end - at) (drop at masks) ∷ ps) best r)
           (eqb (ones (union s t)) (ones s + 1)) (less free t) free
           (λ o d. back r (terms-bar enough limit s free ps t ts best found room b r l (eqb→eq (ones (union s t)) (ones s + 1) o) d))
@@ -261,18 +261,18 @@ pub terms-start : (d limit s : ℕ) (p : List ℕ) → (d ≡ gather d limit s (
 unfolding gather holds
 terms-start d limit s p = let none = drop-of-length-le p {i = length p} (le-refl (length p)) in (rw none, rw none)
 
--- a predicate sifts, and s stays
-pub sift-above : (s : ℕ) (p : List ℕ) (m r : ℕ) → r ≡ cond (holds s p) m (shared m (alone (ones s + 1) s p)) → T (subset s m) → T (subset s r)
-sift-above s p m r e i =
+-- a predicate narrows the names, and s stays
+pub narrow-above : (s : ℕ) (p : List ℕ) (m r : ℕ) → r ≡ cond (holds s p) m (shared m (alone (ones s + 1) s p)) → T (subset s m) → T (subset s r)
+narrow-above s p m r e i =
     rw e (cond-ind (λ x. T (subset s x)) (holds s p) m (shared m (alone (ones s + 1) s p)) (λ _. i)
     (λ _. shared-greatest s m (alone (ones s + 1) s p) i (alone-above (ones s + 1) s refl p)))
 
 -- ---- the last name: m are the names that do for the predicates from k up to j
 
 module _ (n : ℕ) (listed : List ℕ) (table : Rows) (limit s free k best : ℕ) (few : ones s + 1 ≡ limit) (h : k < n)
-    (left : T (not (holds s (predAt listed table k)))) where
+    (left-false : T (not (holds s (predAt listed table k)))) where
   abbrev names : ℕ
-  names = sieve limit s (union s free) (rest n listed table k)
+  names = narrowed limit s (union s free) (rest n listed table k)
 
   first-rest : rest n listed table k ≡ predAt listed table k ∷ rest n listed table (k + 1)
   first-rest = rest-next n listed table k h
@@ -281,31 +281,31 @@ module _ (n : ℕ) (listed : List ℕ) (table : Rows) (limit s free k best : ℕ
   over : names ≡ s → (enough : ℕ) → Best enough limit s free (rest n listed table k) best best
   over done enough =
       subst (λ (ps : List (List ℕ)). Best enough limit s free ps best best) (sym first-rest)
-      (last-none limit s few enough free best (predAt listed table k) (rest n listed table (k + 1)) left
-      (ap (sieve limit s (union s free)) (sym first-rest) ∙ done))
+      (last-none limit s few enough free best (predAt listed table k) (rest n listed table (k + 1)) left-false
+      (ap (narrowed limit s (union s free)) (sym first-rest) ∙ done))
 
   -- none is left at place j
-  pub last-stop : (j m : ℕ) → names ≡ sieve limit s m (rest n listed table j) → m ≡ s → (enough : ℕ)
+  pub last-stop : (j m : ℕ) → names ≡ narrowed limit s m (rest n listed table j) → m ≡ s → (enough : ℕ)
       → Best enough limit s free (rest n listed table k) best best
   last-stop j m e z enough =
-      over (e ∙ ap (λ (x : ℕ). sieve limit s x (rest n listed table j)) z ∙ sieve-stop limit s few (rest n listed table j)) enough
+      over (e ∙ ap (λ (x : ℕ). narrowed limit s x (rest n listed table j)) z ∙ narrowed-stop limit s few (rest n listed table j)) enough
 
   -- some are left at the end
   pub last-least : (m v c u r : ℕ) → names ≡ m → (m ≡ s → ⊥) → v ≡ less m s → c ≡ lowest v → u ≡ union s c → r ≡ min u best → (enough : ℕ)
       → Best enough limit s free (rest n listed table k) best r
   last-least m v c u r e f a b d g enough =
-      let same : sieve limit s (union s free) (predAt listed table k ∷ rest n listed table (k + 1)) ≡ m =
-      ap (sieve limit s (union s free)) (sym first-rest) ∙ e in
+      let same : narrowed limit s (union s free) (predAt listed table k ∷ rest n listed table (k + 1)) ≡ m =
+      ap (narrowed limit s (union s free)) (sym first-rest) ∙ e in
       let result : min (union s (lowest (less m s))) best ≡ r = sym (g ∙ ap (λ (x : ℕ). min x best) (d ∙ ap (union s) (b ∙ ap lowest a))) in
       subst (λ (ps : List (List ℕ)). Best enough limit s free ps best r) (sym first-rest)
       (subst (λ (x : ℕ). Best enough limit s free (predAt listed table k ∷ rest n listed table (k + 1)) best x) result
       (subst (λ (x : ℕ). Best enough limit s free (predAt listed table k ∷ rest n listed table (k + 1)) best (min (union s (lowest (less x s))) best)) same
-      (last-found limit s few enough free best (predAt listed table k) (rest n listed table (k + 1)) left (λ q. f (sym (q ∙ same))))))
+      (last-found limit s few enough free best (predAt listed table k) (rest n listed table (k + 1)) left-false (λ q. f (sym (q ∙ same))))))
 
   -- names are left beyond s
   pub last-some : (m : ℕ) → T (subset s (union s free)) → names ≡ m → (m ≡ s → ⊥) → 0 < less m s
   last-some m i e f =
-      go (less m s) (less-add s m (subst (λ (x : ℕ). T (subset s x)) e (sieve-above limit s few (union s free) (rest n listed table k) i)))
+      go (less m s) (less-add s m (subst (λ (x : ℕ). T (subset s x)) e (narrowed-above limit s few (union s free) (rest n listed table k) i)))
     where
       go : (d : ℕ) → s + d ≡ m → 0 < d
       go d q = above-zero (λ z. f (omega arith))
@@ -318,7 +318,7 @@ module _ (n : ℕ) (listed : List ℕ) (table : Rows) (limit s free k best : ℕ
       go d q = above-zero (λ z. f (omega arith))
 
   -- one name is left at place j: s with it makes the predicates from there on true, or nothing does
-  pub last-one : (j m v u : ℕ) → names ≡ sieve limit s m (rest n listed table j) → T (subset s m) → (m ≡ s → ⊥) → v ≡ less m s
+  pub last-one : (j m v u : ℕ) → names ≡ narrowed limit s m (rest n listed table j) → T (subset s m) → (m ≡ s → ⊥) → v ≡ less m s
       → leb (ones v) 1 ≡ true → u ≡ union s v → (r : ℕ) → r ≡ cond (all (holds u) (rest n listed table j)) (min u best) best → (enough : ℕ)
       → Best enough limit s free (rest n listed table k) best r
   last-one j m v u e i f a b d r g enough = go (split (all (holds u) ps))
@@ -338,8 +338,8 @@ module _ (n : ℕ) (listed : List ℕ) (table : Rows) (limit s free k best : ℕ
       whole : m ≡ union s v
       whole = sym (ap (union s) a ∙ added s m ∙ subset-antisym (union s m) m (union-least s m m i (subset-refl m)) (union-right s m))
 
-      here : names ≡ sieve limit s (union s v) ps
-      here = e ∙ ap (λ (x : ℕ). sieve limit s x ps) whole
+      here : names ≡ narrowed limit s (union s v) ps
+      here = e ∙ ap (λ (x : ℕ). narrowed limit s x ps) whole
 
       least : v ≡ lowest v
       least = sym (subset-same (lowest v) v (lowest-in v) (omega (arith, one, lowest-one v some)))

@@ -9,8 +9,8 @@ ghost use lib.ListN.{length, getD, take};
 ghost use Rattle.numbers.specs.Numbers.{put};
 ghost use Rattle.predicates.specs.Lists.{keep};
 ghost use Rattle.names.specs.Sets.{noSet};
-ghost use Rattle.search.specs.Search.{rowsMost, Rows, rowsOf, Parted};
-ghost use Rattle.search.specs.Ends.{outside, Next, Last, IsEnd, Unbroken, FirstRun, Latest, Ready, First};
+ghost use Rattle.search.specs.code.Search.{rowsMost, Rows, rowsOf, Parted};
+ghost use Rattle.search.specs.code.LeftEnds.{outside, Next, Last, IsEnd, Unbroken, FirstStretch, Latest, Ready, FirstEnd};
 
 // An end and the set that explains it; 2^29, the mask of no set, where there is none.
 pub struct Reached {
@@ -18,8 +18,9 @@ pub struct Reached {
     pub set: u32,
 }
 
-// A run of left ends with no right end between them: its first and its last end, and the set that explains the last; 2^29 where no run has one.
-pub struct Run {
+// A stretch of left ends with no right end between them: its first and its last end, and the set that explains the last; 2^29 where no stretch has
+// one.
+pub struct Stretch {
     pub from: u64,
     pub end: u64,
     pub set: u32,
@@ -59,8 +60,8 @@ pub fn last_end(ends: &[u64], from: usize, to: usize, floor: u64, roof: u64) -> 
     last
 }
 
-// The last end of the run that the left end x begins.
-pub fn run_end(lefts: &[u64], rights: &[u64], n: usize, rows: usize, x: u64) -> u64
+// The last end of the stretch that the left end x begins.
+pub fn stretch_end(lefts: &[u64], rights: &[u64], n: usize, rows: usize, x: u64) -> u64
     requires { ⌜ (n ≤ rows) × (rows ≤ length (now lefts)) × (rows ≤ length (now rights)) ⌝ }
     ensures { λ r. ⌜ Unbroken n rows (now (rights .entry)) x r × ((r ≡ x) ⊎ IsEnd n rows (now (lefts .entry)) r) ⌝ }
 {
@@ -115,9 +116,9 @@ pub fn list_entries(order: &[u32], rows: usize, n: usize, listed: &mut [u32]) ->
     m
 }
 
-// The first run of left ends of rows n to `rows`, rising, whose last end some set within the limit explains, with the set. The search lists rows in
-// `listed`; what it leaves there is free.
-fn first_run(
+// The first stretch of left ends of rows n to `rows`, rising, whose last end some set within the limit explains, with the set. The search lists rows
+// in `listed`; what it leaves there is free.
+fn first_stretch(
     lefts: &[u64],
     rights: &[u64],
     counts: &[u32],
@@ -131,28 +132,28 @@ fn first_run(
     rows: usize,
     limit: u32,
     free: u32,
-) -> Run
+) -> Stretch
     requires { ⌜ (let t : Rows = rowsOf (now counts) (now masks) (now several) (now rests) (now singles) in
         Ready n rows (now lefts) (now rights) t (now order) × (rows ≤ length (now listed)) × (free < noSet)) ⌝ }
     ensures { λ r. ⌜ (let t : Rows = rowsOf (now (counts .entry)) (now (masks .entry)) (now (several .entry)) (now (rests .entry))
         (now (singles .entry)) in
-        FirstRun n rows (now (lefts .entry)) (now (rights .entry)) t (now (order .entry)) limit free (r .from) (r .end) (r .set)) ⌝ }
+        FirstStretch n rows (now (lefts .entry)) (now (rights .entry)) t (now (order .entry)) limit free (r .from) (r .end) (r .set)) ⌝ }
     ensures { λ _. ⌜ length (now (listed .exit)) ≡ length (now (listed .entry)) ⌝ }
 {
     let mut floor: u64 = 0;
-    let run = 'ends: loop {
+    let stretch = 'ends: loop {
         let from = next_end(lefts, n, rows, floor);
         if from == super::NO_END {
-            break 'ends Run {
+            break 'ends Stretch {
                 from: 0,
                 end: 0,
                 set: names::NO_SET,
             };
         }
-        let x = run_end(lefts, rights, n, rows, from);
+        let x = stretch_end(lefts, rights, n, rows, from);
         let m = list_outside(order, rows, lefts, rights, x, listed);
         if m == 0 {
-            break 'ends Run {
+            break 'ends Stretch {
                 from,
                 end: x,
                 set: 0,
@@ -161,10 +162,10 @@ fn first_run(
         let part = super::search::terms_at(listed, counts, masks, 0);
         let mut at = part.at;
         let end = part.end;
-        let mut left = free;
+        let mut rest = free;
         while at < end {
             let t = masks[at];
-            if super::search::worth(t, 0, left, limit, names::NO_SET) {
+            if super::search::worth(t, 0, rest, limit, names::NO_SET) {
                 let set = super::search::predicate_step(
                     listed,
                     counts,
@@ -177,19 +178,19 @@ fn first_run(
                     names::NO_SET,
                     1,
                     names::union(0, t),
-                    left,
+                    rest,
                     names::NO_SET,
                 );
                 if set < names::NO_SET {
-                    break 'ends Run { from, end: x, set };
+                    break 'ends Stretch { from, end: x, set };
                 }
-                left = super::search::freed(t, 0, left);
+                rest = super::search::freed(t, 0, rest);
             }
             at += 1;
         }
         floor = x + 1;
     };
-    run
+    stretch
 }
 
 // The greatest left end of the rows from n on whose predicates the set leaves false; 0 where it makes all of them true.
@@ -224,9 +225,9 @@ fn latest(
     last
 }
 
-// From the run whose last end a set explains to the first end in it that some set explains. A set that explains an end explains all ends before it
-// down to the latest of those that it leaves false.
-fn first_in_run(
+// From the stretch whose last end a set explains to the first end in it that some set explains. A set that explains an end explains all ends before
+// it down to the latest of those that it leaves false.
+fn first_in_stretch(
     lefts: &[u64],
     rights: &[u64],
     counts: &[u32],
@@ -246,10 +247,10 @@ fn first_in_run(
 ) -> Reached
     requires { ⌜ (let t : Rows = rowsOf (now counts) (now masks) (now several) (now rests) (now singles) in
         Ready n rows (now lefts) (now rights) t (now order) × (rows ≤ length (now listed)) × (free < noSet)
-        × FirstRun n rows (now lefts) (now rights) t (now order) limit free from found by × (by < noSet)) ⌝ }
+        × FirstStretch n rows (now lefts) (now rights) t (now order) limit free from found by × (by < noSet)) ⌝ }
     ensures { λ r. ⌜ (let t : Rows = rowsOf (now (counts .entry)) (now (masks .entry)) (now (several .entry)) (now (rests .entry))
         (now (singles .entry)) in
-        First n rows (now (lefts .entry)) (now (rights .entry)) t (now (order .entry)) limit free (r .end) (r .set)) ⌝ }
+        FirstEnd n rows (now (lefts .entry)) (now (rights .entry)) t (now (order .entry)) limit free (r .end) (r .set)) ⌝ }
     ensures { λ _. ⌜ length (now (listed .exit)) ≡ length (now (listed .entry)) ⌝ }
 {
     let mut set = by;
@@ -311,10 +312,10 @@ pub fn first_end(
         Ready n rows (now lefts) (now rights) t (now order) × (rows ≤ length (now listed)) × (free < noSet)) ⌝ }
     ensures { λ r. ⌜ (let t : Rows = rowsOf (now (counts .entry)) (now (masks .entry)) (now (several .entry)) (now (rests .entry))
         (now (singles .entry)) in
-        First n rows (now (lefts .entry)) (now (rights .entry)) t (now (order .entry)) limit free (r .end) (r .set)) ⌝ }
+        FirstEnd n rows (now (lefts .entry)) (now (rights .entry)) t (now (order .entry)) limit free (r .end) (r .set)) ⌝ }
     ensures { λ _. ⌜ length (now (listed .exit)) ≡ length (now (listed .entry)) ⌝ }
 {
-    let run = first_run(
+    let stretch = first_stretch(
         lefts,
         rights,
         counts,
@@ -329,13 +330,13 @@ pub fn first_end(
         limit,
         free,
     );
-    if names::NO_SET <= run.set {
+    if names::NO_SET <= stretch.set {
         return Reached {
             end: 0,
             set: names::NO_SET,
         };
     }
-    first_in_run(
+    first_in_stretch(
         lefts,
         rights,
         counts,
@@ -349,8 +350,8 @@ pub fn first_end(
         rows,
         limit,
         free,
-        run.from,
-        run.end,
-        run.set,
+        stretch.from,
+        stretch.end,
+        stretch.set,
     )
 }

@@ -1,11 +1,11 @@
 // The least set of failed names of all (document 01, "Fewest failures"): over the left ends, and over every predicate where there is no end.
 ghost use Prim.Native.Nat.{_≤_};
 ghost use lib.ListN.{length};
-ghost use Rattle.search.specs.Search.{Rows, rowsOf};
-ghost use Rattle.search.specs.Ends.{Ready, Least};
+ghost use Rattle.search.specs.code.Search.{Rows, rowsOf};
+ghost use Rattle.search.specs.code.LeftEnds.{Ready, LeastSet};
 
 // The least set within the limit that explains every claim, or those whose interval lacks the left end of one of rows n to `rows`; 2^29, the
-// mask of no set, where there is none. Of each run of ends the last is tried, which needs the fewest claims; where there is an end, every claim is
+// mask of no set, where there is none. Of each stretch of ends the last is tried, which needs the fewest claims; where there is an end, every claim is
 // more than it needs.
 fn least_set(
     lefts: &[u64],
@@ -26,7 +26,7 @@ fn least_set(
         Ready n rows (now lefts) (now rights) t (now order) × (rows ≤ length (now listed))) ⌝ }
     ensures { λ r. ⌜ (let t : Rows = rowsOf (now (counts .entry)) (now (masks .entry)) (now (several .entry)) (now (rests .entry))
         (now (singles .entry)) in
-        Least n rows (now (lefts .entry)) (now (rights .entry)) t (now (order .entry)) limit free r) ⌝ }
+        LeastSet n rows (now (lefts .entry)) (now (rights .entry)) t (now (order .entry)) limit free r) ⌝ }
 {
     if n == rows {
         return super::search::predicate_step(
@@ -52,7 +52,7 @@ fn least_set(
         if from == super::NO_END {
             return best;
         }
-        let x = super::ends::run_end(lefts, rights, n, rows, from);
+        let x = super::ends::stretch_end(lefts, rights, n, rows, from);
         let m = super::ends::list_outside(order, rows, lefts, rights, x, listed);
         best = super::search::predicate_step(
             listed,
@@ -93,7 +93,7 @@ pub fn least_within(
         Ready n rows (now lefts) (now rights) t (now order) × (rows ≤ length (now listed))) ⌝ }
     ensures { λ r. ⌜ (let t : Rows = rowsOf (now (counts .entry)) (now (masks .entry)) (now (several .entry)) (now (rests .entry))
         (now (singles .entry)) in
-        Least n rows (now (lefts .entry)) (now (rights .entry)) t (now (order .entry)) limit free r) ⌝ }
+        LeastSet n rows (now (lefts .entry)) (now (rights .entry)) t (now (order .entry)) limit free r) ⌝ }
 {
     let known = super::ends::list_entries(order, rows, n, listed);
     let some = super::search::predicate_step(

@@ -5,12 +5,12 @@ pub mod ends;
 pub mod least;
 pub mod search;
 
-// How many rows the arrays have, how many terms a row has at most, and how many masks all rows have (`specs/Search.antt`).
+// How many rows the arrays have, how many terms a row has at most, and how many masks all rows have (`specs/code/Search.antt`).
 pub const ROWS_MOST: usize = 48;
 
 pub const ROW_WIDTH: usize = 16;
 
 pub const MASKS_MOST: usize = ROWS_MOST * ROW_WIDTH;
 
-// No end (`specs/Ends.antt`).
+// No end (`specs/code/LeftEnds.antt`).
 pub const NO_END: u64 = 18_446_744_073_709_551_615;

@@ -10,7 +10,7 @@ ghost use lib.ListN.{length, getD, take, drop};
 ghost use Rattle.names.specs.Sets.{subset, union, shared, less};
 ghost use Rattle.predicates.specs.Lists.{all};
 ghost use Rattle.predicates.specs.Predicates.{holds as Predicates·holds};
-ghost use Rattle.search.specs.Search.{Rows, rowsOf, rowWidth, Best, RowsFit, rowTerms, Parted, predAt, preds, skipped, gather, alone};
+ghost use Rattle.search.specs.code.Search.{Rows, rowsOf, rowWidth, Best, RowsFit, rowTerms, Parted, predAt, preds, skipped, gather, alone};
 
 // The lesser of two masks.
 pub fn lesser(a: u32, b: u32) -> u32
@@ -66,7 +66,7 @@ pub fn row_holds(
 }
 
 // Whether the set makes the predicate at place j true.
-fn explained(
+fn holds_at(
     listed: &[u32],
     counts: &[u32],
     masks: &[u32],
@@ -114,7 +114,7 @@ fn next_unexplained(
 {
     let mut k = i;
     while k < n {
-        if !explained(listed, counts, masks, several, rests, singles, k, set) {
+        if !holds_at(listed, counts, masks, several, rests, singles, k, set) {
             return k;
         }
         k += 1;
@@ -124,7 +124,7 @@ fn next_unexplained(
 
 // Of the names those that are in `base` or alone, beside the set, make the terms' sum true; all of them where the set makes it true. A term that the
 // set does not hold adds one name where its lowest is all that it adds.
-fn sift_terms(p: &[u32], set: u32, base: u32, names: u32) -> u32
+fn narrow_terms(p: &[u32], set: u32, base: u32, names: u32) -> u32
     ensures { λ r. ⌜ r ≡ cond (Predicates·holds set (now (p .entry))) names (shared names (gather base (ones set + 1) set (now (p .entry)))) ⌝ }
 {
     let mut does = base;
@@ -144,7 +144,7 @@ fn sift_terms(p: &[u32], set: u32, base: u32, names: u32) -> u32
 }
 
 // Of the names those that alone, beside the set, make the predicate at place j true; all of them where the set makes it true.
-fn sift(
+fn narrow(
     listed: &[u32],
     counts: &[u32],
     masks: &[u32],
@@ -169,7 +169,7 @@ fn sift(
     }
     let at = row * super::ROW_WIDTH;
     let end = at + several[row] as usize;
-    sift_terms(&rests[at..end], set, names::union(set, one), names)
+    narrow_terms(&rests[at..end], set, names::union(set, one), names)
 }
 
 // The lesser of `best` and a set that alone is left to try, if that makes the predicates from j on true.
@@ -198,7 +198,7 @@ fn only_set(
 }
 
 // With one name left to add: the least set that makes the predicates from k on true, or `best`. Once a single name is left it is tried as it is: to
-// test a set costs less than to sift.
+// test a set costs less than to narrow.
 fn last_name(
     listed: &[u32],
     counts: &[u32],
@@ -225,8 +225,8 @@ fn last_name(
         if names == set {
             return best;
         }
-        let left = names::less(names, set);
-        if names::at_most_one(left) {
+        let rest = names::less(names, set);
+        if names::at_most_one(rest) {
             return only_set(
                 listed,
                 counts,
@@ -236,11 +236,11 @@ fn last_name(
                 singles,
                 n,
                 j,
-                names::union(set, left),
+                names::union(set, rest),
                 best,
             );
         }
-        names = sift(
+        names = narrow(
             listed,
             counts,
             masks,
@@ -385,7 +385,7 @@ pub fn term_step(
         return best;
     }
     let t = masks[at];
-    let mut left = free;
+    let mut rest = free;
     let mut found = best;
     if worth(t, set, free, limit, best) {
         let wider = names::union(set, t);
@@ -407,7 +407,7 @@ pub fn term_step(
         if found < enough {
             return found;
         }
-        left = freed(t, set, free);
+        rest = freed(t, set, free);
     }
     term_step(
         listed,
@@ -423,7 +423,7 @@ pub fn term_step(
         at + 1,
         end,
         set,
-        left,
+        rest,
         found,
     )
 }

@@ -7,7 +7,7 @@ use lib.ListN.{length}
 use Rattle.names.specs.Sets.{others}
 use Rattle.state.specs.Layout.{headOf, stateOf}
 use Rattle.state.proofs.StateLaws.{form-ok, state-out}
-use Rattle.search.specs.Search.{rowsMost, rowsOf}
+use Rattle.search.specs.code.Search.{rowsMost, rowsOf}
 use Rattle.asking.proofs.ReadyLaws.{Prepared, counts-fit, prepared-in}
 use Rattle.asking.proofs.FewestLaws.{fewest-none}
 use Rattle.asking.proofs.FailureSteps.{Floor, floor-one, floor-found, floor-next, floor-over}

@@ -5,7 +5,7 @@ use mathlib.Core.Path.{_≡_}
 use native.Mathlib.Nat.{le-refl}
 use native.Mathlib.Omega.{arith}
 use mathlib.Core.Logic.{⊎-elim}
-use Rattle.search.specs.Ends.{Last}
+use Rattle.search.specs.code.LeftEnds.{Last}
 use Rattle.search.proofs.EndSteps.{last-none, last-take, last-pass}
 use borrow.Author.Needs.{needs}
 use Rattle.search.proofs.ends.last_end.Statement.{statement}

@@ -8,8 +8,8 @@ use native.Mathlib.Nat.{le-refl}
 use native.Mathlib.Omega.{arith}
 use lib.Dec.{T}
 use Rattle.predicates.proofs.ListLaws.{true-T, split}
-use Rattle.search.specs.Search.{rowsOf}
-use Rattle.search.specs.Ends.{Latest}
+use Rattle.search.specs.code.Search.{rowsOf}
+use Rattle.search.specs.code.LeftEnds.{Latest}
 use Rattle.search.proofs.EndSteps.{latest-none, latest-take, latest-pass}
 use borrow.Author.Needs.{needs}
 use Rattle.search.proofs.ends.latest.Statement.{statement}

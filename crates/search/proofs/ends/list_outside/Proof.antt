@@ -5,7 +5,7 @@ use mathlib.Core.Path.{_≡_, sym, _∙_}
 use lib.ListN.{length, getD}
 use native.Mathlib.Omega.{arith}
 use mathlib.Core.Logic.{⊎-elim}
-use Rattle.search.specs.Ends.{outside}
+use Rattle.search.specs.code.LeftEnds.{outside}
 use Rattle.search.proofs.EndSteps.{outside-test, Listing, listing-none, listing-take, listing-pass}
 use borrow.Author.Needs.{needs}
 use Rattle.search.proofs.ends.list_outside.Statement.{statement}

@@ -5,7 +5,7 @@ use mathlib.Core.Path.{_≡_}
 use native.Mathlib.Nat.{le-refl}
 use native.Mathlib.Omega.{arith}
 use mathlib.Core.Logic.{⊎-elim}
-use Rattle.search.specs.Ends.{Next}
+use Rattle.search.specs.code.LeftEnds.{Next}
 use Rattle.search.proofs.EndSteps.{next-none, next-take, next-pass}
 use borrow.Author.Needs.{needs}
 use Rattle.search.proofs.ends.next_end.Statement.{statement}

@@ -1,4 +1,4 @@
--- `search::least::least_set` meets its contract: a search for the last end of each run over the rows that lack it; over all rows where there is no
+-- `search::least::least_set` meets its contract: a search for the last end of each stretch over the rows that lack it; over all rows where there is no
 -- end. Invariant: the best so far is the least of the sets that a left end below the floor needs; the array of the listed rows keeps its length.
 -- Measure: the instants from the floor on.
 use Prim.Native.Nat.{_-_}
@@ -6,10 +6,10 @@ use mathlib.Core.Path.{_≡_, refl, _∙_}
 use native.Mathlib.Omega.{arith}
 use lib.ListN.{length}
 use Rattle.names.proofs.SetLaws.{ones-empty}
-use Rattle.search.specs.Search.{rowsOf}
-use Rattle.search.specs.Ends.{noEnd}
+use Rattle.search.specs.code.Search.{rowsOf}
+use Rattle.search.specs.code.LeftEnds.{noEnd}
 use Rattle.search.proofs.EndSteps.{listed-rows, listed-needs}
-use Rattle.search.proofs.RunLaws.{runs-room}
+use Rattle.search.proofs.StretchLaws.{stretches-room}
 use Rattle.search.proofs.LeastLaws.{LeastOf, Passed, least-begin, least-next, least-in, least-alone, ready-rows}
 use Rattle.search.proofs.least.least_set.Statement.{statement}
 use Rattle.search.proofs.least.least_set.Tie as tie
@@ -46,8 +46,8 @@ returns-2 c =
     let a = head .before .before .before .before .before .before .before .before .before .before .before in
     least-in _ _ _ _ _ _ _ _ (a .pre .0) _ _ _ (head .loop .inv .1) (c .before .next-end .ensures) (c .if2 .taken) (head .before .if1 .left)
 
-run-end-requires : tie.Need-run-end-requires Inv-loop μ-loop
-run-end-requires c κs =
+stretch-end-requires : tie.Need-stretch-end-requires Inv-loop μ-loop
+stretch-end-requires c κs =
     let ready = c .before .before .before .before .before .before .before .before .before .before .before .before .before .pre .0 in (ready .entries-le, ready .lefts-long, ready .rights-long)
 
 list-outside-requires : tie.Need-list-outside-requires Inv-loop μ-loop
@@ -71,17 +71,17 @@ add-floor c =
     let at-list = c .before .before .before .before in
     let head = at-list .before .before .before .before .before in
     let a = head .before .before .before .before .before .before .before .before .before .before .before in
-    let run = at-list .before .before .run-end .ensures in
+    let stretch = at-list .before .before .stretch-end .ensures in
     let next = at-list .before .before .before .before .next-end .ensures in
-    record { fits = omega (arith, runs-room _ _ _ _ _ _ (a .pre .0) _ _ next (at-list .before .before .before .if2 .left) _ (run .0) (run .1) .0) }
+    record { fits = omega (arith, stretches-room _ _ _ _ _ _ (a .pre .0) _ _ next (at-list .before .before .before .if2 .left) _ (stretch .0) (stretch .1) .0) }
 
 loop-less : tie.Need-loop-less Inv-loop μ-loop
 loop-less c =
     let at-list = c .before .before .before .before in
     let a = at-list .before .before .before .before .before .before .before .before .before .before .before .before .before .before .before .before in
-    let run = at-list .before .before .run-end .ensures in
+    let stretch = at-list .before .before .stretch-end .ensures in
     let next = at-list .before .before .before .before .next-end .ensures in
-    omega (arith, runs-room _ _ _ _ _ _ (a .pre .0) _ _ next (at-list .before .before .before .if2 .left) _ (run .0) (run .1))
+    omega (arith, stretches-room _ _ _ _ _ _ (a .pre .0) _ _ next (at-list .before .before .before .if2 .left) _ (stretch .0) (stretch .1))
 
 loop-again : tie.Need-loop-again Inv-loop μ-loop
 loop-again c =
@@ -90,10 +90,10 @@ loop-again c =
     let a = head .before .before .before .before .before .before .before .before .before .before .before in
     let out = at-list .list-outside .ensures in
     let same = listed-needs _ _ _ _ _ _ _ _ (a .pre .0) (omega (arith, a .pre .1, head .loop .inv .0)) _ _ (out .0) (out .1) (out .2) in
-    let run = at-list .before .before .run-end .ensures in
+    let stretch = at-list .before .before .stretch-end .ensures in
     let next = at-list .before .before .before .before .next-end .ensures in (
       at-list .list-outside .kept .1 .1 .1 .1 .1 .0 ∙ head .loop .inv .0,
-      least-next _ _ _ _ _ _ _ _ (a .pre .0) _ _ _ (head .loop .inv .1) next (at-list .before .before .before .if2 .left) _ (run .0) (run .1) _
+      least-next _ _ _ _ _ _ _ _ (a .pre .0) _ _ _ (head .loop .inv .1) next (at-list .before .before .before .if2 .left) _ (stretch .0) (stretch .1) _
           (rw same at (c .predicate-step2 .ensures)),
     )
 
@@ -109,7 +109,7 @@ least-set-spec =
     next-end-requires
     same-length
     returns-2
-    run-end-requires
+    stretch-end-requires
     list-outside-requires
     predicate-step-requires-2
     add-floor

@@ -7,7 +7,7 @@ use native.Mathlib.Omega.{arith}
 use borrow.Author.Needs.{needs}
 use borrow.Author.Tests.{not-true, not-false}
 use lib.ListN.{drop}
-use Rattle.search.specs.Search.{rowsOf, preds, skipped}
+use Rattle.search.specs.code.Search.{rowsOf, preds, skipped}
 use Rattle.search.proofs.SearchSteps.{skip-here, skip-next, skip-done}
 use Rattle.search.proofs.search.next_unexplained.Statement.{statement}
 use Rattle.search.proofs.search.next_unexplained.Tie as tie
@@ -22,8 +22,8 @@ abbrev μ-loop : tie.MeasureT-loop
 loop-holds : tie.Need-loop-holds Inv-loop μ-loop
 loop-holds c = (le-refl _, search needs, refl)
 
-explained-requires : tie.Need-explained-requires Inv-loop μ-loop
-explained-requires c κs =
+holds-at-requires : tie.Need-holds-at-requires Inv-loop μ-loop
+holds-at-requires c κs =
     let head = c .before in
     let a = head .before .before .before .before .before .before .before in
     let rows = a .pre .0 in
@@ -37,7 +37,7 @@ returns c =
     let k = head .loop .k in (
       head .loop .inv .0,
       head .loop .inv .1,
-      skip-here (a .n) (a .listed .now) _ (a .set) k (c .before .before .loop-test .taken) (sym (c .before .explained .ensures) ∙ not-true _ (c .if1 .taken))
+      skip-here (a .n) (a .listed .now) _ (a .set) k (c .before .before .loop-test .taken) (sym (c .before .holds-at .ensures) ∙ not-true _ (c .if1 .taken))
           ∙ head .loop .inv .2,
     )
 
@@ -48,7 +48,7 @@ loop-again c =
     let k = head .loop .k in (
       omega arith,
       omega arith,
-      skip-next (a .n) (a .listed .now) _ (a .set) k (c .before .before .loop-test .taken) (sym (c .before .explained .ensures) ∙ not-false _ (c .if1 .left))
+      skip-next (a .n) (a .listed .now) _ (a .set) k (c .before .before .loop-test .taken) (sym (c .before .holds-at .ensures) ∙ not-false _ (c .if1 .left))
           ∙ head .loop .inv .2,
     )
 
@@ -68,7 +68,7 @@ next-unexplained-spec =
     Inv-loop
     μ-loop
     loop-holds
-    explained-requires
+    holds-at-requires
     returns
     (λ c. search needs)
     (λ c. search needs)

@@ -1,3 +1,4 @@
+-- Definitions that serve the code alone: no statement of document 01 cites this file.
 -- The search for a set of failed names that makes predicates true (document 01, "Fewest failures", last sentences): "from an unexplained predicate to
 -- its terms, from a term to the next unexplained predicate". What a search has to bring is said by sets (`Best`), not by its order.
 -- Assumes nothing: these are definitions.
@@ -47,19 +48,19 @@ abbrev pub alone : ℕ → ℕ → List ℕ → ℕ
 alone limit s p = gather s limit s p
 
 -- of the names in m those that alone do for every predicate that s leaves false
-unfoldable pub sieve : ℕ → ℕ → ℕ → List (List ℕ) → ℕ
-sieve limit s m [] = m
-sieve limit s m (p ∷ ps) = sieve limit s (cond (holds s p) m (shared m (alone limit s p))) ps
+unfoldable pub narrowed : ℕ → ℕ → ℕ → List (List ℕ) → ℕ
+narrowed limit s m [] = m
+narrowed limit s m (p ∷ ps) = narrowed limit s (cond (holds s p) m (shared m (alone limit s p))) ps
 
 -- ---- terms of one name, which most terms are: `singles` has them as one mask
 
 -- the term is one name
-abbrev pub single : ℕ → Bool
-single t = eqb (ones t) 1
+abbrev pub isSingle : ℕ → Bool
+isSingle t = eqb (ones t) 1
 
 -- the other terms
 unfoldable pub several : List ℕ → List ℕ
-several p = keep (λ t. not (single t)) p
+several p = keep (λ t. not (isSingle t)) p
 
 -- ---- predicates in flat arrays
 
@@ -105,7 +106,7 @@ preds n listed t = tab n (predAt listed t)
 pub record Parted (t : Rows) (k : ℕ) : Type 0 where
   pub counted : k < length (t .several)
   pub masked : k < length (t .singles)
-  pub narrow : getD (t .several) k 0 ≤ rowWidth
+  pub few : getD (t .several) k 0 ≤ rowWidth
   pub room : k * rowWidth + getD (t .several) k 0 ≤ length (t .rests)
   pub one : getD (t .singles) k 0 ≡ singles (rowTerms t k)
   pub more : restTerms t k ≡ several (rowTerms t k)
@@ -114,6 +115,6 @@ pub record Parted (t : Rows) (k : ℕ) : Type 0 where
 pub record RowsFit (n : ℕ) (listed : List ℕ) (t : Rows) : Type 0 where
   pub listed-long : n ≤ length listed
   pub counted : (j : ℕ) → j < n → getD listed j 0 < length (t .counts)
-  pub narrow : (j : ℕ) → j < n → getD (t .counts) (getD listed j 0) 0 ≤ rowWidth
+  pub few : (j : ℕ) → j < n → getD (t .counts) (getD listed j 0) 0 ≤ rowWidth
   pub long : (j : ℕ) → j < n → getD listed j 0 * rowWidth + getD (t .counts) (getD listed j 0) 0 ≤ length (t .masks)
   pub parted : (j : ℕ) → j < n → Parted t (getD listed j 0)

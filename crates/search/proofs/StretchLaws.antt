@@ -1,6 +1,6 @@
--- Runs of left ends, with no right end between them.
--- The idea: the last end of a run needs the fewest predicates; so where no set explains it, none explains any end of the run. And a set that explains
--- an end explains those before it, down to the latest left end of the rows that it leaves false. No contract cites this file. Assumes nothing.
+-- Stretches of left ends, with no right end between them.
+-- The idea: the last end of a stretch needs the fewest predicates; so where no set explains it, none explains any end of the stretch. And a set that
+-- explains an end explains those before it, down to the latest left end of the rows that it leaves false. No contract cites this file. Assumes nothing.
 use Prim.Native.Nat.{ℕ, _+_, _-_, _≤_, _<_}
 use mathlib.Core.Path.{_≡_, sym, ap, subst, _∙_}
 use mathlib.Core.Logic.{_⊎_, inl, inr, ⊎-elim}
@@ -19,8 +19,8 @@ use Rattle.names.proofs.PartLaws.{union-add}
 use Rattle.predicates.specs.Lists.{keep, In}
 use Rattle.predicates.specs.Predicates.{holds}
 use Rattle.predicates.proofs.ListLaws.{true-T, or-l, or-r, or-cases, all-in, all-out, keep-in, keep-out, map-in, map-out}
-use Rattle.search.specs.Search.{Rows, Fits, Best, rowTerms, predAt, preds}
-use Rattle.search.specs.Ends.{outside, noEnd, Next, Last, IsEnd, Unbroken, Latest, Ready, needs, First, FirstRun, Unexplained}
+use Rattle.search.specs.code.Search.{Rows, Fits, Best, rowTerms, predAt, preds}
+use Rattle.search.specs.code.LeftEnds.{outside, noEnd, Next, Last, IsEnd, Unbroken, Latest, Ready, needs, FirstEnd, FirstStretch, Unexplained}
 use Rattle.search.proofs.EndSteps.{in-take, at-in, outside-test, take-in}
 
 -- ---- rows that lack an instant
@@ -41,11 +41,11 @@ module _ (lefts rights : List ℕ) (x k : ℕ) where
       ⊎-elim (λ a. inl (ltb→lt x (getD lefts k 0) a)) (λ a. inr (ltb→lt (getD rights k 0) x a))
       (or-cases (ltb x (getD lefts k 0)) (ltb (getD rights k 0) x) (rw (sym (outside-test lefts rights x k)) at t))
 
--- ---- where a run ends
+-- ---- where a stretch ends
 
 module _ (n rows : ℕ) (lefts rights : List ℕ) (x roof r : ℕ) where
-  pub run-in : Next rights n rows x roof → Last lefts n rows x roof r → Unbroken n rows rights x r
-  run-in next last =
+  pub stretch-in : Next rights n rows x roof → Last lefts n rows x roof r → Unbroken n rows rights x r
+  stretch-in next last =
       record {
         rising = last .over;
         clear = λ k a b c. ⊎-elim (λ e. omega arith) (λ w. go k a b c (w .4) (decLt (getD rights k 0) x)) (last .one);
@@ -55,8 +55,8 @@ module _ (n rows : ℕ) (lefts rights : List ℕ) (x roof r : ℕ) where
       go k a b c high (yes l) = l
       go k a b c high (no l) = absurd (omega (arith, next .least k a b (omega arith)))
 
-pub run-at : (n rows : ℕ) (lefts : List ℕ) (x roof r : ℕ) → Last lefts n rows x roof r → (r ≡ x) ⊎ IsEnd n rows lefts r
-run-at n rows lefts x roof r last = ⊎-elim (λ e. inl e) (λ w. inr (w .0, w .1, w .2, w .3)) (last .one)
+pub stretch-at : (n rows : ℕ) (lefts : List ℕ) (x roof r : ℕ) → Last lefts n rows x roof r → (r ≡ x) ⊎ IsEnd n rows lefts r
+stretch-at n rows lefts x roof r last = ⊎-elim (λ e. inl e) (λ w. inr (w .0, w .1, w .2, w .3)) (last .one)
 
 module _ (n rows : ℕ) (lefts rights : List ℕ) (table : Rows) (order : List ℕ) (ready : Ready n rows lefts rights table order) where
   -- an empty interval lacks every instant
@@ -70,7 +70,7 @@ module _ (n rows : ℕ) (lefts rights : List ℕ) (table : Rows) (order : List �
   pub end-below : (x : ℕ) → IsEnd n rows lefts x → x < noEnd
   end-below x e = omega (arith, e .3, ready .below (e .0) (e .2))
 
-  -- ---- the next run: from the next end on, to x
+  -- ---- the next stretch: from the next end on, to x
 
   module _ (floor from : ℕ) (next : Next lefts n rows floor from) where
     -- an end below the next one is below the floor
@@ -81,15 +81,15 @@ module _ (n rows : ℕ) (lefts rights : List ℕ) (table : Rows) (order : List �
         go (yes l) = l
         go (no l) = absurd (omega (arith, next .least k a b (omega arith)))
 
-    module _ (some : from ≡ noEnd → ⊥) (x : ℕ) (run : Unbroken n rows rights from x) (at : (x ≡ from) ⊎ IsEnd n rows lefts x) where
+    module _ (some : from ≡ noEnd → ⊥) (x : ℕ) (stretch : Unbroken n rows rights from x) (at : (x ≡ from) ⊎ IsEnd n rows lefts x) where
       from-end : IsEnd n rows lefts from
       from-end = ⊎-elim (λ e. absurd (some e)) (λ w. (w .0, w .1, w .2, w .3)) (next .one)
 
-      pub run-is-end : IsEnd n rows lefts x
-      run-is-end = ⊎-elim (λ e. subst (λ (y : ℕ). IsEnd n rows lefts y) (sym e) from-end) (λ w. w) at
+      pub stretch-is-end : IsEnd n rows lefts x
+      stretch-is-end = ⊎-elim (λ e. subst (λ (y : ℕ). IsEnd n rows lefts y) (sym e) from-end) (λ w. w) at
 
-      pub runs-room : (x < noEnd) × (floor ≤ x)
-      runs-room = (end-below x run-is-end, ⊎-elim (λ e. absurd (some e)) (λ w. omega (arith, w .4, run .rising)) (next .one))
+      pub stretches-room : (x < noEnd) × (floor ≤ x)
+      stretches-room = (end-below x stretch-is-end, ⊎-elim (λ e. absurd (some e)) (λ w. omega (arith, w .4, stretch .rising)) (next .one))
 
   module _ (limit free : ℕ) where
     abbrev pub Explains : ℕ → ℕ → Type 0
@@ -143,28 +143,28 @@ module _ (n rows : ℕ) (lefts rights : List ℕ) (table : Rows) (order : List �
             let at : getD (tab rows terms) (j .0) [] ≡ p = getD-tab rows (j .0) terms [] (j .1) ∙ ap (rowTerms table) (sym (j .2)) ∙ sym (w .2) in
             rw at at (all-out (holds u) (tab rows terms) (f .holding) _ (at-in (tab rows terms) [] (j .0) (rw length-tab (j .1))))
 
-    -- ---- the last end of a run
+    -- ---- the last end of a stretch
 
-    module _ (x y : ℕ) (run : Unbroken n rows rights x y) where
-      pub run-needs : (z u : ℕ) → x ≤ z → z ≤ y → Explains z u → Explains y u
-      run-needs z u a b = fits-fewer z y u (λ k h o. inl (go k h (out-cases lefts rights y k o) (decLt k n)))
+    module _ (x y : ℕ) (stretch : Unbroken n rows rights x y) where
+      pub stretch-needs : (z u : ℕ) → x ≤ z → z ≤ y → Explains z u → Explains y u
+      stretch-needs z u a b = fits-fewer z y u (λ k h o. inl (go k h (out-cases lefts rights y k o) (decLt k n)))
         where
           go : (k : ℕ) → k < rows → (y < getD lefts k 0) ⊎ (getD rights k 0 < y) → Dec (k < n) → T (outside lefts rights z k)
           go k h w (yes c) = out-empty z k c
           go k h (inl w) (no c) = out-left lefts rights z k (omega arith)
-          go k h (inr w) (no c) = out-right lefts rights z k (omega (arith, run .clear k (omega arith) h w))
+          go k h (inr w) (no c) = out-right lefts rights z k (omega (arith, stretch .clear k (omega arith) h w))
 
-      -- with no set for the last end, there is none for any of the run
-      pub run-fails : Unexplained n rows lefts rights table order limit free x → ((u : ℕ) → Explains y u → ⊥)
+      -- with no set for the last end, there is none for any of the stretch
+      pub stretch-fails : Unexplained n rows lefts rights table order limit free x → ((u : ℕ) → Explains y u → ⊥)
           → Unexplained n rows lefts rights table order limit free (y + 1)
-      run-fails before fails k a b c u f = go (decLt (getD lefts k 0) x)
+      stretch-fails before fails k a b c u f = go (decLt (getD lefts k 0) x)
         where
           go : Dec (getD lefts k 0 < x) → ⊥
           go (yes l) = before k a b l u f
-          go (no l) = fails u (run-needs (getD lefts k 0) u (omega arith) (omega arith) f)
+          go (no l) = fails u (stretch-needs (getD lefts k 0) u (omega arith) (omega arith) f)
 
-      pub run-part : (z : ℕ) → x ≤ z → z ≤ y → Unbroken n rows rights x z
-      run-part z a b = record { rising = a; clear = λ k c d e. run .clear k c d (omega arith) }
+      pub stretch-part : (z : ℕ) → x ≤ z → z ≤ y → Unbroken n rows rights x z
+      stretch-part z a b = record { rising = a; clear = λ k c d e. stretch .clear k c d (omega arith) }
 
     module _ (small : free < noSet) where
       -- a search that found no set
@@ -174,40 +174,40 @@ module _ (n rows : ℕ) (lefts rights : List ℕ) (table : Rows) (order : List �
           let low : u < noSet = omega (arith, subset-le u (union 0 free) (g .within), union-add 0 free) in
           ⊎-elim (λ e. absurd (omega arith)) (λ e. absurd (omega arith)) (b .least u g)
 
-      -- ---- one run after the other
+      -- ---- one stretch after the other
 
       module _ (floor from : ℕ) (before : Unexplained n rows lefts rights table order limit free floor) (next : Next lefts n rows floor from) where
         passed : Unexplained n rows lefts rights table order limit free from
         passed k a b c = before k a b (under-floor floor from next k a b c)
 
-        pub runs-none : from ≡ noEnd → FirstRun n rows lefts rights table order limit free 0 0 noSet
-        runs-none e =
+        pub stretches-none : from ≡ noEnd → FirstStretch n rows lefts rights table order limit free 0 0 noSet
+        stretches-none e =
             record {
-              run = λ h. absurd (omega arith);
+              stretch = λ h. absurd (omega arith);
               begins = λ h. absurd (omega arith);
-              explained = λ h. absurd (omega arith);
-              before = λ h. absurd (omega arith);
+              reached = λ h. absurd (omega arith);
+              earlier = λ h. absurd (omega arith);
               never = λ _. rw e at passed;
             }
 
-        module _ (some : from ≡ noEnd → ⊥) (x : ℕ) (run : Unbroken n rows rights from x) (at : (x ≡ from) ⊎ IsEnd n rows lefts x) where
-          pub runs-found : (r : ℕ) → Best noSet limit 0 free (needs rows lefts rights table order x) noSet r → r < noSet
-              → FirstRun n rows lefts rights table order limit free from x r
-          runs-found r b l =
+        module _ (some : from ≡ noEnd → ⊥) (x : ℕ) (stretch : Unbroken n rows rights from x) (at : (x ≡ from) ⊎ IsEnd n rows lefts x) where
+          pub stretches-found : (r : ℕ) → Best noSet limit 0 free (needs rows lefts rights table order x) noSet r → r < noSet
+              → FirstStretch n rows lefts rights table order limit free from x r
+          stretches-found r b l =
               record {
-                run = λ _. run;
-                begins = λ _. from-end floor from next some x run at;
-                explained = λ _. (run-is-end floor from next some x run at, ⊎-elim (λ e. absurd (omega arith)) (λ f. f) (b .from));
-                before = λ _. passed;
+                stretch = λ _. stretch;
+                begins = λ _. from-end floor from next some x stretch at;
+                reached = λ _. (stretch-is-end floor from next some x stretch at, ⊎-elim (λ e. absurd (omega arith)) (λ f. f) (b .from));
+                earlier = λ _. passed;
                 never = λ h. absurd (omega arith);
               }
 
-          pub runs-next : Best noSet limit 0 free (needs rows lefts rights table order x) noSet noSet
+          pub stretches-next : Best noSet limit 0 free (needs rows lefts rights table order x) noSet noSet
               → Unexplained n rows lefts rights table order limit free (x + 1)
-          runs-next b = run-fails from x run passed (no-set x noSet b (omega arith))
+          stretches-next b = stretch-fails from x stretch passed (no-set x noSet b (omega arith))
 
-    pub no-first : (from end set : ℕ) → FirstRun n rows lefts rights table order limit free from end set → noSet ≤ set
-        → First n rows lefts rights table order limit free 0 noSet
+    pub no-first : (from end set : ℕ) → FirstStretch n rows lefts rights table order limit free from end set → noSet ≤ set
+        → FirstEnd n rows lefts rights table order limit free 0 noSet
     no-first from end set first h =
         record { found = λ l. absurd (omega arith); others = λ k a b c. first .never h k a b (ready .below k b) }
 
@@ -249,10 +249,10 @@ module _ (n rows : ℕ) (lefts rights : List ℕ) (table : Rows) (order : List �
           go k h (inl w) (no c) = ⊎-elim (λ m. absurd (omega (arith, far))) (λ t. inr t) (latest .most k (omega arith) h)
           go k h (inr w) (no c) = inl (out-right lefts rights x k (omega (arith, back-le)))
 
-    module _ (small : free < noSet) (from found by : ℕ) (first : FirstRun n rows lefts rights table order limit free from found by)
+    module _ (small : free < noSet) (from found by : ℕ) (first : FirstStretch n rows lefts rights table order limit free from found by)
         (some : by < noSet) (end set : ℕ) (is-end : IsEnd n rows lefts end) (f : Explains end set) where
       -- no end before this one is explained
-      back-first : Unexplained n rows lefts rights table order limit free end → First n rows lefts rights table order limit free end set
+      back-first : Unexplained n rows lefts rights table order limit free end → FirstEnd n rows lefts rights table order limit free end set
       back-first before =
           let low : set < noSet = omega (arith, subset-le set (union 0 free) (f .within), union-add 0 free) in
           record {
@@ -260,9 +260,9 @@ module _ (n rows : ℕ) (lefts rights : List ℕ) (table : Rows) (order : List �
             others = λ k a b c. before k a b (⊎-elim (λ z. absurd (omega arith)) (λ l. l) c);
           }
 
-      -- the run has none before it
-      pub back-done : end ≤ from → First n rows lefts rights table order limit free end set
-      back-done h = back-first (λ k a b c. first .before some k a b (omega arith))
+      -- the stretch has none before it
+      pub back-done : end ≤ from → FirstEnd n rows lefts rights table order limit free end set
+      back-done h = back-first (λ k a b c. first .earlier some k a b (omega arith))
 
       module _ (over : from < end) (high : end ≤ found) (x : ℕ) (last : Last lefts n rows from (end - 1) x) where
         pub last-is-end : IsEnd n rows lefts x
@@ -271,9 +271,9 @@ module _ (n rows : ℕ) (lefts rights : List ℕ) (table : Rows) (order : List �
         pub last-lt : x < end
         last-lt = ⊎-elim (λ e. omega arith) (λ w. omega (arith, w .4)) (last .one)
 
-        -- nor is the one before it in the run
+        -- nor is the one before it in the stretch
         pub back-stop : (r : ℕ) → Best noSet limit 0 free (needs rows lefts rights table order x) noSet r → noSet ≤ r
-            → First n rows lefts rights table order limit free end set
+            → FirstEnd n rows lefts rights table order limit free end set
         back-stop r b h =
-            back-first (λ k a c d. run-fails from x (run-part from found (first .run some) x (last .over) (omega (arith, last-lt)))
-            (first .before some) (no-set small x r b h) k a c (omega (arith, last .most k a c (omega arith))))
+            back-first (λ k a c d. stretch-fails from x (stretch-part from found (first .stretch some) x (last .over) (omega (arith, last-lt)))
+            (first .earlier some) (no-set small x r b h) k a c (omega (arith, last .most k a c (omega arith))))

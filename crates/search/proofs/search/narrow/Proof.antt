@@ -1,12 +1,12 @@
--- `search::search::sift` meets its contract: the mask has a name of the set, or its names do, and the terms of several names tell the others
+-- `search::search::narrow` meets its contract: the mask has a name of the set, or its names do, and the terms of several names tell the others
 -- (`PartedLaws`).
 use mathlib.Core.Path.{refl}
 use borrow.Author.Needs.{needs}
 use lib.ListN.{getD}
-use Rattle.search.specs.Search.{predAt}
-use Rattle.search.proofs.PartedLaws.{row-hit, row-sift}
-use Rattle.search.proofs.search.sift.Statement.{statement}
-use Rattle.search.proofs.search.sift.Tie as tie
+use Rattle.search.specs.code.Search.{predAt}
+use Rattle.search.proofs.PartedLaws.{row-hit, row-narrow}
+use Rattle.search.proofs.search.narrow.Statement.{statement}
+use Rattle.search.proofs.search.narrow.Tie as tie
 
 returns : tie.Need-returns
 unfolding predAt
@@ -22,11 +22,11 @@ returns-2 c =
     let a = at-shared .before .before .before .before .before .before .before .before .before in
     let miss = c .before .before .before .before .if1 .left in
     let row = getD (a .args .listed .now) (a .args .j) 0 in
-    row-sift _ row (a .args .set) (a .pre .1) _ (at-shared .shared .ensures) miss _ refl _ _
-    (rw (c .before .union .ensures) at (c .sift-terms .ensures))
+    row-narrow _ row (a .args .set) (a .pre .1) _ (at-shared .shared .ensures) miss _ refl _ _
+    (rw (c .before .union .ensures) at (c .narrow-terms .ensures))
 
-pub sift-spec : {M : Type 1} → statement M
-sift-spec =
+pub narrow-spec : {M : Type 1} → statement M
+narrow-spec =
     tie.close
     (tie.spec
     (λ c. search needs)

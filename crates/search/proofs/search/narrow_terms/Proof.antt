@@ -1,4 +1,4 @@
--- `search::search::sift_terms` meets its contract, from the last term to the first.
+-- `search::search::narrow_terms` meets its contract, from the last term to the first.
 -- Invariant: the set leaves the terms from i on false, and the names that do are theirs. Measure: i.
 use Prim.Native.Nat.{_+_, _-_, _≤_, _<_}
 use mathlib.Core.Path.{_≡_, sym, _∙_}
@@ -8,11 +8,11 @@ use borrow.Author.Needs.{needs}
 use lib.Count.{ones}
 use lib.ListN.{length, drop}
 use Rattle.predicates.specs.Predicates.{holds}
-use Rattle.search.specs.Search.{gather}
+use Rattle.search.specs.code.Search.{gather}
 use Rattle.search.proofs.EndSteps.{at-in}
 use Rattle.search.proofs.SearchSteps.{terms-hold, terms-false, terms-with, terms-past, terms-done, terms-start}
-use Rattle.search.proofs.search.sift_terms.Statement.{statement}
-use Rattle.search.proofs.search.sift_terms.Tie as tie
+use Rattle.search.proofs.search.narrow_terms.Statement.{statement}
+use Rattle.search.proofs.search.narrow_terms.Tie as tie
 
 abbrev Inv-loop : tie.InvT-loop
 Inv-loop p set base names does₀ i₀ does i =
@@ -66,8 +66,8 @@ returns-2 c =
     let done : head .i ≡ 0 = omega arith in
     terms-done _ _ _ _ _ _ (rw done at (head .inv .1)) (rw done at (head .inv .2)) (c .shared .ensures)
 
-pub sift-terms-spec : {M : Type 1} → statement M
-sift-terms-spec =
+pub narrow-terms-spec : {M : Type 1} → statement M
+narrow-terms-spec =
     tie.close
     (tie.spec
     Inv-loop

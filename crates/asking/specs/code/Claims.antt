@@ -1,3 +1,4 @@
+-- Definitions that serve the code alone: no statement of document 01 cites this file.
 -- What has to be explained (document 01, "Asking"): an instant counts for the sets that make every entry true and every held datum's predicate whose
 -- interval lacks the instant. Assumes nothing: these are definitions.
 use Prim.Native.Nat.{ℕ}

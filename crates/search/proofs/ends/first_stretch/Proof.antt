@@ -1,5 +1,5 @@
--- `search::ends::first_run` meets its contract: the runs are tried from the least end on, and the terms of the first predicate one after the other.
--- Invariants: no end below the floor is explained; what comes of the terms still to try comes of all that the end needs. Measures: the
+-- `search::ends::first_stretch` meets its contract: the stretches are tried from the least end on, and the terms of the first predicate one after
+-- the other. Invariants: no end below the floor is explained; what comes of the terms still to try comes of all that the end needs. Measures: the
 -- instants from the floor on; the terms still to try.
 use Prim.Native.Nat.{_-_, _≤_, _<_}
 use mathlib.Core.Path.{_≡_, refl, sym, ap, _∙_}
@@ -8,22 +8,22 @@ use native.Mathlib.Omega.{arith}
 use lib.ListN.{length, drop}
 use Rattle.numbers.proofs.NumberLaws.{above-zero, length-put}
 use Rattle.names.specs.Sets.{noSet}
-use Rattle.search.specs.Search.{rowsOf, masksMost, RowsFit, preds}
-use Rattle.search.specs.Ends.{noEnd, needs as Ends·needs, Unexplained, Trying}
+use Rattle.search.specs.code.Search.{rowsOf, masksMost, RowsFit, preds}
+use Rattle.search.specs.code.LeftEnds.{noEnd, needs as LeftEnds·needs, Unexplained, Trying}
 use Rattle.search.proofs.SearchSteps.{worth-few}
 use Rattle.search.proofs.EndSteps.{listed-row, listed-rows, listed-needs, trying-begin, trying-none, trying-skip, trying-stop, trying-on, none-needed}
-use Rattle.search.proofs.RunLaws.{runs-none, runs-found, runs-next, runs-room}
+use Rattle.search.proofs.StretchLaws.{stretches-none, stretches-found, stretches-next, stretches-room}
 use borrow.Author.Needs.{needs}
-use Rattle.search.proofs.ends.first_run.Statement.{statement}
-use Rattle.search.proofs.ends.first_run.Tie as tie
+use Rattle.search.proofs.ends.first_stretch.Statement.{statement}
+use Rattle.search.proofs.ends.first_stretch.Tie as tie
 
 abbrev Inv-loop : tie.InvT-loop
-Inv-loop lefts rights counts masks several rests singles order listed n rows limit free floor from x m at₀ end left₀ at left =
+Inv-loop lefts rights counts masks several rests singles order listed n rows limit free floor from x m at₀ end rest₀ at rest =
     (end ≤ length masks) × (1 ≤ m) × RowsFit m listed (rowsOf counts masks several rests singles)
-    × Trying limit free (Ends·needs rows lefts rights (rowsOf counts masks several rests singles) order x) masks (drop 1 (preds m listed (rowsOf counts masks several rests singles))) end at left × (end ≤ masksMost)
+    × Trying limit free (LeftEnds·needs rows lefts rights (rowsOf counts masks several rests singles) order x) masks (drop 1 (preds m listed (rowsOf counts masks several rests singles))) end at rest × (end ≤ masksMost)
 
 abbrev μ-loop : tie.MeasureT-loop
-μ-loop lefts rights counts masks several rests singles order listed n rows limit free floor from x m at₀ end left₀ at left = end - at
+μ-loop lefts rights counts masks several rests singles order listed n rows limit free floor from x m at₀ end rest₀ at rest = end - at
 
 abbrev Inv-ends : tie.InvT-ends
 Inv-ends lefts rights counts masks several rests singles order listed₀ n rows limit free floor₀ listed floor =
@@ -38,8 +38,8 @@ ends-holds c = (refl, λ k a b d. absurd (omega arith))
 next-end-requires : tie.Need-next-end-requires Inv-loop μ-loop Inv-ends μ-ends
 next-end-requires c κs = let a = c .before .before .before .before .before .before .before .before .before .before in (a .pre .0 .entries-le, a .pre .0 .lefts-long)
 
-run-end-requires : tie.Need-run-end-requires Inv-loop μ-loop Inv-ends μ-ends
-run-end-requires c κs =
+stretch-end-requires : tie.Need-stretch-end-requires Inv-loop μ-loop Inv-ends μ-ends
+stretch-end-requires c κs =
     let a = c .before .before .before .before .before .before .before .before .before .before .before .before in
     (a .pre .0 .entries-le, a .pre .0 .lefts-long, a .pre .0 .rights-long)
 
@@ -71,7 +71,7 @@ loop-holds c =
       some,
       rows,
       trying-begin _ _ _ _ _ _ _ _ some (listed-needs _ _ _ _ _ _ _ _ (a .pre .0) (omega (arith, a .pre .1, head .ends .inv .0)) _ _ (at-list .list-outside .ensures .0) (at-list .list-outside .ensures .1) (at-list .list-outside .ensures .2)) (c .terms-at .ensures .0) (c .terms-at .ensures .1),
-      omega (arith, c .terms-at .ensures .1, rows .narrow 0 some, row, a .pre .0 .most),
+      omega (arith, c .terms-at .ensures .1, rows .few 0 some, row, a .pre .0 .most),
     )
 
 mul-t : tie.Need-mul-t Inv-loop μ-loop Inv-ends μ-ends
@@ -86,7 +86,7 @@ predicate-step-requires c κs =
       loop .inv .2,
       loop .inv .1,
       rw (c .union .ensures)
-          (worth-few _ 0 (loop .left) _ noSet (sym (c .before .before .before .worth .ensures) ∙ c .before .before .if3 .taken)),
+          (worth-few _ 0 (loop .rest) _ noSet (sym (c .before .before .before .worth .ensures) ∙ c .before .before .if3 .taken)),
     )
 
 loop-again : tie.Need-loop-again Inv-loop μ-loop Inv-ends μ-ends
@@ -103,10 +103,10 @@ loop-again c =
       loop .inv .1,
       loop .inv .2,
       rw (w .6)
-          (trying-on _ _ _ _ _ _ (loop .at) (loop .left) (loop .inv .3) h (loop .inv .0) _ (test ∙ w .0 .taken) (rw (w .2 .ensures) at (w .3 .ensures)) _ (w .4 .left) (w .5 .ensures)),
+          (trying-on _ _ _ _ _ _ (loop .at) (loop .rest) (loop .inv .3) h (loop .inv .0) _ (test ∙ w .0 .taken) (rw (w .2 .ensures) at (w .3 .ensures)) _ (w .4 .left) (w .5 .ensures)),
       loop .inv .4,
     ))
-    (λ w. (loop .inv .0, loop .inv .1, loop .inv .2, rw (w .1) (trying-skip _ _ _ _ _ _ (loop .at) (loop .left) (loop .inv .3) h (loop .inv .0) (test ∙ w .0 .left)), loop .inv .4))
+    (λ w. (loop .inv .0, loop .inv .1, loop .inv .2, rw (w .1) (trying-skip _ _ _ _ _ _ (loop .at) (loop .rest) (loop .inv .3) h (loop .inv .0) (test ∙ w .0 .left)), loop .inv .4))
     (c .if3 .came)
 
 add-floor : tie.Need-add-floor Inv-loop μ-loop Inv-ends μ-ends
@@ -114,14 +114,14 @@ add-floor c =
     let at-list = c .before .before .before .before .before .before .before in
     let head = at-list .before .before .before .before .before in
     let a = head .before .before .before .before .before .before .before .before .before .before in
-    record { fits = omega (arith, runs-room _ _ _ _ _ _ (a .pre .0) _ _ (at-list .before .before .before .before .next-end .ensures) (at-list .before .before .before .if1 .left) _ (at-list .before .before .run-end .ensures .0) (at-list .before .before .run-end .ensures .1) .0) }
+    record { fits = omega (arith, stretches-room _ _ _ _ _ _ (a .pre .0) _ _ (at-list .before .before .before .before .next-end .ensures) (at-list .before .before .before .if1 .left) _ (at-list .before .before .stretch-end .ensures .0) (at-list .before .before .stretch-end .ensures .1) .0) }
 
 ends-less : tie.Need-ends-less Inv-loop μ-loop Inv-ends μ-ends
 ends-less c =
     let at-list = c .before .before .before .before .before .before .before in
     let head = at-list .before .before .before .before .before in
     let a = head .before .before .before .before .before .before .before .before .before .before in
-    omega (arith, runs-room _ _ _ _ _ _ (a .pre .0) _ _ (at-list .before .before .before .before .next-end .ensures) (at-list .before .before .before .if1 .left) _ (at-list .before .before .run-end .ensures .0) (at-list .before .before .run-end .ensures .1))
+    omega (arith, stretches-room _ _ _ _ _ _ (a .pre .0) _ _ (at-list .before .before .before .before .next-end .ensures) (at-list .before .before .before .if1 .left) _ (at-list .before .before .stretch-end .ensures .0) (at-list .before .before .stretch-end .ensures .1))
 
 ends-again : tie.Need-ends-again Inv-loop μ-loop Inv-ends μ-ends
 ends-again c =
@@ -129,7 +129,7 @@ ends-again c =
     let head = at-list .before .before .before .before .before in
     let a = head .before .before .before .before .before .before .before .before .before .before in (
       ap length (at-list .list-outside .ensures .2) ∙ length-put 0 _ _ ∙ head .ends .inv .0,
-      runs-next _ _ _ _ _ _ (a .pre .0) _ _ (a .pre .2) _ _ (head .ends .inv .1) (at-list .before .before .before .before .next-end .ensures) (at-list .before .before .before .if1 .left) _ (at-list .before .before .run-end .ensures .0) (at-list .before .before .run-end .ensures .1) (trying-none _ _ _ _ _ _ _ _ (c .before .loop .inv .3) (c .loop-test .left)),
+      stretches-next _ _ _ _ _ _ (a .pre .0) _ _ (a .pre .2) _ _ (head .ends .inv .1) (at-list .before .before .before .before .next-end .ensures) (at-list .before .before .before .if1 .left) _ (at-list .before .before .stretch-end .ensures .0) (at-list .before .before .stretch-end .ensures .1) (trying-none _ _ _ _ _ _ _ _ (c .before .loop .inv .3) (c .loop-test .left)),
     )
 
 same-length : tie.Need-same-length Inv-loop μ-loop Inv-ends μ-ends
@@ -139,7 +139,7 @@ returns : tie.Need-returns Inv-loop μ-loop Inv-ends μ-ends
 returns c =
     let head = c .before .before in
     let a = head .before .before .before .before .before .before .before .before .before .before in
-    (runs-none _ _ _ _ _ _ (a .pre .0) _ _ (a .pre .2) _ _ (head .ends .inv .1) (c .before .next-end .ensures) (c .if1 .taken), head .ends .inv .0)
+    (stretches-none _ _ _ _ _ _ (a .pre .0) _ _ (a .pre .2) _ _ (head .ends .inv .1) (c .before .next-end .ensures) (c .if1 .taken), head .ends .inv .0)
 
 same-length-2 : tie.Need-same-length-2 Inv-loop μ-loop Inv-ends μ-ends
 same-length-2 c =
@@ -153,7 +153,7 @@ returns-2 c =
     let at-list = c .before .before .before in
     let head = at-list .before .before .before .before .before in
     let a = head .before .before .before .before .before .before .before .before .before .before in (
-      runs-found _ _ _ _ _ _ (a .pre .0) _ _ (a .pre .2) _ _ (head .ends .inv .1) (at-list .before .before .before .before .next-end .ensures) (at-list .before .before .before .if1 .left) _ (at-list .before .before .run-end .ensures .0) (at-list .before .before .run-end .ensures .1) 0 (none-needed _ _ _ _ _ _ (c .if2 .taken) (listed-needs _ _ _ _ _ _ _ _ (a .pre .0) (omega (arith, a .pre .1, head .ends .inv .0)) _ _ (at-list .list-outside .ensures .0) (at-list .list-outside .ensures .1) (at-list .list-outside .ensures .2))) (omega arith),
+      stretches-found _ _ _ _ _ _ (a .pre .0) _ _ (a .pre .2) _ _ (head .ends .inv .1) (at-list .before .before .before .before .next-end .ensures) (at-list .before .before .before .if1 .left) _ (at-list .before .before .stretch-end .ensures .0) (at-list .before .before .stretch-end .ensures .1) 0 (none-needed _ _ _ _ _ _ (c .if2 .taken) (listed-needs _ _ _ _ _ _ _ _ (a .pre .0) (omega (arith, a .pre .1, head .ends .inv .0)) _ _ (at-list .list-outside .ensures .0) (at-list .list-outside .ensures .1) (at-list .list-outside .ensures .2))) (omega arith),
       ap length (at-list .list-outside .ensures .2) ∙ length-put 0 _ _ ∙ head .ends .inv .0,
     )
 
@@ -171,14 +171,14 @@ returns-3 c =
     let a = head .before .before .before .before .before .before .before .before .before .before in
     let loop = c .before .before .before .before .before .before .before .before .loop in
     let b = rw (c .before .before .union .ensures) at (c .before .predicate-step .ensures) in (
-      runs-found _ _ _ _ _ _ (a .pre .0) _ _ (a .pre .2) _ _ (head .ends .inv .1) (at-list .before .before .before .before .next-end .ensures) (at-list .before .before .before .if1 .left) _ (at-list .before .before .run-end .ensures .0) (at-list .before .before .run-end .ensures .1) _
-          (trying-stop _ _ _ _ _ _ (loop .at) (loop .left) (loop .inv .3) (c .before .before .before .before .before .before .before .loop-test .taken) (loop .inv .0) _
+      stretches-found _ _ _ _ _ _ (a .pre .0) _ _ (a .pre .2) _ _ (head .ends .inv .1) (at-list .before .before .before .before .next-end .ensures) (at-list .before .before .before .if1 .left) _ (at-list .before .before .stretch-end .ensures .0) (at-list .before .before .stretch-end .ensures .1) _
+          (trying-stop _ _ _ _ _ _ (loop .at) (loop .rest) (loop .inv .3) (c .before .before .before .before .before .before .before .loop-test .taken) (loop .inv .0) _
           (sym (c .before .before .before .before .before .worth .ensures) ∙ c .before .before .before .before .if3 .taken) b (c .if4 .taken)) (c .if4 .taken),
       ap length (at-list .list-outside .ensures .2) ∙ length-put 0 _ _ ∙ head .ends .inv .0,
     )
 
-pub first-run-spec : {M : Type 1} → statement M
-first-run-spec =
+pub first-stretch-spec : {M : Type 1} → statement M
+first-stretch-spec =
     tie.close
     (tie.spec
     Inv-loop
@@ -187,7 +187,7 @@ first-run-spec =
     μ-ends
     ends-holds
     next-end-requires
-    run-end-requires
+    stretch-end-requires
     list-outside-requires
     terms-at-requires
     loop-holds

@@ -1,21 +1,21 @@
--- `search::ends::first_in_run` meets its contract: each set that is found leads to an earlier end, until the one before it in the run has no set.
--- Invariant: the set explains the end, which is an end of the run or an earlier one. Measure: the end.
+-- `search::ends::first_in_stretch` meets its contract: each set that is found leads to an earlier end, until the one before it in the stretch has
+-- no set. Invariant: the set explains the end, which is an end of the stretch or an earlier one. Measure: the end.
 use Prim.Native.Nat.{_≤_}
 use mathlib.Core.Path.{_≡_, refl, _∙_}
 use mathlib.Core.Logic.{⊎-elim}
 use native.Mathlib.Omega.{arith}
 use lib.ListN.{length}
 use Rattle.names.proofs.SetLaws.{ones-empty}
-use Rattle.search.specs.Search.{rowsOf, Fits}
-use Rattle.search.specs.Ends.{IsEnd, needs as Ends·needs}
+use Rattle.search.specs.code.Search.{rowsOf, Fits}
+use Rattle.search.specs.code.LeftEnds.{IsEnd, needs as LeftEnds·needs}
 use Rattle.search.proofs.EndSteps.{listed-rows, listed-needs}
-use Rattle.search.proofs.RunLaws.{back-le, back-end, back-explains, back-done, back-stop, last-is-end, last-lt}
-use Rattle.search.proofs.ends.first_in_run.Statement.{statement}
-use Rattle.search.proofs.ends.first_in_run.Tie as tie
+use Rattle.search.proofs.StretchLaws.{back-le, back-end, back-explains, back-done, back-stop, last-is-end, last-lt}
+use Rattle.search.proofs.ends.first_in_stretch.Statement.{statement}
+use Rattle.search.proofs.ends.first_in_stretch.Tie as tie
 
 abbrev Inv-loop : tie.InvT-loop
 Inv-loop lefts rights counts masks several rests singles order listed₀ n rows limit free from found by set₀ end₀ listed set end =
-    (length listed ≡ length listed₀) × IsEnd n rows lefts end × Fits limit 0 free (Ends·needs rows lefts rights (rowsOf counts masks several rests singles) order end) set
+    (length listed ≡ length listed₀) × IsEnd n rows lefts end × Fits limit 0 free (LeftEnds·needs rows lefts rights (rowsOf counts masks several rests singles) order end) set
     × (end ≤ found)
 
 abbrev μ-loop : tie.MeasureT-loop
@@ -33,13 +33,13 @@ next-end-requires c κs =
 loop-holds : tie.Need-loop-holds Inv-loop μ-loop
 loop-holds c =
     let a = c .before .before .before .before .before .before .before .before .before .before .before in
-    let run = a .pre .3 .explained (a .pre .4) in
+    let stretch = a .pre .3 .reached (a .pre .4) in
     let latest = c .before .latest .ensures in
     let next = c .next-end .ensures in (
       refl,
-      back-end _ _ _ _ _ _ (a .pre .0) _ _ _ _ _ _ (run .1) (run .0) latest next,
-      back-explains _ _ _ _ _ _ (a .pre .0) _ _ _ _ _ _ (run .1) (run .0) latest next,
-      back-le _ _ _ _ _ _ (a .pre .0) _ _ _ _ _ _ (run .1) (run .0) latest next,
+      back-end _ _ _ _ _ _ (a .pre .0) _ _ _ _ _ _ (stretch .1) (stretch .0) latest next,
+      back-explains _ _ _ _ _ _ (a .pre .0) _ _ _ _ _ _ (stretch .1) (stretch .0) latest next,
+      back-le _ _ _ _ _ _ (a .pre .0) _ _ _ _ _ _ (stretch .1) (stretch .0) latest next,
     )
 
 sub-last-end : tie.Need-sub-last-end Inv-loop μ-loop
@@ -140,8 +140,8 @@ returns-2 c =
     let a = head .before .before .before .before .before .before .before .before .before .before .before .before in
     (back-done _ _ _ _ _ _ (a .pre .0) _ _ (a .pre .2) _ _ _ (a .pre .3) (a .pre .4) _ _ (head .loop .inv .1) (head .loop .inv .2) (c .loop-test .left), head .loop .inv .0)
 
-pub first-in-run-spec : {M : Type 1} → statement M
-first-in-run-spec =
+pub first-in-stretch-spec : {M : Type 1} → statement M
+first-in-stretch-spec =
     tie.close
     (tie.spec
     Inv-loop

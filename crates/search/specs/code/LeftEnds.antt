@@ -1,3 +1,4 @@
+-- Definitions that serve the code alone: no statement of document 01 cites this file.
 -- The ends at which an answer can begin: what it takes to explain an instant, over the claims in flat arrays, and the first end that can be explained.
 -- Assumes nothing: these are definitions.
 use Prim.Native.Nat.{ℕ, _*_, _^_, _-_, _≤_, _<_}
@@ -9,7 +10,7 @@ use lib.Dec.{T, leb}
 use lib.ListN.{length, getD, take, drop}
 use Rattle.predicates.specs.Lists.{keep}
 use Rattle.predicates.specs.Predicates.{holds}
-use Rattle.search.specs.Search.{Rows, rowsMost, rowWidth, Fits, Best, rowTerms, Parted, preds, rowsMost, rowWidth}
+use Rattle.search.specs.code.Search.{Rows, rowsMost, rowWidth, Fits, Best, rowTerms, Parted, preds, rowsMost, rowWidth}
 use Rattle.names.specs.Sets.{noSet}
 
 -- no end
@@ -40,7 +41,7 @@ pub record Ready (n rows : ℕ) (lefts rights : List ℕ) (t : Rows) (order : Li
   pub below : (k : ℕ) → k < rows → getD lefts k 0 < noEnd
   pub empty : (k : ℕ) → k < n → getD rights k 0 < getD lefts k 0
   pub counted : rows ≤ length (t .counts)
-  pub narrow : (k : ℕ) → k < rows → getD (t .counts) k 0 ≤ rowWidth
+  pub few : (k : ℕ) → k < rows → getD (t .counts) k 0 ≤ rowWidth
   pub long : rows * rowWidth ≤ length (t .masks)
   pub ordered : rows ≤ length order
   pub placed : (j : ℕ) → j < rows → getD order j 0 < rows
@@ -61,7 +62,7 @@ pub record Unbroken (n rows : ℕ) (rights : List ℕ) (x y : ℕ) : Type 0 wher
   pub clear : (k : ℕ) → n ≤ k → k < rows → getD rights k 0 < y → getD rights k 0 < x
 
 -- the end is the first of the left ends from row n on that a set within the limit explains, with that set; or no end is explained
-pub record First (n rows : ℕ) (lefts rights : List ℕ) (t : Rows) (order : List ℕ) (limit free end set : ℕ) : Type 0 where
+pub record FirstEnd (n rows : ℕ) (lefts rights : List ℕ) (t : Rows) (order : List ℕ) (limit free end set : ℕ) : Type 0 where
   pub found : set < noSet → (k : ℕ) × (n ≤ k) × (k < rows) × (end ≡ getD lefts k 0) × Fits limit 0 free (needs rows lefts rights t order end) set
   pub others : (k : ℕ) → n ≤ k → k < rows → (noSet ≤ set) ⊎ (getD lefts k 0 < end)
       → (u : ℕ) → Fits limit 0 free (needs rows lefts rights t order (getD lefts k 0)) u → ⊥
@@ -76,18 +77,18 @@ pub record Latest (n rows : ℕ) (lefts : List ℕ) (t : Rows) (set r : ℕ) : T
   pub one : (r ≡ 0) ⊎ ((k : ℕ) × (n ≤ k) × (k < rows) × (r ≡ getD lefts k 0) × T (not (holds set (rowTerms t k))))
   pub most : (k : ℕ) → n ≤ k → k < rows → (getD lefts k 0 ≤ r) ⊎ T (holds set (rowTerms t k))
 
--- the run from `from` to `end` is the first whose end a set within the limit explains, with that set; or no left end is explained
-pub record FirstRun (n rows : ℕ) (lefts rights : List ℕ) (t : Rows) (order : List ℕ) (limit free from end set : ℕ) : Type 0 where
-  pub run : set < noSet → Unbroken n rows rights from end
+-- the stretch from `from` to `end` is the first whose end a set within the limit explains, with that set; or no left end is explained
+pub record FirstStretch (n rows : ℕ) (lefts rights : List ℕ) (t : Rows) (order : List ℕ) (limit free from end set : ℕ) : Type 0 where
+  pub stretch : set < noSet → Unbroken n rows rights from end
   pub begins : set < noSet → IsEnd n rows lefts from
-  pub explained : set < noSet → IsEnd n rows lefts end × Fits limit 0 free (needs rows lefts rights t order end) set
-  pub before : set < noSet → Unexplained n rows lefts rights t order limit free from
+  pub reached : set < noSet → IsEnd n rows lefts end × Fits limit 0 free (needs rows lefts rights t order end) set
+  pub earlier : set < noSet → Unexplained n rows lefts rights t order limit free from
   pub never : noSet ≤ set → Unexplained n rows lefts rights t order limit free noEnd
 
 -- what comes of the terms from `at` on, and of the predicates behind them, comes of the whole
 abbrev pub Trying : ℕ → ℕ → List (List ℕ) → List ℕ → List (List ℕ) → ℕ → ℕ → ℕ → Type 0
-Trying limit free whole masks ps end at left =
-    (r : ℕ) → Best noSet limit 0 left (take (end - at) (drop at masks) ∷ ps) noSet r → Best noSet limit 0 free whole noSet r
+Trying limit free whole masks ps end at free′ =
+    (r : ℕ) → Best noSet limit 0 free′ (take (end - at) (drop at masks) ∷ ps) noSet r → Best noSet limit 0 free whole noSet r
 
 -- the first `rows` of the order are the rows, all of them
 pub record Complete (rows : ℕ) (order : List ℕ) : Type 0 where
@@ -96,7 +97,7 @@ pub record Complete (rows : ℕ) (order : List ℕ) : Type 0 where
   pub present : (k : ℕ) → k < rows → (j : ℕ) × (j < rows) × (k ≡ getD order j 0)
 
 -- r is the least of the sets within the limit that make all predicates true, or those that a left end from row n on needs; or no set
-pub record Least (n rows : ℕ) (lefts rights : List ℕ) (t : Rows) (order : List ℕ) (limit free r : ℕ) : Type 0 where
+pub record LeastSet (n rows : ℕ) (lefts rights : List ℕ) (t : Rows) (order : List ℕ) (limit free r : ℕ) : Type 0 where
   pub from : (r ≡ noSet) ⊎ (Fits limit 0 free (preds rows order t) r
       ⊎ ((k : ℕ) × (n ≤ k) × (k < rows) × Fits limit 0 free (needs rows lefts rights t order (getD lefts k 0)) r))
   pub low : r ≤ noSet
