@@ -12,8 +12,7 @@ use lib.Pow.{pow-pos}
 use lib.Count.{ones}
 use lib.IntN.{ℤ, pos, negsuc}
 use Rattle.names.specs.Sets.{union, has}
-use Rattle.names.proofs.SetLaws.{digit-single-same, union-left, union-right, union-above, ones-empty, ones-none, ones-above}
-use Rattle.names.proofs.SetLaws.{has-in, has-mono, has-not-union, has-empty, has-single}
+use Rattle.names.proofs.SetLaws.{digit-single-same, union-left, union-right, union-above, ones-empty, ones-none, ones-above, has-in, has-mono, has-not-union, has-empty, has-single}
 use Rattle.predicates.specs.Lists.{all, In}
 use Rattle.predicates.specs.Predicates.{holds}
 use Rattle.predicates.proofs.ListLaws.{cond-ind, in-l, in-r, in-cases, map-in, map-out}

@@ -24,12 +24,12 @@ use Rattle.predicates.proofs.ListLaws.{both-l, both-r, all-in, all-out, keep-in
 use Rattle.state.specs.Model.{Datum, Store}
 use Rattle.state.proofs.LayoutLaws.{all-tab}
 use Rattle.asking.specs.Instants.{Allowed}
-use Rattle.asking.specs.Claims.{inside, neededAt, everything}
-use Rattle.asking.specs.Search.{Fits, Rows, rowTerms, predAt, preds}
-use Rattle.asking.specs.Tables.{entryClaim, claimsOf, claimAt, Loaded, Bounded, outside}
-use Rattle.asking.specs.Ends.{needs, Complete}
+use Rattle.asking.specs.code.Claims.{inside, neededAt, everything}
+use Rattle.search.specs.code.Search.{Rows, Fits, RowsFit, rowTerms, predAt, preds}
+use Rattle.asking.specs.code.Tables.{entryClaim, claimsOf, claimAt, Loaded, Bounded}
+use Rattle.search.specs.code.LeftEnds.{outside, needs, Complete}
 use Rattle.asking.proofs.ClaimLaws.{claims-in, claims-out}
-use Rattle.asking.proofs.EndSteps.{in-take, take-in, at-in, getD-map}
+use Rattle.search.proofs.EndSteps.{in-take, take-in, at-in, getD-map}
 
 -- ---- sets
 
@@ -148,20 +148,20 @@ module _ (k : Store) where
 
 -- ---- the arrays
 
-module _ (k : Store) (n rows : ℕ) (counts masks order : List ℕ) (loaded : Loaded k n rows counts masks) (complete : Complete rows order) where
+module _ (k : Store) (n rows : ℕ) (table : Rows) (order : List ℕ) (loaded : Loaded k n rows table) (complete : Complete rows order) where
   abbrev terms : ℕ → List ℕ
-  terms = rowTerms counts masks
+  terms = rowTerms table
 
   rows-count : rows ≡ length (k .entries) + length (k .held)
   rows-count = omega (arith, loaded .rows-are, loaded .entries-are)
 
   -- the order read as rows is as long as the search asks
-  pub order-rows : Rows rows order counts masks
+  pub order-rows : RowsFit rows order table
   order-rows =
       record {
         listed-long = complete .ordered;
         counted = λ j h. omega (arith, complete .placed j h, loaded .counted);
-        narrow = λ j h. loaded .few (getD order j 0) (complete .placed j h) .1;
+        few = λ j h. loaded .few (getD order j 0) (complete .placed j h) .1;
         long = λ j h. omega (arith, complete .placed j h, loaded .few (getD order j 0) (complete .placed j h) .1, loaded .long);
         parted = λ j h. loaded .parted (getD order j 0) (complete .placed j h);
       }
@@ -169,7 +169,7 @@ module _ (k : Store) (n rows : ℕ) (counts masks order : List ℕ) (loaded : Lo
   module _ (u : ℕ) where
     -- ---- every instant
 
-    pub order-everything : T (all (holds u) (preds rows order counts masks)) → T (all (holds u) (everything k))
+    pub order-everything : T (all (holds u) (preds rows order table)) → T (all (holds u) (everything k))
     unfolding preds predAt
     order-everything h =
         each-everything k rows rows-count u (λ i l.
@@ -179,7 +179,7 @@ module _ (k : Store) (n rows : ℕ) (counts masks order : List ℕ) (loaded : Lo
         rw (sym (loaded .terms-are i l))
         (rw at at (all-out (holds u) (tab rows (λ j. terms (getD order j 0))) h _ (at-in (tab rows (λ j. terms (getD order j 0))) [] (w .0) (rw length-tab (w .1))))))
 
-    pub everything-order : T (all (holds u) (everything k)) → T (all (holds u) (preds rows order counts masks))
+    pub everything-order : T (all (holds u) (everything k)) → T (all (holds u) (preds rows order table))
     unfolding preds predAt
     everything-order h =
         all-tab (holds u) rows (λ j. terms (getD order j 0)) (λ j l.
@@ -188,7 +188,7 @@ module _ (k : Store) (n rows : ℕ) (counts masks order : List ℕ) (loaded : Lo
     -- ---- an instant: x for the arrays of ends, y for the store
 
     module _ (lefts rights : List ℕ) (x y : ℕ) (same : (i : ℕ) → i < rows → outside lefts rights x i ≡ not (inside y (claimAt k i))) where
-      pub needs-needed : T (all (holds u) (needs rows lefts rights counts masks order x)) → T (all (holds u) (neededAt y k))
+      pub needs-needed : T (all (holds u) (needs rows lefts rights table order x)) → T (all (holds u) (neededAt y k))
       unfolding needs
       needs-needed h =
           each-needed k rows rows-count u y (λ i l o.
@@ -197,7 +197,7 @@ module _ (k : Store) (n rows : ℕ) (counts masks order : List ℕ) (loaded : Lo
           (map-in terms (keep (outside lefts rights x) (take rows order)) i
           (keep-in (outside lefts rights x) (take rows order) i (take-in rows order (complete .ordered) (complete .present i l)) (rw (same i l) o)))))
 
-      pub needed-needs : T (all (holds u) (neededAt y k)) → T (all (holds u) (needs rows lefts rights counts masks order x))
+      pub needed-needs : T (all (holds u) (neededAt y k)) → T (all (holds u) (needs rows lefts rights table order x))
       unfolding needs
       needed-needs h =
           all-in (holds u) (map terms (keep (outside lefts rights x) (take rows order))) (λ p m.

@@ -14,7 +14,7 @@ use lib.ListN.{length, getD, drop, drop-of-length-le}
 use lib.Seq.{drop-cons}
 use Rattle.numbers.specs.Numbers.{num, tab}
 use Rattle.numbers.proofs.NumberLaws.{above-zero, length-tab, getD-tab}
-use Rattle.names.specs.Sets.{others}
+use Rattle.names.specs.Sets.{others, noSet}
 use Rattle.names.proofs.SetLaws.{subset-refl}
 use Rattle.names.proofs.PartLaws.{others-lt}
 use Rattle.predicates.specs.Lists.{In}
@@ -24,11 +24,11 @@ use Rattle.state.specs.Form.{inForm}
 use Rattle.state.proofs.StateLaws.{state-out, length-held, length-entries, form-ok}
 use Rattle.state.proofs.StoreLaws.{column-front, length-column}
 use Rattle.asking.specs.declared.Answer.the-variants.{Contradicted, Open, Between}
-use Rattle.asking.specs.Asking.{interval, highest, lowest, answer}
-use Rattle.asking.specs.Claims.{inside, neededAt, everything, Explained}
-use Rattle.asking.specs.Search.{Fits, Best, preds, none}
-use Rattle.asking.specs.Tables.{entryClaim, claimAt, Loaded, Bounded, claimLeft, claimRight, outside}
-use Rattle.asking.specs.Ends.{Ready, needs, First, Complete}
+use Rattle.asking.specs.Asking.{interval, greatestLeft, leastRight, answer}
+use Rattle.asking.specs.code.Claims.{inside, neededAt, everything, Explained}
+use Rattle.search.specs.code.Search.{Rows, Fits, Best, preds}
+use Rattle.asking.specs.code.Tables.{entryClaim, claimAt, Loaded, Bounded, claimLeft, claimRight}
+use Rattle.search.specs.code.LeftEnds.{outside, Ready, needs, FirstEnd, Complete}
 use Rattle.asking.proofs.TableLaws.{bounded-in}
 use Rattle.asking.proofs.ReadyLaws.{ready-in, rows-most, ends-below}
 use Rattle.asking.proofs.PlainLaws.{plain-contradicted, plain-open, plain-interval, form-bare, form-right}
@@ -48,30 +48,30 @@ module _ (s : List ℕ) (i : ℕ) (h : i < heldCount s) where
       (drop-cons (tab (heldCount s) (datumAt s)) i (datumAt s i) (rw length-tab h)
       ∙ ap (λ (d : Datum). d ∷ drop (suc i) (tab (heldCount s) (datumAt s))) (getD-tab (heldCount s) i (datumAt s) (datumAt s i) h))
 
-  pub highest-turn : (m l r : ℕ) → l ≡ num (datumPlace i) 8 s → r ≡ max m l → highest r (drop (i + 1) held) ≡ highest m (drop i held)
-  unfolding highest datumAt
-  highest-turn m l r e f = sym (ap (highest m) next ∙ ap (λ (x : ℕ). highest x (drop (i + 1) held)) (sym (f ∙ ap (max m) e)))
+  pub greatest-left-turn : (m l r : ℕ) → l ≡ num (datumPlace i) 8 s → r ≡ max m l → greatestLeft r (drop (i + 1) held) ≡ greatestLeft m (drop i held)
+  unfolding greatestLeft datumAt
+  greatest-left-turn m l r e f = sym (ap (greatestLeft m) next ∙ ap (λ (x : ℕ). greatestLeft x (drop (i + 1) held)) (sym (f ∙ ap (max m) e)))
 
-  pub lowest-turn : (m l r : ℕ) → l ≡ num (datumPlace i + 8) 8 s → r ≡ min m l → lowest r (drop (i + 1) held) ≡ lowest m (drop i held)
-  unfolding lowest datumAt
-  lowest-turn m l r e f = sym (ap (lowest m) next ∙ ap (λ (x : ℕ). lowest x (drop (i + 1) held)) (sym (f ∙ ap (min m) e)))
+  pub least-right-turn : (m l r : ℕ) → l ≡ num (datumPlace i + 8) 8 s → r ≡ min m l → leastRight r (drop (i + 1) held) ≡ leastRight m (drop i held)
+  unfolding leastRight datumAt
+  least-right-turn m l r e f = sym (ap (leastRight m) next ∙ ap (λ (x : ℕ). leastRight x (drop (i + 1) held)) (sym (f ∙ ap (min m) e)))
 
 module _ (s : List ℕ) (i m : ℕ) (h : heldCount s ≤ i) where
   none-left : drop i (storeOf s .held) ≡ []
   unfolding storeOf
   none-left = drop-of-length-le (tab (heldCount s) (datumAt s)) {i = i} (rw length-tab h)
 
-  pub highest-done : highest m (drop i (storeOf s .held)) ≡ m
-  unfolding highest
-  highest-done = ap (highest m) none-left
+  pub greatest-left-done : greatestLeft m (drop i (storeOf s .held)) ≡ m
+  unfolding greatestLeft
+  greatest-left-done = ap (greatestLeft m) none-left
 
-  pub lowest-done : lowest m (drop i (storeOf s .held)) ≡ m
-  unfolding lowest
-  lowest-done = ap (lowest m) none-left
+  pub least-right-done : leastRight m (drop i (storeOf s .held)) ≡ m
+  unfolding leastRight
+  least-right-done = ap (leastRight m) none-left
 
 -- ---- the search over all claims, and over the ends
 
-module _ (limit : ℕ) (st : State) (n rows : ℕ) (counts masks order : List ℕ) (loaded : Loaded (st .store) n rows counts masks)
+module _ (limit : ℕ) (st : State) (n rows : ℕ) (table : Rows) (order : List ℕ) (loaded : Loaded (st .store) n rows table)
     (complete : Complete rows order) where
   abbrev k : Store
   k = st .store
@@ -79,32 +79,32 @@ module _ (limit : ℕ) (st : State) (n rows : ℕ) (counts masks order : List �
   abbrev free : ℕ
   free = others (st .head .own)
 
-  module _ (r : ℕ) (b : Best none limit 0 free (preds rows order counts masks) none r) where
-    pub open-found : r < none → Open ≡ answer limit st
+  module _ (r : ℕ) (b : Best noSet limit 0 free (preds rows order table) noSet r) where
+    pub open-found : r < noSet → Open ≡ answer limit st
     open-found h = sym (answer-open limit st (go (b .from)))
       where
-        go : (r ≡ none) ⊎ Fits limit 0 free (preds rows order counts masks) r → Explained limit st (everything k)
+        go : (r ≡ noSet) ⊎ Fits limit 0 free (preds rows order table) r → Explained limit st (everything k)
         go (inl e) = absurd (omega arith)
-        go (inr f) = (r, fits-allowed limit (st .head .own) r (preds rows order counts masks) f, order-everything k n rows counts masks order loaded complete r (f .holding))
+        go (inr f) = (r, fits-allowed limit (st .head .own) r (preds rows order table) f, order-everything k n rows table order loaded complete r (f .holding))
 
-    pub open-none : none ≤ r → Explained limit st (everything k) → ⊥
+    pub open-none : noSet ≤ r → Explained limit st (everything k) → ⊥
     open-none h w =
-        let fits = allowed-fits limit (st .head .own) (w .0) (preds rows order counts masks) (w .1) (everything-order k n rows counts masks order loaded complete (w .0) (w .2)) in
+        let fits = allowed-fits limit (st .head .own) (w .0) (preds rows order table) (w .1) (everything-order k n rows table order loaded complete (w .0) (w .2)) in
         ⊎-elim (λ e. absurd (omega (arith, w .1 .names))) (λ e. absurd (omega arith)) (b .least (w .0) fits)
 
   -- arrays of ends in which x stands for the instant y
   module _ (lefts rights : List ℕ) (x y : ℕ) (same : (i : ℕ) → i < rows → outside lefts rights x i ≡ not (inside y (claimAt k i))) where
-    explained-in : (u : ℕ) → Fits limit 0 free (needs rows lefts rights counts masks order x) u → Explained limit st (neededAt y k)
+    explained-in : (u : ℕ) → Fits limit 0 free (needs rows lefts rights table order x) u → Explained limit st (neededAt y k)
     explained-in u f = (
       u,
-      fits-allowed limit (st .head .own) u (needs rows lefts rights counts masks order x) f,
-      needs-needed k n rows counts masks order loaded complete u lefts rights x y same (f .holding),
+      fits-allowed limit (st .head .own) u (needs rows lefts rights table order x) f,
+      needs-needed k n rows table order loaded complete u lefts rights x y same (f .holding),
     )
 
-    explained-out : (w : Explained limit st (neededAt y k)) → Fits limit 0 free (needs rows lefts rights counts masks order x) (w .0)
+    explained-out : (w : Explained limit st (neededAt y k)) → Fits limit 0 free (needs rows lefts rights table order x) (w .0)
     explained-out w =
-        allowed-fits limit (st .head .own) (w .0) (needs rows lefts rights counts masks order x) (w .1)
-        (needed-needs k n rows counts masks order loaded complete (w .0) lefts rights x y same (w .2))
+        allowed-fits limit (st .head .own) (w .0) (needs rows lefts rights table order x) (w .1)
+        (needed-needs k n rows table order loaded complete (w .0) lefts rights x y same (w .2))
 
   -- the row of a held datum
   row-of : (d : Datum) → In d (k .held) → (i : ℕ) × (n ≤ i) × (i < rows) × (claimAt k i ≡ d)
@@ -119,18 +119,18 @@ module _ (limit : ℕ) (st : State) (n rows : ℕ) (counts masks order : List �
     left-is : (d : Datum) (i : ℕ) → i < rows → claimAt k i ≡ d → getD lefts i 0 ≡ d .left
     left-is d i l e = bounded .left-is i l ∙ ap (λ (c : Datum). c .left) e
 
-    module _ (end set : ℕ) (first : First n rows lefts rights counts masks order limit free end set) where
-      pub ends-contradicted : none ≤ set → Contradicted ≡ answer limit st
+    module _ (end set : ℕ) (first : FirstEnd n rows lefts rights table order limit free end set) where
+      pub ends-contradicted : noSet ≤ set → Contradicted ≡ answer limit st
       ends-contradicted h =
           sym (answer-none limit st every (λ d m w.
           let r = row-of d m in
           let e = left-is d (r .0) (r .2) (r .3) in
           first .others (r .0) (r .1) (r .2) (inl h) (w .0) (explained-out lefts rights (getD lefts (r .0) 0) (d .left) (left-same _ _ e) w)))
 
-      module _ (some : set < none) (last : ℕ) (low high : List ℕ) (lows : (i : ℕ) → i < rows → getD low i 0 ≡ last - getD rights i 0)
+      module _ (some : set < noSet) (last : ℕ) (low high : List ℕ) (lows : (i : ℕ) → i < rows → getD low i 0 ≡ last - getD rights i 0)
           (highs : (i : ℕ) → i < rows → getD high i 0 ≡ last - getD lefts i 0)
           (below : (i : ℕ) → i < rows → (getD lefts i 0 ≤ last) × (getD rights i 0 ≤ last))
-          (end′ set′ : ℕ) (first′ : First n rows low high counts masks order limit free end′ set′) where
+          (end′ set′ : ℕ) (first′ : FirstEnd n rows low high table order limit free end′ set′) where
         right-same : (x y : ℕ) → y ≤ last → x ≡ last - y → (i : ℕ) → i < rows → outside low high x i ≡ not (inside y (claimAt k i))
         right-same x y h e i l = right-outside k rows lefts rights bounded last low high lows highs below x y i h e l
 
@@ -145,10 +145,10 @@ module _ (limit : ℕ) (st : State) (n rows : ℕ) (counts masks order : List �
             explained-in lefts rights end end (left-same end end refl) set (f .4)
 
         -- a right end is explained once a left one is
-        found : set′ < none
-        found = go (decLt set′ none)
+        found : set′ < noSet
+        found = go (decLt set′ noSet)
           where
-            go : Dec (set′ < none) → set′ < none
+            go : Dec (set′ < noSet) → set′ < noSet
             go (yes h) = h
             go (no h) =
                 let w = right-too limit st every end at-left in
@@ -195,7 +195,7 @@ module _ (s : List ℕ) (t : T (inForm s)) where
     unfolding stateOf
     plain-free h b e = sym (plain-open st (form-bare st (form-ok s t)) (rw length-entries (omega arith)) (rw length-held (omega arith)))
 
-    module _ (h : ℕ) (b : h ≡ heldCount s) (some : h ≡ 0 → ⊥) (l r : ℕ) (c : l ≡ highest 0 (storeOf s .held)) (d : r ≡ lowest 288230376151711744 (storeOf s .held)) where
+    module _ (h : ℕ) (b : h ≡ heldCount s) (some : h ≡ 0 → ⊥) (l r : ℕ) (c : l ≡ greatestLeft 0 (storeOf s .held)) (d : r ≡ leastRight 288230376151711744 (storeOf s .held)) where
       ends : answer 0 st ≡ interval l r
       unfolding stateOf
       ends =
@@ -213,7 +213,7 @@ module _ (s : List ℕ) (t : T (inForm s)) where
 abbrev last : ℕ
 last = 288230376151711743
 
-module _ (s : List ℕ) (t : T (inForm s)) (n rows : ℕ) (counts masks order : List ℕ) (loaded : Loaded (storeOf s) n rows counts masks)
+module _ (s : List ℕ) (t : T (inForm s)) (n rows : ℕ) (table : Rows) (order : List ℕ) (loaded : Loaded (storeOf s) n rows table)
     (complete : Complete rows order) where
   entries-count : n ≡ entryCount s
   entries-count = loaded .entries-are ∙ length-entries s
@@ -226,14 +226,14 @@ module _ (s : List ℕ) (t : T (inForm s)) (n rows : ℕ) (counts masks order : 
   rows-fit = rows-most (stateOf s) (form-ok s t) loaded
 
   -- the search over all claims
-  module _ (limit free r : ℕ) (g : free ≡ others (num 0 4 s)) (b : Best none limit 0 free (preds rows order counts masks) none r) where
-    pub asked-open : r < none → Open ≡ answer limit (stateOf s)
+  module _ (limit free r : ℕ) (g : free ≡ others (num 0 4 s)) (b : Best noSet limit 0 free (preds rows order table) noSet r) where
+    pub asked-open : r < noSet → Open ≡ answer limit (stateOf s)
     unfolding stateOf headOf
-    asked-open h = open-found limit (stateOf s) n rows counts masks order loaded complete r (rw g at b) h
+    asked-open h = open-found limit (stateOf s) n rows table order loaded complete r (rw g at b) h
 
-    pub asked-tied : none ≤ r → Explained limit (stateOf s) (everything (storeOf s)) → ⊥
+    pub asked-tied : noSet ≤ r → Explained limit (stateOf s) (everything (storeOf s)) → ⊥
     unfolding stateOf headOf
-    asked-tied h = open-none limit (stateOf s) n rows counts masks order loaded complete r (rw g at b) h
+    asked-tied h = open-none limit (stateOf s) n rows table order loaded complete r (rw g at b) h
 
   module _ (l₀ r₀ l r : List ℕ) (p : rows ≤ length l₀) (q : rows ≤ length r₀) (e : l ≡ tab rows (λ i. claimLeft s n i) ++ drop rows l₀)
       (f : r ≡ tab rows (λ i. claimRight s n i) ++ drop rows r₀) where
@@ -244,7 +244,7 @@ module _ (s : List ℕ) (t : T (inForm s)) (n rows : ℕ) (counts masks order : 
     unfolding stateOf
     ends-low = ends-below (stateOf s) (form-ok s t) loaded ends-bounded
 
-    pub ends-ready : Ready n rows l r counts masks order
+    pub ends-ready : Ready n rows l r table order
     ends-ready = ready-in loaded rows-fit l r order ends-bounded complete (λ i h. omega (arith, ends-low i h .0))
 
     -- as seen from the last end
@@ -256,7 +256,7 @@ module _ (s : List ℕ) (t : T (inForm s)) (n rows : ℕ) (counts masks order : 
       high-is : (i : ℕ) → i < rows → getD high i 0 ≡ last - getD l i 0
       high-is i h = column-front (λ k. last - getD l k 0) rows i high₀ high d h
 
-      pub mirror-ready : Ready n rows low high counts masks order
+      pub mirror-ready : Ready n rows low high table order
       mirror-ready =
           let w = ends-ready in
           record {
@@ -268,7 +268,7 @@ module _ (s : List ℕ) (t : T (inForm s)) (n rows : ℕ) (counts masks order : 
             empty = λ i h.
                 let j : i < rows = omega (arith, w .entries-le) in omega (arith, low-is i j, high-is i j, w .empty i h, ends-low i j);
             counted = w .counted;
-            narrow = w .narrow;
+            few = w .few;
             long = w .long;
             ordered = w .ordered;
             placed = w .placed;
@@ -277,30 +277,30 @@ module _ (s : List ℕ) (t : T (inForm s)) (n rows : ℕ) (counts masks order : 
           }
 
       module _ (limit free : ℕ) (g : free ≡ others (num 0 4 s)) (every : Explained limit (stateOf s) (everything (storeOf s)) → ⊥)
-          (end set end′ set′ : ℕ) (first : First n rows l r counts masks order limit free end set) (some : set < none)
-          (first′ : First n rows low high counts masks order limit free end′ set′) where
+          (end set end′ set′ : ℕ) (first : FirstEnd n rows l r table order limit free end set) (some : set < noSet)
+          (first′ : FirstEnd n rows low high table order limit free end′ set′) where
         pub between-room : end′ ≤ last
         unfolding stateOf headOf
         between-room =
-            ends-room limit (stateOf s) n rows counts masks order loaded complete every l r ends-bounded end set (rw g at first) some last low high low-is
+            ends-room limit (stateOf s) n rows table order loaded complete every l r ends-bounded end set (rw g at first) some last low high low-is
             high-is ends-low end′ set′ (rw g at first′)
 
         pub between-is : Between end (last - end′) ≡ answer limit (stateOf s)
         unfolding stateOf headOf
         between-is =
-            ends-between limit (stateOf s) n rows counts masks order loaded complete every l r ends-bounded end set (rw g at first) some last low high low-is
+            ends-between limit (stateOf s) n rows table order loaded complete every l r ends-bounded end set (rw g at first) some last low high low-is
             high-is ends-low end′ set′ (rw g at first′)
 
     pub between-none : (limit free : ℕ) → free ≡ others (num 0 4 s) → (Explained limit (stateOf s) (everything (storeOf s)) → ⊥) → (end set : ℕ)
-        → First n rows l r counts masks order limit free end set → none ≤ set → Contradicted ≡ answer limit (stateOf s)
+        → FirstEnd n rows l r table order limit free end set → noSet ≤ set → Contradicted ≡ answer limit (stateOf s)
     unfolding stateOf headOf
     between-none limit free g every end set first h =
-        ends-contradicted limit (stateOf s) n rows counts masks order loaded complete every l r ends-bounded end set (rw g at first) h
+        ends-contradicted limit (stateOf s) n rows table order loaded complete every l r ends-bounded end set (rw g at first) h
 
 pub own-fits : (s : List ℕ) → T (inForm s) → num 0 4 s ≤ 28
 unfolding stateOf headOf
 own-fits s t = state-out (stateOf s) (form-ok s t) .own-le
 
 -- no other name is beyond 28
-pub free-lt : (own free : ℕ) → free ≡ others own → free < none
+pub free-lt : (own free : ℕ) → free ≡ others own → free < noSet
 free-lt own free e = rw e (others-lt own (others own) (subset-refl (others own)))

@@ -13,7 +13,7 @@ use Rattle.predicates.proofs.ListLaws.{both, split, in-l, in-r, all-in, all-out
 use Rattle.state.specs.Model.{Datum, Store, State}
 use Rattle.state.proofs.LayoutLaws.{all-append}
 use Rattle.asking.specs.Instants.{Fine, Counts}
-use Rattle.asking.specs.Claims.{inside, termsOf, neededAt, everything, Explained}
+use Rattle.asking.specs.code.Claims.{inside, termsOf, neededAt, everything, Explained}
 use Rattle.asking.proofs.InstantLaws.{inside-in, inside-out, Allows, not-active, inall-in, inall-out}
 
 -- ---- a test of some entries and of the predicates of some data

@@ -17,7 +17,7 @@ use Rattle.asking.specs.declared.Answer.{Answer}
 use Rattle.asking.specs.declared.Answer.the-variants.{Contradicted, Open, Between}
 use Rattle.asking.specs.Instants.{Within, InAll, Fine, Counts, Gives}
 use Rattle.asking.specs.Asking.{cut, common, active, answer}
-use Rattle.asking.specs.Claims.{neededAt, everything, Explained}
+use Rattle.asking.specs.code.Claims.{neededAt, everything, Explained}
 use Rattle.asking.proofs.InstantLaws.{within-wider}
 use Rattle.asking.proofs.ClaimLaws.{everything-in, everything-out, needed-in, counts-in}
 use Rattle.asking.proofs.AnswerLaws.{common-given, answer-is}

@@ -22,26 +22,26 @@ use Rattle.asking.specs.declared.Fewest.{Fewest}
 use Rattle.asking.specs.declared.Fewest.the-variants.{Over, Few}
 use Rattle.asking.specs.Instants.{Fine, Allowed, Counts, Gives}
 use Rattle.asking.specs.Asking.{leaves, sets, answer}
-use Rattle.asking.specs.Claims.{neededAt, everything}
-use Rattle.asking.specs.Fewest.{some, works, before, best, choose, fewest, Works, Before, FewestOf}
+use Rattle.asking.specs.code.Claims.{neededAt, everything}
+use Rattle.asking.specs.Fewest.{notContradicted, works, smaller, best, choose, fewest, Works, Smaller, FewestOf}
 use Rattle.asking.proofs.AnswerLaws.{leaves-given, allowed-in, allowed-out, answer-given}
 use Rattle.asking.proofs.ClaimLaws.{everything-out, needed-out}
 use Rattle.asking.proofs.EndLaws.{fine-ends}
 
 -- ---- the order
 
-before-out : (m s : ℕ) → T (before m s) → Before m s
-unfolding before
-before-out m s h =
+smaller-out : (m s : ℕ) → T (smaller m s) → Smaller m s
+unfolding smaller
+smaller-out m s h =
     ⊎-elim (λ k. inl (ltb→lt (ones m) (ones s) k))
     (λ k. inr (eqb→eq (ones m) (ones s) (both-l (eqb (ones m) (ones s)) (leb m s) k), leb→le m s (both-r (eqb (ones m) (ones s)) (leb m s) k)))
     (or-cases (ltb (ones m) (ones s)) (eqb (ones m) (ones s) && leb m s) h)
 
-before-not : (m s : ℕ) → T (not (before m s)) → Before s m
-unfolding before
-before-not m s h = go (decLt (ones s) (ones m))
+smaller-not : (m s : ℕ) → T (not (smaller m s)) → Smaller s m
+unfolding smaller
+smaller-not m s h = go (decLt (ones s) (ones m))
   where
-    go : Dec (ones s < ones m) → Before s m
+    go : Dec (ones s < ones m) → Smaller s m
     go (yes k) = inl k
     go (no k) =
         let l = nltb→le (ones m) (ones s) (neither (ltb (ones m) (ones s)) (eqb (ones m) (ones s) && leb m s) h .0) in
@@ -52,14 +52,14 @@ before-not m s h = go (decLt (ones s) (ones m))
         (both (eqb (ones m) (ones s)) (leb m s) (subst (λ (x : ℕ). T (eqb (ones m) x)) e (eqb-refl (ones m))) b)))
         in inr (sym e, omega arith)
 
-before-trans : (a b c : ℕ) → Before a b → Before b c → Before a c
-before-trans a b c (inl h) (inl k) = inl (omega arith)
-before-trans a b c (inl h) (inr k) = inl (omega arith)
-before-trans a b c (inr h) (inl k) = inl (omega arith)
-before-trans a b c (inr h) (inr k) = inr (omega arith, omega arith)
+smaller-trans : (a b c : ℕ) → Smaller a b → Smaller b c → Smaller a c
+smaller-trans a b c (inl h) (inl k) = inl (omega arith)
+smaller-trans a b c (inl h) (inr k) = inl (omega arith)
+smaller-trans a b c (inr h) (inl k) = inl (omega arith)
+smaller-trans a b c (inr h) (inr k) = inr (omega arith, omega arith)
 
-before-self : (a : ℕ) → Before a a
-before-self a = inr (refl, le-refl a)
+smaller-self : (a : ℕ) → Smaller a a
+smaller-self a = inr (refl, le-refl a)
 
 -- ---- the best of a list
 
@@ -67,22 +67,22 @@ best-in : (m : ℕ) (ss : List ℕ) → In (best m ss) (m ∷ ss)
 unfolding best
 best-in m [] = inl refl
 best-in m (s ∷ ss) =
-    cond-ind (λ k. In (best k ss) (k ∷ ss) → In (best k ss) (m ∷ s ∷ ss)) (before m s) m s
-    (λ _ i. ⊎-elim (λ e. inl e) (λ j. inr (inr j)) i) (λ _ i. inr i) (best-in (cond (before m s) m s) ss)
+    cond-ind (λ k. In (best k ss) (k ∷ ss) → In (best k ss) (m ∷ s ∷ ss)) (smaller m s) m s
+    (λ _ i. ⊎-elim (λ e. inl e) (λ j. inr (inr j)) i) (λ _ i. inr i) (best-in (cond (smaller m s) m s) ss)
 
-best-before : (m : ℕ) (ss : List ℕ) (s : ℕ) → In s (m ∷ ss) → Before (best m ss) s
+best-smaller : (m : ℕ) (ss : List ℕ) (s : ℕ) → In s (m ∷ ss) → Smaller (best m ss) s
 unfolding best
-best-before m [] s (inl e) = subst (λ (x : ℕ). Before m x) (sym e) (before-self m)
-best-before m [] s (inr i) = absurd i
-best-before m (t ∷ ss) s i = go (cond (before m t) m t) first i (best-before (cond (before m t) m t) ss)
+best-smaller m [] s (inl e) = subst (λ (x : ℕ). Smaller m x) (sym e) (smaller-self m)
+best-smaller m [] s (inr i) = absurd i
+best-smaller m (t ∷ ss) s i = go (cond (smaller m t) m t) first i (best-smaller (cond (smaller m t) m t) ss)
   where
-    first : Before (cond (before m t) m t) m × Before (cond (before m t) m t) t
+    first : Smaller (cond (smaller m t) m t) m × Smaller (cond (smaller m t) m t) t
     first =
-        cond-ind (λ k. Before k m × Before k t) (before m t) m t (λ h. (before-self m, before-out m t h)) (λ h. (before-not m t h, before-self t))
+        cond-ind (λ k. Smaller k m × Smaller k t) (smaller m t) m t (λ h. (smaller-self m, smaller-out m t h)) (λ h. (smaller-not m t h, smaller-self t))
 
-    go : (k : ℕ) → Before k m × Before k t → In s (m ∷ t ∷ ss) → ((s : ℕ) → In s (k ∷ ss) → Before (best k ss) s) → Before (best k ss) s
-    go k f (inl e) rest = subst (λ (x : ℕ). Before (best k ss) x) (sym e) (before-trans (best k ss) k m (rest k (inl refl)) (f .0))
-    go k f (inr (inl e)) rest = subst (λ (x : ℕ). Before (best k ss) x) (sym e) (before-trans (best k ss) k t (rest k (inl refl)) (f .1))
+    go : (k : ℕ) → Smaller k m × Smaller k t → In s (m ∷ t ∷ ss) → ((s : ℕ) → In s (k ∷ ss) → Smaller (best k ss) s) → Smaller (best k ss) s
+    go k f (inl e) rest = subst (λ (x : ℕ). Smaller (best k ss) x) (sym e) (smaller-trans (best k ss) k m (rest k (inl refl)) (f .0))
+    go k f (inr (inl e)) rest = subst (λ (x : ℕ). Smaller (best k ss) x) (sym e) (smaller-trans (best k ss) k t (rest k (inl refl)) (f .1))
     go k f (inr (inr j)) rest = rest s (inr j)
 
 -- ---- the fewest of some sets
@@ -91,7 +91,7 @@ module _ (W : ℕ → Type 0) where
   choose-fewest : (ss : List ℕ) → ((s : ℕ) → In s ss → W s) → ((s : ℕ) → W s → In s ss) → FewestOf W (choose ss)
   unfolding choose
   choose-fewest [] f g = λ s w. g s w
-  choose-fewest (s ∷ ss) f g = (f (best s ss) (best-in s ss), refl, λ u w. best-before s ss u (g u w))
+  choose-fewest (s ∷ ss) f g = (f (best s ss) (best-in s ss), refl, λ u w. best-smaller s ss u (g u w))
 
   pub fewest-only : (a b : Fewest) → FewestOf W a → FewestOf W b → a ≡ b
   fewest-only Over Over h k = refl
@@ -99,7 +99,7 @@ module _ (W : ℕ → Type 0) where
   fewest-only (Few n m) Over h k = absurd (k m (h .0))
   fewest-only (Few n m) (Few i j) h k = go (h .2 j (k .0)) (k .2 m (h .0))
     where
-      go : Before m j → Before j m → Few n m ≡ Few i j
+      go : Smaller m j → Smaller j m → Few n m ≡ Few i j
       go (inl a) (inl b) = let c : ⊥ = omega arith in absurd c
       go (inl a) (inr b) = let c : ⊥ = omega arith in absurd c
       go (inr a) (inl b) = let c : ⊥ = omega arith in absurd c
@@ -107,15 +107,15 @@ module _ (W : ℕ → Type 0) where
 
 -- ---- the sets that work
 
-some-in : (P : ℤ → Type 0) (a : Answer) → Gives P a → (x : ℤ) × P x → T (some a)
-some-in P Contradicted g h = g (h .0) (h .1)
-some-in P Open g h = tt
-some-in P (Between l r) g h = tt
+not-contradicted-in : (P : ℤ → Type 0) (a : Answer) → Gives P a → (x : ℤ) × P x → T (notContradicted a)
+not-contradicted-in P Contradicted g h = g (h .0) (h .1)
+not-contradicted-in P Open g h = tt
+not-contradicted-in P (Between l r) g h = tt
 
-some-out : (P : ℤ → Type 0) (a : Answer) → Gives P a → T (some a) → (x : ℤ) × P x
-some-out P Contradicted g h = absurd h
-some-out P Open g h = (pos 0, g (pos 0))
-some-out P (Between l r) g h = (pos l, g .0)
+not-contradicted-out : (P : ℤ → Type 0) (a : Answer) → Gives P a → T (notContradicted a) → (x : ℤ) × P x
+not-contradicted-out P Contradicted g h = absurd h
+not-contradicted-out P Open g h = (pos 0, g (pos 0))
+not-contradicted-out P (Between l r) g h = (pos l, g .0)
 
 pub fewest-is : (st : State) → FewestOf (Works st) (fewest st)
 unfolding fewest works
@@ -124,8 +124,8 @@ fewest-is st =
     let own = st .head .own in
     choose-fewest (Works st) (keep (works k) (sets own 4))
     (λ s m. let r = keep-out (works k) (sets own 4) s m in
-    (allowed-out 4 own s (r .0), some-out (λ x. Fine s k x) (leaves s k) (leaves-given s k) (r .1)))
-    (λ s w. keep-in (works k) (sets own 4) s (allowed-in 4 own s (w .0)) (some-in (λ x. Fine s k x) (leaves s k) (leaves-given s k) (w .1)))
+    (allowed-out 4 own s (r .0), not-contradicted-out (λ x. Fine s k x) (leaves s k) (leaves-given s k) (r .1)))
+    (λ s w. keep-in (works k) (sets own 4) s (allowed-in 4 own s (w .0)) (not-contradicted-in (λ x. Fine s k x) (leaves s k) (leaves-given s k) (w .1)))
 
 -- ---- what a search finds
 
@@ -149,7 +149,7 @@ module _ (st : State) where
   fewest-found n m w h f g =
       fewest-only (Works st) (Few n m) (fewest st) (w, omega (arith, f m w), λ s v. go s v (decLt (ones m) (ones s))) (fewest-is st)
     where
-      go : (s : ℕ) → Works st s → Dec (ones m < ones s) → Before m s
+      go : (s : ℕ) → Works st s → Dec (ones m < ones s) → Smaller m s
       go s v (yes l) = inl l
       go s v (no l) = inr (omega (arith, f m w, f s v), g s v (omega (arith, f m w)))
 
@@ -157,7 +157,7 @@ module _ (st : State) where
   fewest-over f = fewest-only (Works st) Over (fewest st) f (fewest-is st)
 
   -- an instant counts for no failed name
-  pub fewest-none : some (answer 0 st) ≡ true → Few 0 0 ≡ fewest st
+  pub fewest-none : notContradicted (answer 0 st) ≡ true → Few 0 0 ≡ fewest st
   fewest-none e =
       let w = counted (answer 0 st) (answer-given 0 st) e in
       let c = w .1 in
@@ -166,16 +166,16 @@ module _ (st : State) where
       let works : Works st (c .0) = (a, (w .0, c .2)) in
       fewest-found 0 0 (subst (λ (x : ℕ). Works st x) none works) (omega (arith, ones-empty)) (λ s v. omega arith) (λ s v h. omega arith)
     where
-      counted : (a : Answer) → Gives (Counts 0 st) a → some a ≡ true → (x : ℤ) × Counts 0 st x
+      counted : (a : Answer) → Gives (Counts 0 st) a → notContradicted a ≡ true → (x : ℤ) × Counts 0 st x
       counted Contradicted g q = absurd (subst (λ (b : Bool). T b) (sym q) tt)
       counted Open g q = (pos 0, g (pos 0))
       counted (Between l r) g q = (pos l, g .0)
 
   -- an instant counts for none but failed names
-  pub works-failed : some (answer 0 st) ≡ false → (s : ℕ) → Works st s → 0 < ones s
+  pub works-failed : notContradicted (answer 0 st) ≡ false → (s : ℕ) → Works st s → 0 < ones s
   works-failed e s w = go (decLt 0 (ones s))
     where
-      uncounted : (a : Answer) → Gives (Counts 0 st) a → some a ≡ false → (x : ℤ) → Counts 0 st x → ⊥
+      uncounted : (a : Answer) → Gives (Counts 0 st) a → notContradicted a ≡ false → (x : ℤ) → Counts 0 st x → ⊥
       uncounted Contradicted g q = g
       uncounted Open g q = absurd (subst (λ (b : Bool). T b) q tt)
       uncounted (Between l r) g q = absurd (subst (λ (b : Bool). T b) q tt)

@@ -13,7 +13,7 @@ use Rattle.predicates.specs.Predicates.{holds}
 use Rattle.predicates.proofs.ListLaws.{both, both-l, both-r}
 use Rattle.state.specs.Model.{Datum}
 use Rattle.asking.specs.Instants.{Within, InAll}
-use Rattle.asking.specs.Claims.{inside}
+use Rattle.asking.specs.code.Claims.{inside}
 
 -- ---- intervals
 

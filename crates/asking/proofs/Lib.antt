@@ -1,19 +1,14 @@
--- The laws of asking: instants, what they need, the answer, the answer from the ends of the held intervals, the fewest failures; then the search,
--- by sets and over the flat arrays.
+-- The laws of asking: instants, what they need, the answer, the answer from the ends of the held intervals, the fewest failures; then the
+-- claims in flat arrays, their order, and what a search over them means.
 pub mod InstantLaws
 pub mod ClaimLaws
 pub mod AnswerLaws
 pub mod PlainLaws
 pub mod EndLaws
 pub mod FewestLaws
-pub mod SearchLaws
-pub mod LastLaws
-pub mod PartedLaws
-pub mod SearchSteps
+pub mod PartingLaws
 pub mod TableLaws
 pub mod OrderLaws
-pub mod EndSteps
-pub mod RunLaws
 pub mod ArrayLaws
 pub mod ReadyLaws
 pub mod AskSteps

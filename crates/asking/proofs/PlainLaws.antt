@@ -21,8 +21,8 @@ use Rattle.state.proofs.LayoutLaws.{all-mono}
 use Rattle.state.proofs.StateLaws.{state-out}
 use Rattle.asking.specs.declared.Answer.{Answer}
 use Rattle.asking.specs.declared.Answer.the-variants.{Contradicted, Open, Between}
-use Rattle.asking.specs.Asking.{interval, cut, common, highest, lowest, active, leaves, setsOf, sets, either, leftBy, answer}
-use Rattle.asking.specs.Claims.{everything}
+use Rattle.asking.specs.Asking.{interval, cut, common, greatestLeft, leastRight, active, leaves, setsOf, sets, either, leftBy, answer}
+use Rattle.asking.specs.code.Claims.{everything}
 use Rattle.asking.proofs.ClaimLaws.{claims-in, claims-out}
 
 -- ---- the common part of some intervals
@@ -34,32 +34,32 @@ cut-interval d l r =
     (λ t. let apart = nleb→lt l r t in rw (lt-leb (max l (d .left)) (min r (d .right)) (omega arith)))
 
 -- the order of the ends does not matter
-highest-max : (m n : ℕ) (ds : List Datum) → highest (max m n) ds ≡ max (highest m ds) n
-unfolding highest
-highest-max m n [] = refl
-highest-max m n (d ∷ ds) =
+greatest-left-max : (m n : ℕ) (ds : List Datum) → greatestLeft (max m n) ds ≡ max (greatestLeft m ds) n
+unfolding greatestLeft
+greatest-left-max m n [] = refl
+greatest-left-max m n (d ∷ ds) =
     let e : max (max m n) (d .left) ≡ max (max m (d .left)) n = omega arith in
-    ap (λ (x : ℕ). highest x ds) e ∙ highest-max (max m (d .left)) n ds
+    ap (λ (x : ℕ). greatestLeft x ds) e ∙ greatest-left-max (max m (d .left)) n ds
 
-lowest-min : (m n : ℕ) (ds : List Datum) → lowest (min m n) ds ≡ min (lowest m ds) n
-unfolding lowest
-lowest-min m n [] = refl
-lowest-min m n (d ∷ ds) =
+least-right-min : (m n : ℕ) (ds : List Datum) → leastRight (min m n) ds ≡ min (leastRight m ds) n
+unfolding leastRight
+least-right-min m n [] = refl
+least-right-min m n (d ∷ ds) =
     let e : min (min m n) (d .right) ≡ min (min m (d .right)) n = omega arith in
-    ap (λ (x : ℕ). lowest x ds) e ∙ lowest-min (min m (d .right)) n ds
+    ap (λ (x : ℕ). leastRight x ds) e ∙ least-right-min (min m (d .right)) n ds
 
 -- from the greatest left end to the least right end; m is above every right end
 pub common-interval : (m : ℕ) (ds : List Datum) → 0 < length ds → ((d : Datum) → In d ds → d .right < m)
-    → common ds ≡ interval (highest 0 ds) (lowest m ds)
-unfolding common cut highest lowest
+    → common ds ≡ interval (greatestLeft 0 ds) (leastRight m ds)
+unfolding common cut greatestLeft leastRight
 common-interval m [] h f = absurd (omega arith)
 common-interval m (d ∷ []) h f =
     let l : d .left ≡ max 0 (d .left) = omega arith in
     let r : d .right ≡ min m (d .right) = omega (arith, f d (inl refl)) in
     ap₂ interval l r
 common-interval m (d ∷ e ∷ ds) h f =
-    ap (cut d) (common-interval m (e ∷ ds) (omega arith) (λ c i. f c (inr i))) ∙ cut-interval d (highest 0 (e ∷ ds)) (lowest m (e ∷ ds))
-    ∙ ap₂ interval (sym (highest-max 0 (d .left) (e ∷ ds))) (sym (lowest-min m (d .right) (e ∷ ds)))
+    ap (cut d) (common-interval m (e ∷ ds) (omega arith) (λ c i. f c (inr i))) ∙ cut-interval d (greatestLeft 0 (e ∷ ds)) (leastRight m (e ∷ ds))
+    ∙ ap₂ interval (sym (greatest-left-max 0 (d .left) (e ∷ ds))) (sym (least-right-min m (d .right) (e ∷ ds)))
 
 -- ---- the empty set
 
@@ -115,7 +115,7 @@ module _ (st : State) (bare : T (all (λ p. not (holds 0 p)) (everything (st .st
 
   pub plain-interval : length (st .store .entries) ≡ 0 → 0 < length (st .store .held)
       → ((d : Datum) → In d (st .store .held) → d .right < endLimit)
-      → answer 0 st ≡ interval (highest 0 (st .store .held)) (lowest endLimit (st .store .held))
+      → answer 0 st ≡ interval (greatestLeft 0 (st .store .held)) (leastRight endLimit (st .store .held))
   plain-interval e h f = plain-common e ∙ common-interval endLimit (st .store .held) h f
 
 -- ---- a state in form

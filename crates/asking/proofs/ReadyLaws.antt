@@ -15,15 +15,16 @@ use Rattle.state.specs.Layout.{heldCount, entryCount, zeros, storeOf, stateOf}
 use Rattle.state.specs.Form.{inForm, stateOk, datumOk}
 use Rattle.state.proofs.StateLaws.{state-out, held-count-le, entry-count-le, form-ok}
 use Rattle.state.proofs.OkLaws.{ok-datum-out}
-use Rattle.asking.specs.Tables.{entryClaim, claimAt, Loaded, Bounded, claimLeft, claimRight}
-use Rattle.asking.specs.Ends.{noEnd, Ready, Complete}
+use Rattle.search.specs.code.Search.{Rows}
+use Rattle.asking.specs.code.Tables.{entryClaim, claimAt, Loaded, Bounded, claimLeft, claimRight}
+use Rattle.search.specs.code.LeftEnds.{noEnd, Ready, Complete}
 use Rattle.asking.proofs.TableLaws.{bounded-in}
-use Rattle.asking.proofs.EndSteps.{at-in}
+use Rattle.search.proofs.EndSteps.{at-in}
 use Rattle.asking.proofs.ArrayLaws.{claim-entry, claim-datum}
 
-module _ {k : Store} {n rows : ℕ} {counts masks : List ℕ} (loaded : Loaded k n rows counts masks) (most : rows ≤ 48) where
+module _ {k : Store} {n rows : ℕ} {table : Rows} (loaded : Loaded k n rows table) (most : rows ≤ 48) where
   pub ready-in : (lefts rights order : List ℕ) → Bounded k rows lefts rights → Complete rows order → ((i : ℕ) → i < rows → getD lefts i 0 < noEnd)
-      → Ready n rows lefts rights counts masks order
+      → Ready n rows lefts rights table order
   ready-in lefts rights order bounded complete below =
       record {
         entries-le = omega (arith, loaded .rows-are);
@@ -33,7 +34,7 @@ module _ {k : Store} {n rows : ℕ} {counts masks : List ℕ} (loaded : Loaded k
         below = below;
         empty = λ i h. hollow i (omega (arith, loaded .entries-are)) (bounded .left-is i (omega (arith, loaded .rows-are))) (bounded .right-is i (omega (arith, loaded .rows-are)));
         counted = loaded .counted;
-        narrow = λ i h. loaded .few i h .1;
+        few = λ i h. loaded .few i h .1;
         long = loaded .long;
         ordered = complete .ordered;
         placed = complete .placed;
@@ -48,7 +49,7 @@ module _ {k : Store} {n rows : ℕ} {counts masks : List ℕ} (loaded : Loaded k
 
 -- ---- the ends
 
-module _ (st : State) (ok : T (stateOk st)) {n rows : ℕ} {counts masks : List ℕ} (loaded : Loaded (st .store) n rows counts masks) where
+module _ (st : State) (ok : T (stateOk st)) {n rows : ℕ} {table : Rows} (loaded : Loaded (st .store) n rows table) where
   pub rows-most : rows ≤ 48
   rows-most = let o = state-out st ok in omega (arith, o .held-le, o .entries-le, loaded .rows-are, loaded .entries-are)
 
@@ -71,11 +72,11 @@ module _ (st : State) (ok : T (stateOk st)) {n rows : ℕ} {counts masks : List 
 
 -- ---- what the calls before a search leave of a state in form
 
-pub record Prepared (st : State) (n rows : ℕ) (counts masks order lefts rights : List ℕ) : Type 0 where
-  pub loaded : Loaded (st .store) n rows counts masks
+pub record Prepared (st : State) (n rows : ℕ) (table : Rows) (order lefts rights : List ℕ) : Type 0 where
+  pub loaded : Loaded (st .store) n rows table
   pub bounded : Bounded (st .store) rows lefts rights
   pub complete : Complete rows order
-  pub ready : Ready n rows lefts rights counts masks order
+  pub ready : Ready n rows lefts rights table order
 
 module _ (s : List ℕ) (t : T (inForm s)) (n h : ℕ) (a : n ≡ entryCount s) (b : h ≡ heldCount s) where
   abbrev rows : ℕ
@@ -84,11 +85,11 @@ module _ (s : List ℕ) (t : T (inForm s)) (n h : ℕ) (a : n ≡ entryCount s) 
   pub counts-fit : (n ≤ 32) × (h ≤ 16)
   counts-fit = (omega (arith, entry-count-le s t), omega (arith, held-count-le s t))
 
-  pub prepared-in : (counts masks order lefts rights : List ℕ) → Loaded (storeOf s) n rows counts masks → Complete rows order
+  pub prepared-in : (table : Rows) (order lefts rights : List ℕ) → Loaded (storeOf s) n rows table → Complete rows order
       → lefts ≡ tab rows (λ i. claimLeft s n i) ++ drop rows (zeros 48) → rights ≡ tab rows (λ i. claimRight s n i) ++ drop rows (zeros 48)
-      → Prepared (stateOf s) n rows counts masks order lefts rights
+      → Prepared (stateOf s) n rows table order lefts rights
   unfolding stateOf
-  prepared-in counts masks order lefts rights loaded complete l r =
+  prepared-in table order lefts rights loaded complete l r =
       let room : rows ≤ length (zeros 48) = omega (arith, counts-fit, length-replicate {A = ℕ} 48 0) in
       let bounded : Bounded (storeOf s) rows lefts rights = bounded-in s t n h rows a b refl _ _ lefts rights room room l r in
       let most : rows ≤ 48 = omega (arith, counts-fit) in

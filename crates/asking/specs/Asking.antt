@@ -29,14 +29,14 @@ common [] = Open
 common (d ∷ ds) = cut d (common ds)
 
 -- the greatest of m and the left ends
-unfoldable pub highest : ℕ → List Datum → ℕ
-highest m [] = m
-highest m (d ∷ ds) = highest (max m (d .left)) ds
+unfoldable pub greatestLeft : ℕ → List Datum → ℕ
+greatestLeft m [] = m
+greatestLeft m (d ∷ ds) = greatestLeft (max m (d .left)) ds
 
 -- the least of m and the right ends
-unfoldable pub lowest : ℕ → List Datum → ℕ
-lowest m [] = m
-lowest m (d ∷ ds) = lowest (min m (d .right)) ds
+unfoldable pub leastRight : ℕ → List Datum → ℕ
+leastRight m [] = m
+leastRight m (d ∷ ds) = leastRight (min m (d .right)) ds
 
 -- the data whose predicate the set leaves false
 unfoldable pub active : ℕ → List Datum → List Datum

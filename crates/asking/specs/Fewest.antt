@@ -19,22 +19,22 @@ use Rattle.asking.specs.Asking.{leaves, sets}
 
 -- ---- computed
 
-abbrev pub some : Answer → Bool
-some Contradicted = false
-some Open = true
-some (Between l r) = true
+abbrev pub notContradicted : Answer → Bool
+notContradicted Contradicted = false
+notContradicted Open = true
+notContradicted (Between l r) = true
 
 -- an instant counts for the set
 unfoldable pub works : Store → ℕ → Bool
-works k s = some (leaves s k)
+works k s = notContradicted (leaves s k)
 
 -- "the smallest, and of those the least mask"
-unfoldable pub before : ℕ → ℕ → Bool
-before m s = ltb (ones m) (ones s) || (eqb (ones m) (ones s) && leb m s)
+unfoldable pub smaller : ℕ → ℕ → Bool
+smaller m s = ltb (ones m) (ones s) || (eqb (ones m) (ones s) && leb m s)
 
 unfoldable pub best : ℕ → List ℕ → ℕ
 best m [] = m
-best m (s ∷ ss) = best (cond (before m s) m s) ss
+best m (s ∷ ss) = best (cond (smaller m s) m s) ss
 
 unfoldable pub choose : List ℕ → Fewest
 choose [] = Over
@@ -51,13 +51,13 @@ abbrev pub Works : State → ℕ → Type 0
 Works st s = Allowed 4 (st .head .own) s × ((x : ℤ) × Fine s (st .store) x)
 
 -- the smaller set, and of two of one size the one with the lesser mask
-abbrev pub Before : ℕ → ℕ → Type 0
-Before m s = (ones m < ones s) ⊎ ((ones m ≡ ones s) × (m ≤ s))
+abbrev pub Smaller : ℕ → ℕ → Type 0
+Smaller m s = (ones m < ones s) ⊎ ((ones m ≡ ones s) × (m ≤ s))
 
 -- the fewest of the sets W
 abbrev pub FewestOf : (ℕ → Type 0) → Fewest → Type 0
 FewestOf W Over = (s : ℕ) → W s → ⊥
-FewestOf W (Few n m) = W m × (ones m ≡ n) × ((s : ℕ) → W s → Before m s)
+FewestOf W (Few n m) = W m × (ones m ≡ n) × ((s : ℕ) → W s → Smaller m s)
 
 -- ---- for C: "fewest 16 (count, 5 for over 4; mask, then 0)"
 

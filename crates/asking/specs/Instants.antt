@@ -1,11 +1,11 @@
 -- Instants, and which of them count over a state (document 01, "Asking"). Assumes nothing: these are definitions.
-use Prim.Native.Nat.{ℕ, _^_, _≤_, _<_}
+use Prim.Native.Nat.{ℕ, _≤_, _<_}
 use mathlib.Core.Bool.{not}
 use mathlib.Core.List.{List, [], _∷_}
 use lib.Dec.{T}
 use lib.Count.{ones}
 use lib.IntN.{ℤ, pos, negsuc}
-use Rattle.names.specs.Sets.{has}
+use Rattle.names.specs.Sets.{noSet, has}
 use Rattle.predicates.specs.Lists.{all}
 use Rattle.predicates.specs.Predicates.{holds}
 use Rattle.state.specs.Model.{Datum, Store, State}
@@ -28,7 +28,7 @@ Fine s k x = T (all (holds s) (k .entries)) × InAll s (k .held) x
 
 -- "some set within the limit, without the own name"
 pub record Allowed (limit own s : ℕ) : Type 0 where
-  pub names : s < 2 ^ 29
+  pub names : s < noSet
   pub few : ones s ≤ limit
   pub others : T (not (has own s))
 

@@ -1,7 +1,4 @@
 pub mod Instants
 pub mod Asking
 pub mod Fewest
-pub mod Claims
-pub mod Search
-pub mod Tables
-pub mod Ends
+pub mod code

@@ -4,19 +4,23 @@ ghost use mathlib.Core.List.{_++_};
 ghost use Prim.Native.Nat.{ℕ, _+_, _-_, _≤_, _<_, min, max};
 ghost use lib.Dec.{T};
 ghost use lib.ListN.{length, getD, drop};
-ghost use Rattle.names.specs.Sets.{others};
-ghost use Rattle.numbers.specs.Numbers.{num, tab};
-ghost use Rattle.state.specs.Layout.{heldCount, storeOf, stateOf};
+ghost use Rattle.numbers.specs.Numbers.{tab};
+ghost use Rattle.state.specs.Layout.{heldCount, storeOf, stateOf, stateSize, dataMost, entriesMost};
 ghost use Rattle.state.specs.Form.{inForm};
-ghost use Rattle.asking.specs.Asking.{highest, lowest, answer};
-ghost use Rattle.asking.specs.Fewest.{some};
-ghost use Rattle.asking.specs.Claims.{everything, Explained};
-ghost use Rattle.asking.specs.Tables.{Loaded};
-ghost use Rattle.asking.specs.Ends.{Complete};
+ghost use Rattle.asking.specs.Asking.{greatestLeft, leastRight, answer};
+ghost use Rattle.asking.specs.Fewest.{notContradicted};
+ghost use Rattle.asking.specs.code.Claims.{everything, Explained};
+ghost use Rattle.asking.specs.code.Tables.{Loaded, lastEnd};
+ghost use Rattle.search.specs.code.LeftEnds.{Complete};
 use super::Answer;
+ghost use Rattle.state.specs.Model.{endLimit};
+ghost use Rattle.search.specs.code.Search.{Rows, rowsOf};
+
+// The last end that can be stored.
+const LAST_END: u64 = state::END_LIMIT - 1;
 
 // The ends of an interval, in order or not.
-pub struct Span {
+pub struct Overlap {
     pub left: u64,
     pub right: u64,
 }
@@ -30,7 +34,7 @@ fn greater(a: u64, b: u64) -> u64
     a
 }
 
-fn less(a: u64, b: u64) -> u64
+fn lesser(a: u64, b: u64) -> u64
     ensures { λ r. ⌜ r ≡ min a b ⌝ }
 {
     if b < a {
@@ -40,33 +44,34 @@ fn less(a: u64, b: u64) -> u64
 }
 
 // The greatest left end of the held data and the least right end.
-fn meeting(s: &[u8], h: usize) -> Span
-    requires { ⌜ (3032 ≤ length (now s)) × (h ≡ heldCount (now s)) × (h ≤ 16) ⌝ }
-    ensures { λ r. ⌜ (r .left ≡ highest 0 (storeOf (now (s .entry)) .held)) × (r .right ≡ lowest 288230376151711744 (storeOf (now (s .entry)) .held)) ⌝ }
+fn meeting(s: &[u8], h: usize) -> Overlap
+    requires { ⌜ (stateSize ≤ length (now s)) × (h ≡ heldCount (now s)) × (h ≤ dataMost) ⌝ }
+    ensures { λ r. ⌜ (r .left ≡ greatestLeft 0 (storeOf (now (s .entry)) .held))
+        × (r .right ≡ leastRight endLimit (storeOf (now (s .entry)) .held)) ⌝ }
 {
     let mut left: u64 = 0;
-    let mut right: u64 = 288_230_376_151_711_744;
+    let mut right: u64 = state::END_LIMIT;
     let mut i: usize = 0;
     while i < h {
-        let at = 24 + i * 52;
+        let at = state::DATA_AT + i * state::DATUM_SIZE;
         let l = numbers::get64(s, at);
-        let r = numbers::get64(s, at + 8);
+        let r = numbers::get64(s, at + state::RIGHT_IN);
         left = greater(left, l);
-        right = less(right, r);
+        right = lesser(right, r);
         i += 1;
     }
-    Span { left, right }
+    Overlap { left, right }
 }
 
 // The answer at limit 0, where no name may have failed: what all held intervals have in common, if nothing is known to have failed.
 fn plain(s: &[u8]) -> Answer
-    requires { ⌜ (3032 ≤ length (now s)) × T (inForm (now s)) ⌝ }
+    requires { ⌜ (stateSize ≤ length (now s)) × T (inForm (now s)) ⌝ }
     ensures { λ r. ⌜ r ≡ answer 0 (stateOf (now (s .entry))) ⌝ }
 {
-    if 0 < numbers::get32(s, 20) {
+    if 0 < numbers::get32(s, state::KNOWN_AT) {
         return Answer::Contradicted;
     }
-    let h = numbers::get32(s, 16) as usize;
+    let h = numbers::get32(s, state::HELD_AT) as usize;
     if h == 0 {
         return Answer::Open;
     }
@@ -79,8 +84,8 @@ fn plain(s: &[u8]) -> Answer
 
 // Whether an instant counts where no name has failed.
 pub fn agree(s: &[u8]) -> bool
-    requires { ⌜ (3032 ≤ length (now s)) × T (inForm (now s)) ⌝ }
-    ensures { λ r. ⌜ r ≡ some (answer 0 (stateOf (now (s .entry)))) ⌝ }
+    requires { ⌜ (stateSize ≤ length (now s)) × T (inForm (now s)) ⌝ }
+    ensures { λ r. ⌜ r ≡ notContradicted (answer 0 (stateOf (now (s .entry)))) ⌝ }
 {
     match plain(s) {
         Answer::Contradicted => false,
@@ -92,14 +97,14 @@ pub fn agree(s: &[u8]) -> bool
 // The ends as seen from 2^58 - 1, so that the right ends are left ones and their falling is a rising.
 fn mirror(lefts: &[u64], rights: &[u64], rows: usize, low: &mut [u64], high: &mut [u64])
     requires { ⌜ (rows ≤ length (now lefts)) × (rows ≤ length (now rights)) × (rows ≤ length (now low)) × (rows ≤ length (now high)) ⌝ }
-    requires { ⌜ ((i : ℕ) → i < rows → (getD (now lefts) i 0 ≤ 288230376151711743) × (getD (now rights) i 0 ≤ 288230376151711743)) ⌝ }
-    ensures { λ _. ⌜ now (low .exit) ≡ tab rows (λ i. 288230376151711743 - getD (now (rights .entry)) i 0) ++ drop rows (now (low .entry)) ⌝ }
-    ensures { λ _. ⌜ now (high .exit) ≡ tab rows (λ i. 288230376151711743 - getD (now (lefts .entry)) i 0) ++ drop rows (now (high .entry)) ⌝ }
+    requires { ⌜ ((i : ℕ) → i < rows → (getD (now lefts) i 0 ≤ lastEnd) × (getD (now rights) i 0 ≤ lastEnd)) ⌝ }
+    ensures { λ _. ⌜ now (low .exit) ≡ tab rows (λ i. lastEnd - getD (now (rights .entry)) i 0) ++ drop rows (now (low .entry)) ⌝ }
+    ensures { λ _. ⌜ now (high .exit) ≡ tab rows (λ i. lastEnd - getD (now (lefts .entry)) i 0) ++ drop rows (now (high .entry)) ⌝ }
 {
     let mut i: usize = 0;
     while i < rows {
-        low[i] = 288_230_376_151_711_743 - rights[i];
-        high[i] = 288_230_376_151_711_743 - lefts[i];
+        low[i] = LAST_END - rights[i];
+        high[i] = LAST_END - lefts[i];
         i += 1;
     }
 }
@@ -111,24 +116,31 @@ fn between(
     rows: usize,
     counts: &[u32],
     masks: &[u32],
+    several: &[u32],
+    rests: &[u32],
+    singles: &[u32],
     order: &[u32],
     limit: u32,
-    free: u32,
 ) -> Answer
-    requires { ⌜ (3032 ≤ length (now s)) × T (inForm (now s)) × (n ≤ 32) × (rows ≤ n + 16) ⌝ }
-    requires { ⌜ Loaded (storeOf (now s)) n rows (now counts) (now masks) × Complete rows (now order) × (free ≡ others (num 0 4 (now s))) ⌝ }
+    requires { ⌜ (stateSize ≤ length (now s)) × T (inForm (now s)) × (n ≤ entriesMost) × (rows ≤ n + dataMost) ⌝ }
+    requires { ⌜ (let t : Rows = rowsOf (now counts) (now masks) (now several) (now rests) (now singles) in
+        Loaded (storeOf (now s)) n rows t × Complete rows (now order)) ⌝ }
     requires { ⌜ (Explained limit (stateOf (now s)) (everything (storeOf (now s))) → ⊥) ⌝ }
     ensures { λ r. ⌜ r ≡ answer limit (stateOf (now (s .entry))) ⌝ }
 {
-    let mut lefts = [0u64; 48];
-    let mut rights = [0u64; 48];
+    let mut lefts = [0u64; search::ROWS_MOST];
+    let mut rights = [0u64; search::ROWS_MOST];
     super::claims::get_ends(s, n, rows, &mut lefts, &mut rights);
-    let mut listed = [0u32; 48];
-    let left = super::ends::first_end(
+    let mut listed = [0u32; search::ROWS_MOST];
+    let free = names::others(numbers::get32(s, state::OWN_AT));
+    let left = search::ends::first_end(
         &lefts,
         &rights,
         counts,
         masks,
+        several,
+        rests,
+        singles,
         order,
         &mut listed,
         n,
@@ -136,17 +148,20 @@ fn between(
         limit,
         free,
     );
-    if 536870912 <= left.set {
+    if names::NO_SET <= left.set {
         return Answer::Contradicted;
     }
-    let mut low = [0u64; 48];
-    let mut high = [0u64; 48];
+    let mut low = [0u64; search::ROWS_MOST];
+    let mut high = [0u64; search::ROWS_MOST];
     mirror(&lefts, &rights, rows, &mut low, &mut high);
-    let right = super::ends::first_end(
+    let right = search::ends::first_end(
         &low,
         &high,
         counts,
         masks,
+        several,
+        rests,
+        singles,
         order,
         &mut listed,
         n,
@@ -154,40 +169,67 @@ fn between(
         limit,
         free,
     );
-    Answer::Between(left.end, 288_230_376_151_711_743 - right.end)
+    Answer::Between(left.end, LAST_END - right.end)
 }
 
 // The answer over a state in form.
 pub fn ask(s: &[u8], limit: u32) -> Answer
-    requires { ⌜ (3032 ≤ length (now s)) × T (inForm (now s)) ⌝ }
+    requires { ⌜ (stateSize ≤ length (now s)) × T (inForm (now s)) ⌝ }
     ensures { λ r. ⌜ r ≡ answer limit (stateOf (now (s .entry))) ⌝ }
 {
     if limit == 0 {
         return plain(s);
     }
-    let own = numbers::get32(s, 0);
-    let h = numbers::get32(s, 16) as usize;
-    let n = numbers::get32(s, 20) as usize;
+    let own = numbers::get32(s, state::OWN_AT);
+    let h = numbers::get32(s, state::HELD_AT) as usize;
+    let n = numbers::get32(s, state::KNOWN_AT) as usize;
     let rows = n + h;
-    let mut counts = [0u32; 144];
-    let mut masks = [0u32; 1536];
-    let mut order = [0u32; 48];
-    super::claims::load(s, n, rows, &mut counts, &mut masks, &mut order);
+    let mut counts = [0u32; search::ROWS_MOST];
+    let mut masks = [0u32; search::MASKS_MOST];
+    let mut several = [0u32; search::ROWS_MOST];
+    let mut rests = [0u32; search::MASKS_MOST];
+    let mut singles = [0u32; search::ROWS_MOST];
+    let mut order = [0u32; search::ROWS_MOST];
+    super::claims::load(
+        s,
+        n,
+        rows,
+        &mut counts,
+        &mut masks,
+        &mut several,
+        &mut rests,
+        &mut singles,
+        &mut order,
+    );
     let free = names::others(own);
-    let set = super::search::predicate_step(
+    let set = search::search::predicate_step(
         &order,
         &counts,
         &masks,
+        &several,
+        &rests,
+        &singles,
         rows,
         limit,
-        536870912,
+        names::NO_SET,
         0,
         0,
         free,
-        536870912,
+        names::NO_SET,
     );
-    if set < 536870912 {
+    if set < names::NO_SET {
         return Answer::Open;
     }
-    between(s, n, rows, &counts, &masks, &order, limit, free)
+    between(
+        s,
+        n,
+        rows,
+        &counts,
+        &masks,
+        &several,
+        &rests,
+        &singles,
+        &order,
+        limit,
+    )
 }

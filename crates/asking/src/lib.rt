@@ -3,9 +3,7 @@
 
 pub mod ask;
 pub mod claims;
-pub mod ends;
 pub mod failures;
-pub mod search;
 
 // What asking answers.
 pub enum Answer {

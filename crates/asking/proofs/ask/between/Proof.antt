@@ -1,58 +1,106 @@
 -- `asking::ask::between` meets its contract: both searches over the ends find what the answer is made of (`AskSteps`).
+use mathlib.Core.Path.{ap, _∙_}
 use native.Mathlib.Omega.{arith}
-use Rattle.asking.proofs.AskSteps.{rows-fit, ends-bounded, ends-low, ends-ready, mirror-ready, between-none, between-room, between-is, free-lt}
+use Rattle.names.specs.Sets.{others}
+use Rattle.asking.proofs.AskSteps.{own-fits, rows-fit, ends-bounded, ends-low, ends-ready, mirror-ready, between-none, between-room, between-is, free-lt}
 use borrow.Author.Needs.{needs}
 use Rattle.asking.proofs.ask.between.Statement.{statement}
 use Rattle.asking.proofs.ask.between.Tie as tie
 
+others-requires : tie.Need-others-requires
+others-requires c κs = let a = c .before .before .before .before .before .before .before .before .before .before .before .before .before in omega (arith, c .get32 .ensures .0, own-fits (a .args .s .now) (a .pre .0 .1))
+
 first-end-requires : tie.Need-first-end-requires
 first-end-requires c κs =
-    let at-ends = c .before .before .before .before .before in
-    let a = at-ends .before .before .before .before .before .before .before in
-    let fit = rows-fit _ (a .pre .0 .1) _ _ _ _ _ (a .pre .1 .0 .0) (a .pre .1 .0 .1) in
-    (ends-ready _ (a .pre .0 .1) _ _ _ _ _ (a .pre .1 .0 .0) (a .pre .1 .0 .1) _ _ _ _ fit fit (at-ends .get-ends .ensures .0) (at-ends .get-ends .ensures .1), fit, free-lt _ _ (a .pre .1 .0 .2))
+    let at-ends = c .before .before .before .before .before .before .before in
+    let a = at-ends .before .before .before .before .before .before .before .before .before .before in
+    let form = a .pre .0 .1 in
+    let loaded = a .pre .1 .0 .0 in
+    let complete = a .pre .1 .0 .1 in
+    let fit = rows-fit _ form _ _ _ _ loaded complete in
+    let lefts = at-ends .get-ends .ensures .0 in
+    let rights = at-ends .get-ends .ensures .1 in
+    let at-free = c .before .before .before in
+    (ends-ready _ form _ _ _ _ loaded complete _ _ _ _ fit fit lefts rights, fit, free-lt _ _ (at-free .others .ensures))
 
 returns : tie.Need-returns
 returns c =
-    let at-ends = c .before .before .before .before .before .before .before .before .before in
-    let a = at-ends .before .before .before .before .before .before .before in
-    let fit = rows-fit _ (a .pre .0 .1) _ _ _ _ _ (a .pre .1 .0 .0) (a .pre .1 .0 .1) in
-    between-none _ (a .pre .0 .1) _ _ _ _ _ (a .pre .1 .0 .0) (a .pre .1 .0 .1) _ _ _ _ fit fit (at-ends .get-ends .ensures .0) (at-ends .get-ends .ensures .1) _ _ (a .pre .1 .0 .2) (a .pre .1 .1) _ _ (c .before .before .before .first-end .ensures .0) (c .if1 .taken)
+    let at-ends = c .before .before .before .before .before .before .before .before .before .before .before in
+    let a = at-ends .before .before .before .before .before .before .before .before .before .before in
+    let form = a .pre .0 .1 in
+    let loaded = a .pre .1 .0 .0 in
+    let complete = a .pre .1 .0 .1 in
+    let fit = rows-fit _ form _ _ _ _ loaded complete in
+    let lefts = at-ends .get-ends .ensures .0 in
+    let rights = at-ends .get-ends .ensures .1 in
+    let at-free = c .before .before .before .before .before .before .before in
+    let free-is = at-free .others .ensures ∙ ap others (at-free .before .get32 .ensures .0) in
+    between-none _ form _ _ _ _ loaded complete _ _ _ _ fit fit lefts rights _ _ free-is (a .pre .1 .1) _ _ (c .before .before .before .first-end .ensures .0) (c .if1 .taken)
 
 mirror-requires : tie.Need-mirror-requires
 mirror-requires c κs =
-    let at-ends = c .before .before .before .before .before .before .before .before .before .before .before .before .before in
-    let a = at-ends .before .before .before .before .before .before .before in
-    let fit = rows-fit _ (a .pre .0 .1) _ _ _ _ _ (a .pre .1 .0 .0) (a .pre .1 .0 .1) in
-    let w = ends-bounded _ (a .pre .0 .1) _ _ _ _ _ (a .pre .1 .0 .0) (a .pre .1 .0 .1) _ _ _ _ fit fit (at-ends .get-ends .ensures .0) (at-ends .get-ends .ensures .1) in
-    ((w .lefts-long, w .rights-long, fit, fit), ends-low _ (a .pre .0 .1) _ _ _ _ _ (a .pre .1 .0 .0) (a .pre .1 .0 .1) _ _ _ _ fit fit (at-ends .get-ends .ensures .0) (at-ends .get-ends .ensures .1))
+    let at-ends = c .before .before .before .before .before .before .before .before .before .before .before .before .before .before .before in
+    let a = at-ends .before .before .before .before .before .before .before .before .before .before in
+    let form = a .pre .0 .1 in
+    let loaded = a .pre .1 .0 .0 in
+    let complete = a .pre .1 .0 .1 in
+    let fit = rows-fit _ form _ _ _ _ loaded complete in
+    let lefts = at-ends .get-ends .ensures .0 in
+    let rights = at-ends .get-ends .ensures .1 in
+    let w = ends-bounded _ form _ _ _ _ loaded complete _ _ _ _ fit fit lefts rights in
+    ((w .lefts-long, w .rights-long, fit, fit), ends-low _ form _ _ _ _ loaded complete _ _ _ _ fit fit lefts rights)
 
 first-end-requires-2 : tie.Need-first-end-requires-2
 first-end-requires-2 c κs =
-    let at-mirror = c .before .before .before .before .before in
-    let at-ends = at-mirror .before .before .before .before .before .before .before .before .before .before .before .before .before .before in
-    let a = at-ends .before .before .before .before .before .before .before in
-    let fit = rows-fit _ (a .pre .0 .1) _ _ _ _ _ (a .pre .1 .0 .0) (a .pre .1 .0 .1) in
-    let at-first = at-mirror .before .before .before .before .before .before .before .before in
-    (mirror-ready _ (a .pre .0 .1) _ _ _ _ _ (a .pre .1 .0 .0) (a .pre .1 .0 .1) _ _ _ _ fit fit (at-ends .get-ends .ensures .0) (at-ends .get-ends .ensures .1) _ _ _ _ fit fit (at-mirror .mirror .ensures .0) (at-mirror .mirror .ensures .1), omega (arith, at-first .first-end .ensures .1, fit), free-lt _ _ (a .pre .1 .0 .2))
+    let at-ends = c .before .before .before .before .before .before .before .before .before .before .before .before .before .before .before .before .before .before .before .before .before in
+    let a = at-ends .before .before .before .before .before .before .before .before .before .before in
+    let form = a .pre .0 .1 in
+    let loaded = a .pre .1 .0 .0 in
+    let complete = a .pre .1 .0 .1 in
+    let fit = rows-fit _ form _ _ _ _ loaded complete in
+    let lefts = at-ends .get-ends .ensures .0 in
+    let rights = at-ends .get-ends .ensures .1 in
+    let at-free = c .before .before .before .before .before .before .before .before .before .before .before .before .before .before .before .before .before in
+    let mirror = c .before .before .before .before .before .mirror .ensures in
+    let at-first = c .before .before .before .before .before .before .before .before .before .before .before .before .before in (
+      mirror-ready _ form _ _ _ _ loaded complete _ _ _ _ fit fit lefts rights _ _ _ _ fit fit (mirror .0) (mirror .1),
+      omega (arith, at-first .first-end .ensures .1, fit),
+      free-lt _ _ (at-free .others .ensures),
+    )
 
-sub-t42 : tie.Need-sub-t42
-sub-t42 c =
-    let at-mirror = c .before .before .before .before .before .before .before .before in
-    let at-ends = at-mirror .before .before .before .before .before .before .before .before .before .before .before .before .before .before in
-    let a = at-ends .before .before .before .before .before .before .before in
-    let fit = rows-fit _ (a .pre .0 .1) _ _ _ _ _ (a .pre .1 .0 .0) (a .pre .1 .0 .1) in
-    let at-first = at-mirror .before .before .before .before .before .before .before .before in
-    between-room _ (a .pre .0 .1) _ _ _ _ _ (a .pre .1 .0 .0) (a .pre .1 .0 .1) _ _ _ _ fit fit (at-ends .get-ends .ensures .0) (at-ends .get-ends .ensures .1) _ _ _ _ fit fit (at-mirror .mirror .ensures .0) (at-mirror .mirror .ensures .1) _ _ (a .pre .1 .0 .2) (a .pre .1 .1) _ _ _ _ (at-first .first-end .ensures .0) (c .before .before .before .before .before .before .before .before .before .before .before .before .before .if1 .left) (c .before .before .first-end2 .ensures .0)
+sub-t46 : tie.Need-sub-t46
+sub-t46 c =
+    let at-ends = c .before .before .before .before .before .before .before .before .before .before .before .before .before .before .before .before .before .before .before .before .before .before .before .before in
+    let a = at-ends .before .before .before .before .before .before .before .before .before .before in
+    let form = a .pre .0 .1 in
+    let loaded = a .pre .1 .0 .0 in
+    let complete = a .pre .1 .0 .1 in
+    let fit = rows-fit _ form _ _ _ _ loaded complete in
+    let lefts = at-ends .get-ends .ensures .0 in
+    let rights = at-ends .get-ends .ensures .1 in
+    let at-free = c .before .before .before .before .before .before .before .before .before .before .before .before .before .before .before .before .before .before .before .before in
+    let free-is = at-free .others .ensures ∙ ap others (at-free .before .get32 .ensures .0) in
+    let mirror = c .before .before .before .before .before .before .before .before .mirror .ensures in
+    let at-first = c .before .before .before .before .before .before .before .before .before .before .before .before .before .before .before .before in
+    between-room _ form _ _ _ _ loaded complete _ _ _ _ fit fit lefts rights _ _ _ _ fit fit (mirror .0) (mirror .1) _ _ free-is (a .pre .1 .1) _ _ _ _ (at-first .first-end .ensures .0)
+    (c .before .before .before .before .before .before .before .before .before .before .before .before .before .if1 .left) (c .before .before .first-end2 .ensures .0)
 
 returns-2 : tie.Need-returns-2
 returns-2 c =
-    let at-mirror = c .before .before .before .before .before .before .before .before in
-    let at-ends = at-mirror .before .before .before .before .before .before .before .before .before .before .before .before .before .before in
-    let a = at-ends .before .before .before .before .before .before .before in
-    let fit = rows-fit _ (a .pre .0 .1) _ _ _ _ _ (a .pre .1 .0 .0) (a .pre .1 .0 .1) in
-    let at-first = at-mirror .before .before .before .before .before .before .before .before in
-    between-is _ (a .pre .0 .1) _ _ _ _ _ (a .pre .1 .0 .0) (a .pre .1 .0 .1) _ _ _ _ fit fit (at-ends .get-ends .ensures .0) (at-ends .get-ends .ensures .1) _ _ _ _ fit fit (at-mirror .mirror .ensures .0) (at-mirror .mirror .ensures .1) _ _ (a .pre .1 .0 .2) (a .pre .1 .1) _ _ _ _ (at-first .first-end .ensures .0) (c .before .before .before .before .before .before .before .before .before .before .before .before .before .if1 .left) (c .before .before .first-end2 .ensures .0)
+    let at-ends = c .before .before .before .before .before .before .before .before .before .before .before .before .before .before .before .before .before .before .before .before .before .before .before .before in
+    let a = at-ends .before .before .before .before .before .before .before .before .before .before in
+    let form = a .pre .0 .1 in
+    let loaded = a .pre .1 .0 .0 in
+    let complete = a .pre .1 .0 .1 in
+    let fit = rows-fit _ form _ _ _ _ loaded complete in
+    let lefts = at-ends .get-ends .ensures .0 in
+    let rights = at-ends .get-ends .ensures .1 in
+    let at-free = c .before .before .before .before .before .before .before .before .before .before .before .before .before .before .before .before .before .before .before .before in
+    let free-is = at-free .others .ensures ∙ ap others (at-free .before .get32 .ensures .0) in
+    let mirror = c .before .before .before .before .before .before .before .before .mirror .ensures in
+    let at-first = c .before .before .before .before .before .before .before .before .before .before .before .before .before .before .before .before in
+    between-is _ form _ _ _ _ loaded complete _ _ _ _ fit fit lefts rights _ _ _ _ fit fit (mirror .0) (mirror .1) _ _ free-is (a .pre .1 .1) _ _ _ _ (at-first .first-end .ensures .0)
+    (c .before .before .before .before .before .before .before .before .before .before .before .before .before .if1 .left) (c .before .before .first-end2 .ensures .0)
 
 pub between-spec : {M : Type 1} → statement M
 between-spec =
@@ -61,6 +109,8 @@ between-spec =
     (λ c. search needs)
     (λ c. search needs)
     (λ c κs. search needs)
+    (λ c κs. search needs)
+    others-requires
     (λ c. search needs)
     (λ c. search needs)
     (λ c. search needs)
@@ -75,5 +125,5 @@ between-spec =
     (λ c. search needs)
     (λ c. search needs)
     first-end-requires-2
-    sub-t42
+    sub-t46
     returns-2)

@@ -5,16 +5,16 @@ use mathlib.Core.Path.{_≡_, refl, sym, _∙_}
 use native.Mathlib.Omega.{arith}
 use lib.ListN.{drop}
 use Rattle.state.specs.Layout.{heldCount, storeOf}
-use Rattle.asking.specs.Asking.{highest, lowest}
-use Rattle.asking.proofs.AskSteps.{highest-turn, highest-done, lowest-turn, lowest-done}
+use Rattle.asking.specs.Asking.{greatestLeft, leastRight}
+use Rattle.asking.proofs.AskSteps.{greatest-left-turn, greatest-left-done, least-right-turn, least-right-done}
 use borrow.Author.Needs.{needs}
 use Rattle.asking.proofs.ask.meeting.Statement.{statement}
 use Rattle.asking.proofs.ask.meeting.Tie as tie
 
 abbrev Inv-loop : tie.InvT-loop
 Inv-loop s h left₀ right₀ i₀ left right i =
-    (i ≤ h) × (highest left (drop i (storeOf s .held)) ≡ highest 0 (storeOf s .held))
-    × (lowest right (drop i (storeOf s .held)) ≡ lowest 288230376151711744 (storeOf s .held))
+    (i ≤ h) × (greatestLeft left (drop i (storeOf s .held)) ≡ greatestLeft 0 (storeOf s .held))
+    × (leastRight right (drop i (storeOf s .held)) ≡ leastRight 288230376151711744 (storeOf s .held))
 
 abbrev μ-loop : tie.MeasureT-loop
 μ-loop s h left₀ right₀ i₀ left right i = h - i
@@ -29,8 +29,8 @@ loop-again c =
     let i = head .loop .i in
     let h : i < heldCount (a .args .s .now) = omega (arith, a .pre .1, c .before .before .before .before .loop-test .taken) in (
       search needs,
-      highest-turn (a .args .s .now) i h _ _ _ (c .before .before .before .get64 .ensures .0) (c .before .greater .ensures) ∙ head .loop .inv .1,
-      lowest-turn (a .args .s .now) i h _ _ _ (c .before .before .get642 .ensures .0) (c .less .ensures) ∙ head .loop .inv .2,
+      greatest-left-turn (a .args .s .now) i h _ _ _ (c .before .before .before .get64 .ensures .0) (c .before .greater .ensures) ∙ head .loop .inv .1,
+      least-right-turn (a .args .s .now) i h _ _ _ (c .before .before .get642 .ensures .0) (c .lesser .ensures) ∙ head .loop .inv .2,
     )
 
 returns : tie.Need-returns Inv-loop μ-loop
@@ -38,8 +38,8 @@ returns c =
     let head = c .before in
     let a = head .before .before in
     let done : heldCount (a .args .s .now) ≤ head .loop .i = omega (arith, a .pre .1, c .loop-test .left) in (
-      sym (highest-done (a .args .s .now) (head .loop .i) (head .loop .left) done) ∙ head .loop .inv .1,
-      sym (lowest-done (a .args .s .now) (head .loop .i) (head .loop .right) done) ∙ head .loop .inv .2,
+      sym (greatest-left-done (a .args .s .now) (head .loop .i) (head .loop .left) done) ∙ head .loop .inv .1,
+      sym (least-right-done (a .args .s .now) (head .loop .i) (head .loop .right) done) ∙ head .loop .inv .2,
     )
 
 pub meeting-spec : {M : Type 1} → statement M

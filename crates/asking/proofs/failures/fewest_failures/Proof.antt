@@ -7,6 +7,7 @@ use lib.ListN.{length}
 use Rattle.names.specs.Sets.{others}
 use Rattle.state.specs.Layout.{headOf, stateOf}
 use Rattle.state.proofs.StateLaws.{form-ok, state-out}
+use Rattle.search.specs.code.Search.{rowsMost, rowsOf}
 use Rattle.asking.proofs.ReadyLaws.{Prepared, counts-fit, prepared-in}
 use Rattle.asking.proofs.FewestLaws.{fewest-none}
 use Rattle.asking.proofs.FailureSteps.{Floor, floor-one, floor-found, floor-next, floor-over}
@@ -15,19 +16,36 @@ use Rattle.asking.proofs.failures.fewest_failures.Statement.{statement}
 use Rattle.asking.proofs.failures.fewest_failures.Tie as tie
 
 abbrev Inv-loop : tie.InvT-loop
-Inv-loop s own h n rows counts masks order lefts rights free listed₀ limit₀ listed limit =
-    (length listed ≡ 48) × (limit ≤ 5) × Prepared (stateOf s) n rows counts masks order lefts rights × (free ≡ others (stateOf s .head .own))
-    × Floor (stateOf s) limit
+Inv-loop s own h n rows counts masks several rests singles order lefts rights free listed₀ limit₀ listed limit =
+    (length listed ≡ rowsMost) × (limit ≤ 5) × Prepared (stateOf s) n rows (rowsOf counts masks several rests singles) order lefts rights
+    × (free ≡ others (stateOf s .head .own)) × Floor (stateOf s) limit
 
 abbrev μ-loop : tie.MeasureT-loop
-μ-loop s own h n rows counts masks order lefts rights free listed₀ limit₀ listed limit = 5 - limit
+μ-loop s own h n rows counts masks several rests singles order lefts rights free listed₀ limit₀ listed limit = 5 - limit
 
 returns : tie.Need-returns Inv-loop μ-loop
 returns c = fewest-none _ (sym (c .before .agree .ensures) ∙ c .if1 .taken)
 
+load-requires : tie.Need-load-requires Inv-loop μ-loop
+load-requires c κs =
+    let at-n = c .before .before .before .before .before .before in
+    let a = at-n .before .before .before .before .before .before in (
+      (a .pre .0, a .pre .1, at-n .get323 .ensures .0, omega (arith, at-n .get323 .ensures .0, at-n .before .get322 .ensures .0)),
+      (
+        record {
+          counts-long = search needs;
+          masks-long = search needs;
+          several-long = search needs;
+          rests-long = search needs;
+          singles-long = search needs;
+        },
+        search needs,
+      ),
+    )
+
 get-ends-requires : tie.Need-get-ends-requires Inv-loop μ-loop
 get-ends-requires c κs =
-    let at-n = c .before .before .before .before .before .before .before .before .before in
+    let at-n = c .before .before .before .before .before .before .before .before .before .before .before .before .before .before .before in
     let a = at-n .before .before .before .before .before .before in
     let fit = counts-fit _ (a .pre .1) _ _ (at-n .get323 .ensures .0) (at-n .before .get322 .ensures .0) in
     (a .pre .0, omega arith, omega arith, omega arith, omega arith)
@@ -35,7 +53,7 @@ get-ends-requires c κs =
 others-requires : tie.Need-others-requires Inv-loop μ-loop
 unfolding stateOf headOf
 others-requires c κs =
-    let at-own = c .before .before .before .before .before .before .before .before .before .before .before .before .before .before in
+    let at-own = c .before .before .before .before .before .before .before .before .before .before .before .before .before .before .before .before .before .before .before .before in
     let a = at-own .before .before .before .before in
     omega (arith, at-own .get32 .ensures .0, state-out _ (form-ok _ (a .pre .1)) .own-le)
 
@@ -43,13 +61,13 @@ loop-holds : tie.Need-loop-holds Inv-loop μ-loop
 unfolding stateOf headOf
 loop-holds c =
     let at-ends = c .before .before .before in
-    let at-load = at-ends .before .before .before .before .before .before in
-    let at-n = at-load .before .before .before .before in
+    let at-load = at-ends .before .before .before .before .before .before .before .before .before in
+    let at-n = at-load .before .before .before .before .before .before .before in
     let a = at-n .before .before .before .before .before .before in
     let load = at-load .load .ensures in (
       refl,
       omega arith,
-      prepared-in _ (a .pre .1) _ _ (at-n .get323 .ensures .0) (at-n .before .get322 .ensures .0) _ _ _ _ _ (load .0) (load .1)
+      prepared-in _ (a .pre .1) _ _ (at-n .get323 .ensures .0) (at-n .before .get322 .ensures .0) _ _ _ _ (load .0) (load .1)
           (at-ends .get-ends .ensures .0) (at-ends .get-ends .ensures .1),
       c .others .ensures ∙ ap others (at-n .before .before .get32 .ensures .0),
       floor-one _ (sym (at-n .before .before .before .before .agree .ensures) ∙ at-n .before .before .before .if1 .left),
@@ -57,20 +75,20 @@ loop-holds c =
 
 least-within-requires : tie.Need-least-within-requires Inv-loop μ-loop
 least-within-requires c κs =
-    let head = c .before .before .before .before .before .before .before in
+    let head = c .before .before .before .before .before .before .before .before .before .before in
     let ready = head .loop .inv .2 .ready in (ready, omega (arith, ready .most, head .loop .inv .0))
 
 returns-2 : tie.Need-returns-2 Inv-loop μ-loop
 returns-2 c =
-    let head = c .before .before .before .before .before .before .before .before .before .before in
+    let head = c .before .before .before .before .before .before .before .before .before .before .before .before .before in
     let inv = head .loop .inv in
     floor-found (inv .2) (omega arith) (rw (inv .3) at (c .before .before .least-within .ensures)) (inv .4) (c .if2 .taken)
 
 loop-again : tie.Need-loop-again Inv-loop μ-loop
 loop-again c =
-    let head = c .before .before .before .before .before .before .before .before .before .before in
+    let head = c .before .before .before .before .before .before .before .before .before .before .before .before .before in
     let inv = head .loop .inv in (
-      c .before .before .least-within .kept .1 .1 .1 .1 .1 .0 ∙ inv .0,
+      c .before .before .least-within .kept .1 .1 .1 .1 .1 .1 .1 .1 .0 ∙ inv .0,
       omega arith,
       inv .2,
       inv .3,
@@ -100,12 +118,18 @@ fewest-failures-spec =
     (λ c. search needs)
     (λ c. search needs)
     (λ c. search needs)
-    (λ c κs. search needs)
+    (λ c. search needs)
+    (λ c. search needs)
+    (λ c. search needs)
+    load-requires
     (λ c. search needs)
     (λ c. search needs)
     get-ends-requires
     others-requires
     loop-holds
+    (λ c. search needs)
+    (λ c. search needs)
+    (λ c. search needs)
     (λ c. search needs)
     (λ c. search needs)
     (λ c. search needs)

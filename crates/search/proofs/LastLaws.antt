@@ -1,0 +1,242 @@
+-- The last name: with one name left to add, the sets that fit are s with one of the names that alone do for every predicate that s leaves false.
+-- The idea: a set that fits and makes such a predicate true holds s joined with a term of it, which has a name more than s and so no fewer than
+-- the set: they are the same. No contract cites this file. Assumes nothing.
+use Prim.Native.Nat.{ℕ, _+_, _≤_, _<_, min}
+use mathlib.Core.Path.{_≡_, refl, sym, ap, subst, _∙_}
+use mathlib.Core.Logic.{_⊎_, inl, inr, ⊎-elim}
+use mathlib.Core.Bool.{not, cond}
+use mathlib.Core.List.{List, [], _∷_}
+use native.Mathlib.Nat.{le-trans}
+use native.Mathlib.Omega.{arith}
+use lib.Dec.{T, T-not, eqb, leb, leb→le, le→leb}
+use borrow.Author.Tests.{eq-eqb, ne-eqb}
+use lib.Count.{ones}
+use Rattle.names.specs.Sets.{subset, union, shared, less, lowest}
+use Rattle.names.proofs.SetLaws.{subset-refl, subset-trans, subset-antisym, union-left, union-right, union-least, ones-mono, ones-union}
+use Rattle.numbers.proofs.NumberLaws.{above-zero}
+use Rattle.names.proofs.PartLaws.{without-one, adds-none, adds-some, adds-one, one-added, shared-left, shared-right, shared-greatest, less-subset, less-mono, less-add, less-apart, union-add, subset-same, ones-more, single-part, lowest-least, lowest-in, lowest-one}
+use Rattle.predicates.specs.Lists.{all, In}
+use Rattle.predicates.specs.Predicates.{holds}
+use Rattle.predicates.proofs.ListLaws.{both, both-l, both-r, cond-ind}
+use Rattle.predicates.proofs.PredicateLaws.{holds-in, holds-out, holds-mono}
+use Rattle.search.specs.code.Search.{Fits, Best, gather, alone, narrowed}
+use Rattle.search.proofs.SearchLaws.{best-none, best-of}
+
+-- what is free once a term was tried: v is what it adds
+module _ (s t free v : ℕ) (a : v ≡ less t s) where
+  abbrev after : ℕ
+  after = cond (eqb (ones (union s t)) (ones s + 1)) (less free t) free
+
+  pub freed-none : v ≡ 0 → free ≡ after
+  freed-none z =
+      let held = union-least s t s (subset-refl s) (adds-none s t (sym a ∙ z)) in
+      rw (ne-eqb (ones (union s t)) (ones s + 1) (λ e. omega (arith, e, ones-mono (union s t) s held))) refl
+
+  module _ (f : v ≡ 0 → ⊥) where
+    some : 0 < less t s
+    some = rw a at (above-zero f)
+
+    pub freed-one : v ≡ lowest v → (r : ℕ) → r ≡ less free t → r ≡ after
+    freed-one k r e =
+        let more = ones-more s (union s t) (union-left s t) (λ q.
+        adds-some s t (λ z. f (a ∙ z)) (subst (λ (x : ℕ). T (subset t x)) (sym q) (union-right s t))) in
+        rw (eq-eqb (ones (union s t)) (ones s + 1) (omega (arith, more, adds-one s t some (sym a ∙ k ∙ ap lowest a)))) e
+
+    pub freed-more : (v ≡ lowest v → ⊥) → free ≡ after
+    freed-more k =
+        rw (ne-eqb (ones (union s t)) (ones s + 1) (λ e. k (a ∙ one-added s t some (omega (arith, e)) ∙ ap lowest (sym a)))) refl
+
+module _ (limit s : ℕ) (last : ones s + 1 ≡ limit) where
+  -- ---- the names that alone do for one predicate
+
+  pub alone-above : (p : List ℕ) → T (subset s (alone limit s p))
+  unfolding gather
+  alone-above [] = subset-refl s
+  alone-above (t ∷ p) =
+      let rest = alone-above p in
+      cond-ind (λ x. T (subset s x)) (leb (ones (union s t)) limit) (union (union s t) (alone limit s p)) (alone limit s p)
+      (λ _. subset-trans s (alone limit s p) (union (union s t) (alone limit s p)) rest (union-right (union s t) (alone limit s p))) (λ _. rest)
+
+  -- a term within the limit is part of them
+  alone-has : (p : List ℕ) (t : ℕ) → In t p → ones (union s t) ≤ limit → T (subset (union s t) (alone limit s p))
+  unfolding gather
+  alone-has [] t m h = absurd m
+  alone-has (v ∷ p) t (inl e) h =
+      cond-ind (λ x. T (subset (union s t) x)) (leb (ones (union s v)) limit) (union (union s v) (alone limit s p)) (alone limit s p)
+      (λ _. subst (λ (x : ℕ). T (subset (union s t) (union (union s x) (alone limit s p)))) e (union-left (union s t) (alone limit s p)))
+      (λ n. absurd (T-not (leb (ones (union s v)) limit) n (subst (λ (x : ℕ). T (leb (ones (union s x)) limit)) e (le→leb (ones (union s t)) limit h))))
+  alone-has (v ∷ p) t (inr m) h =
+      let rest = alone-has p t m h in
+      cond-ind (λ x. T (subset (union s t) x)) (leb (ones (union s v)) limit) (union (union s v) (alone limit s p)) (alone limit s p)
+      (λ _. subset-trans (union s t) (alone limit s p) (union (union s v) (alone limit s p)) rest (union-right (union s v) (alone limit s p)))
+      (λ _. rest)
+
+  -- one name of them, beyond s, is what one of the terms adds
+  alone-out : (p : List ℕ) (c : ℕ) → ones c ≡ 1 → (T (subset c s) → ⊥) → T (subset c (alone limit s p))
+      → (t : ℕ) × In t p × (ones (union s t) ≤ limit) × T (subset c (union s t))
+  unfolding gather
+  alone-out [] c e f = λ h. absurd (f h)
+  alone-out (t ∷ p) c e f =
+      let rest = alone-out p c e f in
+      cond-ind (λ x. T (subset c x) → (v : ℕ) × In v (t ∷ p) × (ones (union s v) ≤ limit) × T (subset c (union s v)))
+      (leb (ones (union s t)) limit) (union (union s t) (alone limit s p)) (alone limit s p)
+      (λ k h. ⊎-elim (λ i. (t, inl refl, leb→le (ones (union s t)) limit k, i)) (λ i. let w = rest i in (w .0, inr (w .1), w .2, w .3))
+      (single-part c (union s t) (alone limit s p) e h))
+      (λ _ h. let w = rest h in (w .0, inr (w .1), w .2, w .3))
+
+  -- a set that fits, beyond a predicate that s leaves false, is s with a term of it
+  fits-alone : (free u : ℕ) (p : List ℕ) (ps : List (List ℕ)) → Fits limit s free ps u → T (holds u p) → T (not (holds s p))
+      → T (subset u (alone limit s p))
+  fits-alone free u p ps f h n =
+      let w = holds-out u p h in
+      let t = w .0 in
+      let wider : s ≡ union s t → ⊥ = λ e. T-not (holds s p) n (holds-in s p t (w .1) (subst (λ (x : ℕ). T (subset t x)) (sym e) (union-right s t))) in
+      let more = ones-more s (union s t) (union-left s t) wider in
+      let part = union-least s t u (f .above) (w .2) in
+      let same : union s t ≡ u = subset-same (union s t) u part (omega (arith, f .few)) in
+      subst (λ (x : ℕ). T (subset x (alone limit s p))) same (alone-has p t (w .1) (le-trans (ones-mono (union s t) u part) (f .few)))
+
+  -- s with one name that does alone makes the predicate true
+  alone-holds : (p : List ℕ) (c : ℕ) → ones c ≡ 1 → (T (subset c s) → ⊥) → T (subset c (alone limit s p)) → T (holds (union s c) p)
+  alone-holds p c e f h =
+      let w = alone-out p c e f h in
+      let t = w .0 in
+      let part = union-least s c (union s t) (union-left s t) (w .3) in
+      let more = ones-more s (union s c) (union-left s c) (λ q. f (subst (λ (x : ℕ). T (subset c x)) (sym q) (union-right s c))) in
+      let same : union s c ≡ union s t = subset-same (union s c) (union s t) part (omega (arith, w .2)) in
+      holds-in (union s c) p t (w .1) (subst (λ (x : ℕ). T (subset t x)) (sym same) (union-right s t))
+
+  -- ---- for every predicate that s leaves false
+
+  pub narrowed-stop : (ps : List (List ℕ)) → narrowed limit s s ps ≡ s
+  unfolding narrowed
+  narrowed-stop [] = refl
+  narrowed-stop (p ∷ ps) =
+      ap (λ (x : ℕ). narrowed limit s x ps)
+      (cond-ind (λ x. x ≡ s) (holds s p) s (shared s (alone limit s p)) (λ _. refl)
+      (λ _. subset-antisym (shared s (alone limit s p)) s (shared-left s (alone limit s p))
+      (shared-greatest s s (alone limit s p) (subset-refl s) (alone-above p))))
+      ∙ narrowed-stop ps
+
+  -- what has all names of s keeps them
+  pub narrowed-above : (m : ℕ) (ps : List (List ℕ)) → T (subset s m) → T (subset s (narrowed limit s m ps))
+  unfolding narrowed
+  narrowed-above m [] h = h
+  narrowed-above m (p ∷ ps) h =
+      narrowed-above (cond (holds s p) m (shared m (alone limit s p))) ps
+      (cond-ind (λ x. T (subset s x)) (holds s p) m (shared m (alone limit s p)) (λ _. h) (λ _. shared-greatest s m (alone limit s p) h (alone-above p)))
+
+  narrowed-in : (m u free : ℕ) (qs ps : List (List ℕ)) → T (subset u m) → Fits limit s free qs u → T (all (holds u) ps)
+      → T (subset u (narrowed limit s m ps))
+  unfolding narrowed
+  narrowed-in m u free qs [] h f a = h
+  narrowed-in m u free qs (p ∷ ps) h f a =
+      narrowed-in (cond (holds s p) m (shared m (alone limit s p))) u free qs ps
+      (cond-ind (λ x. T (subset u x)) (holds s p) m (shared m (alone limit s p)) (λ _. h)
+      (λ n. shared-greatest u m (alone limit s p) h (fits-alone free u p qs f (both-l (holds u p) (all (holds u) ps) a) n)))
+      f (both-r (holds u p) (all (holds u) ps) a)
+
+  narrowed-part : (m : ℕ) (ps : List (List ℕ)) → T (subset (narrowed limit s m ps) m)
+  unfolding narrowed
+  narrowed-part m [] = subset-refl m
+  narrowed-part m (p ∷ ps) =
+      let n : ℕ = cond (holds s p) m (shared m (alone limit s p)) in
+      subset-trans (narrowed limit s n ps) n m (narrowed-part n ps)
+      (cond-ind (λ x. T (subset x m)) (holds s p) m (shared m (alone limit s p)) (λ _. subset-refl m) (λ _. shared-left m (alone limit s p)))
+
+  narrowed-holds : (m : ℕ) (ps : List (List ℕ)) (c : ℕ) → ones c ≡ 1 → (T (subset c s) → ⊥) → T (subset c (narrowed limit s m ps))
+      → T (all (holds (union s c)) ps)
+  unfolding narrowed
+  narrowed-holds m [] c e f h = tt
+  narrowed-holds m (p ∷ ps) c e f h =
+      both (holds (union s c) p) (all (holds (union s c)) ps)
+      (cond-ind (λ x. T (subset c x) → T (holds (union s c) p)) (holds s p) m (shared m (alone limit s p))
+      (λ k _. holds-mono s (union s c) p (union-left s c) k)
+      (λ _ i. alone-holds p c e f (subset-trans c (shared m (alone limit s p)) (alone limit s p) i (shared-right m (alone limit s p))))
+      (subset-trans c (narrowed limit s n ps) n h (narrowed-part n ps)))
+      (narrowed-holds n ps c e f h)
+    where
+      n : ℕ
+      n = cond (holds s p) m (shared m (alone limit s p))
+
+  -- ---- one name is left of those to try
+
+  pub one-all : (c : ℕ) (ps : List (List ℕ)) → ones c ≡ 1 → T (all (holds (union s c)) ps) → narrowed limit s (union s c) ps ≡ union s c
+  one-all c ps one h =
+      let m = union s c in
+      let fits : Fits limit s c ps m =
+      record { above = union-left s c; within = subset-refl m; few = omega (arith, ones-union s c, one); holding = h } in
+      subset-antisym (narrowed limit s m ps) m (narrowed-part m ps) (narrowed-in m m c ps ps (subset-refl m) fits h)
+
+  pub one-none : (c : ℕ) (ps : List (List ℕ)) → ones c ≡ 1 → (T (subset c s) → ⊥) → (T (all (holds (union s c)) ps) → ⊥)
+      → narrowed limit s (union s c) ps ≡ s
+  one-none c ps one apart f =
+      let m = union s c in
+      subset-antisym (narrowed limit s m ps) s (without-one s c (narrowed limit s m ps) one (narrowed-part m ps) (λ i. f (narrowed-holds m ps c one apart i)))
+      (narrowed-above m ps (union-left s c))
+
+  -- ---- the search with one name left
+
+  module _ (enough free best : ℕ) (p : List ℕ) (ps : List (List ℕ)) (left-false : T (not (holds s p))) where
+    abbrev names : ℕ
+    names = narrowed limit s (union s free) (p ∷ ps)
+
+    fits-names : (u : ℕ) → Fits limit s free (p ∷ ps) u → T (subset u names)
+    fits-names u f = narrowed-in (union s free) u free (p ∷ ps) (p ∷ ps) (f .within) f (f .holding)
+
+    -- a set that fits is more than s
+    fits-more : (u : ℕ) → Fits limit s free (p ∷ ps) u → s ≡ u → ⊥
+    fits-more u f e =
+        T-not (holds s p) left-false (subst (λ (x : ℕ). T (holds x p)) (sym e) (both-l (holds u p) (all (holds u) ps) (f .holding)))
+
+    -- no name does alone
+    pub last-none : names ≡ s → Best enough limit s free (p ∷ ps) best best
+    last-none e =
+        best-none enough limit s free best (p ∷ ps) (λ u f.
+        fits-more u f (subset-antisym s u (f .above) (subst (λ (x : ℕ). T (subset u x)) e (fits-names u f))))
+
+    beyond : (u : ℕ) → T (subset s u) → (s ≡ u → ⊥) → 0 < less u s
+    beyond u h f = go (less u s) (less-add s u h) f
+      where
+        go : (d : ℕ) → s + d ≡ u → (s ≡ u → ⊥) → 0 < d
+        go d e g = omega arith
+
+    -- s with the least name that does alone
+    pub last-found : (s ≡ names → ⊥) → Best enough limit s free (p ∷ ps) best (min (union s (lowest (less names s))) best)
+    last-found f = best-of enough limit s free best (p ∷ ps) (union s c) fits below
+      where
+        rest : ℕ
+        rest = less names s
+
+        c : ℕ
+        c = lowest rest
+
+        some : 0 < rest
+        some = beyond names (narrowed-above (union s free) (p ∷ ps) (union-left s free)) f
+
+        one : ones c ≡ 1
+        one = lowest-one rest some
+
+        c-in : T (subset c names)
+        c-in = subset-trans c rest names (lowest-in rest) (less-subset names s)
+
+        apart : T (subset c s) → ⊥
+        apart h = less-apart names s c (lowest-in rest) h one
+
+        fits : Fits limit s free (p ∷ ps) (union s c)
+        fits =
+            record {
+              above = union-left s c;
+              within = union-least s c (union s free) (union-left s free) (subset-trans c names (union s free) c-in (narrowed-part (union s free) (p ∷ ps)));
+              few = omega (arith, ones-union s c, one);
+              holding = narrowed-holds (union s free) (p ∷ ps) c one apart c-in;
+            }
+
+        below : (u : ℕ) → Fits limit s free (p ∷ ps) u → union s c ≤ u
+        below u g =
+            omega (
+              arith,
+              union-add s c,
+              less-add s u (g .above),
+              lowest-least rest (less u s) (less-mono u names s (fits-names u g)) (beyond u (g .above) (fits-more u g)),
+            )

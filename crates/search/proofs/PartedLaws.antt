@@ -1,0 +1,168 @@
+-- Terms of one name as one mask, and the other terms apart.
+-- The idea: a set makes a term of one name true where it shares a name with it, so that all of them together are one mask to share a name with; and
+-- with one name left to add, each of them is a name that does. No contract cites this file. Assumes nothing.
+use Prim.Native.Nat.{ℕ, _+_, _-_, _*_, _≤_, _<_}
+use mathlib.Core.Path.{_≡_, refl, sym, ap, subst, _∙_}
+use mathlib.Core.Logic.{_⊎_, inl, inr}
+use mathlib.Core.Bool.{Bool, true, false, not, cond}
+use mathlib.Core.List.{List, [], _∷_}
+use native.Mathlib.Omega.{arith}
+use borrow.Author.Tests.{le-leb, eq-eqb}
+use lib.Dec.{T, T-not, eqb→eq, leb, leb→le, le→leb}
+use lib.Count.{ones}
+use lib.ListN.{getD, take, drop}
+use Rattle.names.specs.Sets.{subset, union, shared}
+use Rattle.names.proofs.SetLaws.{test-ext, digit-lt, digit-empty, digit-union, digits-ext, subset-empty, subset-out, subset-trans, union-left, union-right, union-left-comm, ones-empty, ones-none, ones-union}
+use Rattle.names.proofs.PartLaws.{shared-greatest}
+use Rattle.predicates.specs.Lists.{In, keep}
+use Rattle.predicates.specs.Predicates.{holds, singles}
+use Rattle.predicates.proofs.ListLaws.{true-T, T-true, T-false, split, cond-ind, keep-in, keep-out}
+use Rattle.predicates.proofs.PredicateLaws.{holds-in, holds-out}
+use Rattle.predicates.proofs.MaskLaws.{singles-holds}
+use Rattle.search.specs.code.Search.{Rows, rowWidth, gather, alone, isSingle, rowTerms, Parted, several}
+
+-- ---- one term
+
+is-single-one : (t : ℕ) → T (isSingle t) → ones t ≡ 1
+is-single-one t h = eqb→eq (ones t) 1 h
+
+pub is-single-zero : (t : ℕ) → t ≡ 0 → false ≡ isSingle t
+is-single-zero t z = rw (z, ones-empty) refl
+
+-- of those that have a name, the ones that have at most one
+pub is-single-some : (t : ℕ) (r : Bool) → (t ≡ 0 → ⊥) → r ≡ leb (ones t) 1 → r ≡ isSingle t
+is-single-some t r f e =
+    e ∙ test-ext (leb (ones t) 1) (isSingle t)
+    (λ h. true-T _ (eq-eqb (ones t) 1 (just (ones t) (λ z. f (ones-none t z)) (leb→le (ones t) 1 h))))
+    (λ h. le→leb (ones t) 1 (omega (arith, is-single-one t h)))
+  where
+    just : (n : ℕ) → (n ≡ 0 → ⊥) → n ≤ 1 → n ≡ 1
+    just n g l = omega arith
+
+one-not-empty : (c : ℕ) → ones c ≡ 1 → c ≡ 0 → ⊥
+one-not-empty c e z = absurd (omega (arith, e, ap ones z, ones-empty))
+
+-- ---- the mask
+
+singles-in : (p : List ℕ) (t : ℕ) → In t p → T (isSingle t) → T (subset t (singles p))
+unfolding singles
+singles-in [] t m h = absurd m
+singles-in (v ∷ p) t (inl e) h =
+    cond-ind (λ x. T (subset t x)) (isSingle v) (union v (singles p)) (singles p)
+    (λ _. subst (λ (x : ℕ). T (subset x (union v (singles p)))) (sym e) (union-left v (singles p)))
+    (λ n. absurd (T-not (isSingle v) n (subst (λ (x : ℕ). T (isSingle x)) e h)))
+singles-in (v ∷ p) t (inr m) h =
+    let rest = singles-in p t m h in
+    cond-ind (λ x. T (subset t x)) (isSingle v) (union v (singles p)) (singles p)
+    (λ _. subset-trans t (singles p) (union v (singles p)) rest (union-right v (singles p))) (λ _. rest)
+
+module _ (p : List ℕ) (s : ℕ) where
+  pub holds-hit : 0 < shared s (singles p) → holds s p ≡ true
+  holds-hit h = T-true (holds s p) (singles-holds s p (λ z. absurd (omega (arith, z))))
+
+  pub holds-miss : shared s (singles p) ≡ 0 → holds s p ≡ holds s (several p)
+  unfolding several
+  holds-miss z =
+      test-ext (holds s p) (holds s (keep (λ t. not (isSingle t)) p))
+      (λ h. let w = holds-out s p h in
+      holds-in s (keep (λ t. not (isSingle t)) p) (w .0) (keep-in (λ t. not (isSingle t)) p (w .0) (w .1) (other (w .0) (w .1) (w .2) (split (isSingle (w .0))))) (w .2))
+      (λ h. let w = holds-out s (keep (λ t. not (isSingle t)) p) h in
+      holds-in s p (w .0) (keep-out (λ t. not (isSingle t)) p (w .0) (w .1) .0) (w .2))
+    where
+      other : (t : ℕ) → In t p → T (subset t s) → T (isSingle t) ⊎ T (not (isSingle t)) → T (not (isSingle t))
+      other t m k (inr n) = n
+      other t m k (inl one) =
+          let part = shared-greatest t s (singles p) k (singles-in p t m one) in
+          absurd (one-not-empty t (is-single-one t one) (subset-empty t (subst (λ (x : ℕ). T (subset t x)) z part)))
+
+-- ---- the names that do alone
+
+module _ (limit s : ℕ) where
+  -- what is there from the start stays
+  gather-base : (t d : ℕ) (p : List ℕ) → gather (union t d) limit s p ≡ union t (gather d limit s p)
+  unfolding gather
+  gather-base t d [] = refl
+  gather-base t d (v ∷ p) =
+      let rest = gather-base t d p in
+      let x = gather d limit s p in
+      cond-ind (λ y. y ≡ union t (cond (leb (ones (union s v)) limit) (union (union s v) x) x)) (leb (ones (union s v)) limit)
+      (union (union s v) (gather (union t d) limit s p)) (gather (union t d) limit s p)
+      (λ k. rw (T-true (leb (ones (union s v)) limit) k, rest) (union-left-comm (union s v) t x))
+      (λ k. rw (T-false (leb (ones (union s v)) limit) k) rest)
+
+  -- and s is there
+  gather-above : (d : ℕ) (p : List ℕ) → T (subset s d) → T (subset s (gather d limit s p))
+  unfolding gather
+  gather-above d [] h = h
+  gather-above d (v ∷ p) h =
+      let rest = gather-above d p h in
+      let x = gather d limit s p in
+      cond-ind (λ y. T (subset s y)) (leb (ones (union s v)) limit) (union (union s v) x) x
+      (λ _. subset-trans s x (union (union s v) x) rest (union-right (union s v) x)) (λ _. rest)
+
+  module _ (last : ones s + 1 ≡ limit) where
+    parted-next : (t : ℕ) (p : List ℕ) → alone limit s p ≡ gather (union s (singles p)) limit s (several p)
+        → alone limit s (t ∷ p) ≡ gather (union s (singles (t ∷ p))) limit s (several (t ∷ p))
+    unfolding gather singles several
+    parted-next t p rest = go (split (isSingle t))
+      where
+        m : ℕ
+        m = singles p
+
+        q : List ℕ
+        q = keep (λ v. not (isSingle v)) p
+
+        x : ℕ
+        x = gather (union s m) limit s q
+
+        fits : T (isSingle t) → leb (ones (union s t)) limit ≡ true
+        fits one = le-leb (ones (union s t)) limit (omega (arith, ones-union s t, is-single-one t one))
+
+        joined : union (union s t) x ≡ gather (union s (union t m)) limit s q
+        joined =
+            let in-x = gather-above (union s m) q (union-left s m) in
+            let dropped : union (union s t) x ≡ union t x =
+            digits-ext (union (union s t) x) (union t x) (λ n.
+            omega (arith, digit-union (union s t) x n, digit-union s t n, digit-union t x n, subset-out s x in-x n)) in
+            dropped ∙ sym (gather-base t (union s m) q) ∙ ap (λ (d : ℕ). gather d limit s q) (union-left-comm t s m)
+
+        go : T (isSingle t) ⊎ T (not (isSingle t))
+            → gather s limit s (t ∷ p) ≡ gather (union s (cond (isSingle t) (union t m) m)) limit s (keep (λ v. not (isSingle v)) (t ∷ p))
+        go (inl one) = rw (T-true (isSingle t) one, fits one, rest) joined
+        go (inr n) = rw (T-false (isSingle t) n, rest) refl
+
+    pub gather-parted : (p : List ℕ) → alone limit s p ≡ gather (union s (singles p)) limit s (several p)
+    unfolding gather singles several
+    gather-parted [] = sym (digits-ext (union s 0) s (λ n. omega (arith, digit-union s 0 n, digit-empty n, digit-lt s n)))
+    gather-parted (t ∷ p) = parted-next t p (gather-parted p)
+
+-- ---- a row of the table
+
+module _ (table : Rows) (k s : ℕ) (w : Parted table k) where
+  abbrev row : List ℕ
+  row = rowTerms table k
+
+  pub row-hit : (x : ℕ) → x ≡ shared s (getD (table .singles) k 0) → 0 < x → holds s row ≡ true
+  row-hit x e h = holds-hit row s (omega (arith, e, ap (λ (m : ℕ). shared s m) (w .one)))
+
+  module _ (x : ℕ) (e : x ≡ shared s (getD (table .singles) k 0)) (h : x ≤ 0) (end : ℕ) (b : end ≡ k * rowWidth + getD (table .several) k 0) where
+    missed : shared s (singles row) ≡ 0
+    missed = omega (arith, e, ap (λ (m : ℕ). shared s m) (w .one))
+
+    part : take (end - k * rowWidth) (drop (k * rowWidth) (table .rests)) ≡ several row
+    part = let width : end - k * rowWidth ≡ getD (table .several) k 0 = omega arith in ap (λ (n : ℕ). take n (drop (k * rowWidth) (table .rests))) width ∙ w .more
+
+    pub row-miss : holds s (take (end - k * rowWidth) (drop (k * rowWidth) (table .rests))) ≡ holds s row
+    row-miss = ap (holds s) part ∙ sym (holds-miss row s missed)
+
+    row-gather : gather (union s (getD (table .singles) k 0)) (ones s + 1) s (take (end - k * rowWidth) (drop (k * rowWidth) (table .rests)))
+        ≡ alone (ones s + 1) s row
+    row-gather =
+        ap (λ (m : ℕ). gather (union s m) (ones s + 1) s (take (end - k * rowWidth) (drop (k * rowWidth) (table .rests)))) (w .one)
+        ∙ ap (gather (union s (singles row)) (ones s + 1) s) part ∙ sym (gather-parted (ones s + 1) s refl row)
+
+    pub row-narrow : (names r : ℕ)
+        → r ≡ cond (holds s (take (end - k * rowWidth) (drop (k * rowWidth) (table .rests)))) names
+        (shared names (gather (union s (getD (table .singles) k 0)) (ones s + 1) s (take (end - k * rowWidth) (drop (k * rowWidth) (table .rests)))))
+        → r ≡ cond (holds s row) names (shared names (alone (ones s + 1) s row))
+    row-narrow names r e = rw (row-miss, row-gather) at e

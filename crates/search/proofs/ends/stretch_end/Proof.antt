@@ -1,0 +1,14 @@
+-- `search::ends::stretch_end` meets its contract: no right end from x on is before the least of them, and so before a left end that is not beyond it.
+use Rattle.search.proofs.StretchLaws.{stretch-in, stretch-at}
+use borrow.Author.Needs.{needs}
+use Rattle.search.proofs.ends.stretch_end.Statement.{statement}
+use Rattle.search.proofs.ends.stretch_end.Tie as tie
+
+returns : tie.Need-returns
+returns c =
+    let next = c .before .next-end .ensures in
+    let last = c .last-end .ensures in
+    (stretch-in _ _ _ _ _ _ _ next last, stretch-at _ _ _ _ _ _ last)
+
+pub stretch-end-spec : {M : Type 1} → statement M
+stretch-end-spec = tie.close (tie.spec (λ c κs. search needs) (λ c κs. search needs) returns)
