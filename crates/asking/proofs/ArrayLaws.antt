@@ -15,7 +15,8 @@ use lib.ListN.{length, getD, take, length-map, List·getD-append}
 use lib.Seq.{getD-append-add}
 use Rattle.numbers.specs.Numbers.{tab}
 use Rattle.numbers.proofs.NumberLaws.{length-tab, getD-tab}
-use Rattle.names.specs.Sets.{subset, union, others}
+use Rattle.names.specs.Sets.{subset, union}
+use Rattle.names.specs.code.Parts.{others}
 use Rattle.names.proofs.SetLaws.{empty-subset, subset-trans, union-right, union-least, subset-refl}
 use Rattle.names.proofs.PartLaws.{others-in, others-lt, others-out}
 use Rattle.predicates.specs.Lists.{all, keep, In}

@@ -14,7 +14,8 @@ use lib.ListN.{length, getD, drop, drop-of-length-le}
 use lib.Seq.{drop-cons}
 use Rattle.numbers.specs.Numbers.{num, tab}
 use Rattle.numbers.proofs.NumberLaws.{above-zero, length-tab, getD-tab}
-use Rattle.names.specs.Sets.{others, noSet}
+use Rattle.names.specs.Sets.{noSet}
+use Rattle.names.specs.code.Parts.{others}
 use Rattle.names.proofs.SetLaws.{subset-refl}
 use Rattle.names.proofs.PartLaws.{others-lt}
 use Rattle.predicates.specs.Lists.{In}

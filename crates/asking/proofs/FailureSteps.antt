@@ -10,7 +10,8 @@ use native.Mathlib.Decide.{decLt}
 use native.Mathlib.Omega.{arith}
 use lib.Count.{ones}
 use lib.ListN.{length, getD}
-use Rattle.names.specs.Sets.{others, noSet}
+use Rattle.names.specs.Sets.{noSet}
+use Rattle.names.specs.code.Parts.{others}
 use Rattle.state.specs.Model.{Datum, Store, State}
 use Rattle.search.specs.code.Search.{Rows}
 use Rattle.asking.specs.declared.Fewest.the-variants.{Over, Few}

@@ -24,7 +24,7 @@ use Rattle.message.proofs.MessageLaws.{Masks, length-message, words-message, re
 use Rattle.state.specs.Layout.{stateSize, datumPlace, masksAt, rowAt, datumAt, heldCount}
 use Rattle.state.specs.Form.{termFits, termsFit, inForm}
 use Rattle.state.proofs.StateLaws.{datum-at-ok, length-datum-at}
-use Rattle.engine.specs.Refusals.{refuse}
+use Rattle.state.specs.Refusal.{refuse}
 use Rattle.state.proofs.OkLaws.{ok-datum-out, ok-terms-out}
 use Rattle.asking.proofs.AskSteps.{own-fits}
 use Rattle.monitor.specs.Messages.{readBytes, readNumber, readingBytes, answered}

@@ -28,8 +28,10 @@ use Rattle.state.proofs.StateLaws.{length-state, decode-encode, encode-form, fo
 use Rattle.engine.specs.Receiving.{delivery}
 use Rattle.engine.specs.Calls.{Setup, setUp, age, receive, done}
 use Rattle.engine.specs.Refusals.{setUpRefusal, ageRefusal, delaysFail, receiptRefusal}
-use Rattle.engine.specs.Outcomes.{after, setUpBytes, ageBytes}
-use Rattle.engine.proofs.CallLaws.{refuse-none, set-up-ok, age-ok, Heard, receive-ok}
+use Rattle.state.specs.Refusal.{after}
+use Rattle.engine.specs.Outcomes.{setUpBytes, ageBytes}
+use Rattle.state.proofs.LentLaws.{refuse-none}
+use Rattle.engine.proofs.CallLaws.{set-up-ok, age-ok, Heard, receive-ok}
 use Rattle.monitor.specs.Messages.{readBytes}
 use Rattle.monitor.specs.Calls.{setUpNumber, setUpState, ageState}
 use Rattle.monitor.specs.Receive.{receiptNumber, receiptBytes, receiveState}

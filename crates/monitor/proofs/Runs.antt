@@ -24,9 +24,12 @@ use Rattle.state.specs.Form.{inForm, stateOk}
 use Rattle.state.proofs.StateLaws.{form-ok}
 use Rattle.engine.specs.Receiving.{delivery}
 use Rattle.engine.specs.Calls.{begun, setUp, Call, age, receive, moved, done}
-use Rattle.engine.specs.Refusals.{refuse, setUpRefusal, ageRefusal, delaysFail, receiptRefusal}
-use Rattle.engine.specs.Outcomes.{after, setUpBytes, ageBytes}
-use Rattle.engine.proofs.CallLaws.{refuse-none, set-up-ok, age-ok, receive-ok}
+use Rattle.state.specs.Refusal.{refuse}
+use Rattle.engine.specs.Refusals.{setUpRefusal, ageRefusal, delaysFail, receiptRefusal}
+use Rattle.state.specs.Refusal.{after}
+use Rattle.engine.specs.Outcomes.{setUpBytes, ageBytes}
+use Rattle.state.proofs.LentLaws.{refuse-none}
+use Rattle.engine.proofs.CallLaws.{set-up-ok, age-ok, receive-ok}
 use Rattle.asking.specs.Instants.{Allowed, Counts}
 use Rattle.monitor.specs.Messages.{readBytes}
 use Rattle.monitor.specs.Calls.{setUpNumber, setUpState, ageNumber, ageState}

@@ -8,7 +8,7 @@ use lib.Dec.{ltb, eqb}
 use Rattle.numbers.specs.Numbers.{bytes, put}
 use Rattle.state.specs.Layout.{stateSize, stateOf, joined}
 use Rattle.state.specs.Form.{inForm}
-use Rattle.engine.specs.Refusals.{refuse}
+use Rattle.state.specs.Refusal.{refuse}
 use Rattle.asking.specs.Asking.{answer, answerNumbers}
 use Rattle.asking.specs.Fewest.{fewest, fewestNumbers}
 

@@ -9,7 +9,8 @@ use Rattle.numbers.specs.Numbers.{num, put, bytesOf}
 use Rattle.message.specs.Write.{messageWords}
 use Rattle.state.specs.Layout.{stateSize, heldCount, datumAt, stateOf}
 use Rattle.state.specs.Form.{inForm}
-use Rattle.engine.specs.Refusals.{refuse, setUpRefusal, ageRefusal}
+use Rattle.state.specs.Refusal.{refuse}
+use Rattle.engine.specs.Refusals.{setUpRefusal, ageRefusal}
 use Rattle.engine.specs.Outcomes.{setUpBytes, ageBytes}
 
 -- ---- setting up: "24, 1, 2, 3"

@@ -10,7 +10,8 @@ use Rattle.engine.specs.Ageing.{slow, fast}
 use Rattle.engine.specs.Receiving.{delivery}
 use Rattle.steps.specs.Steps.{same}
 use Rattle.engine.specs.Calls.{Setup, setUp, Call, age, receive, done}
-use Rattle.engine.specs.Refusals.{refuse, setUpRefusal, ageRefusal, delaysFail, receiptRefusal}
+use Rattle.state.specs.Refusal.{refuse}
+use Rattle.engine.specs.Refusals.{setUpRefusal, ageRefusal, delaysFail, receiptRefusal}
 use Rattle.state.specs.code.Tables.{datum}
 use Rattle.asking.specs.declared.Answer.{Answer}
 use Rattle.asking.specs.declared.Answer.the-variants.{Contradicted, Open, Between}

@@ -14,8 +14,9 @@ use Rattle.state.specs.Layout.{stateSize, stateOf}
 use Rattle.state.specs.Form.{inForm}
 use Rattle.engine.specs.Receiving.{delivery}
 use Rattle.engine.specs.Calls.{receive, done}
-use Rattle.engine.specs.Refusals.{refuse, delaysFail, receiptRefusal}
-use Rattle.engine.specs.Outcomes.{after}
+use Rattle.state.specs.Refusal.{refuse}
+use Rattle.engine.specs.Refusals.{delaysFail, receiptRefusal}
+use Rattle.state.specs.Refusal.{after}
 use Rattle.monitor.specs.Messages.{readBytes}
 
 -- the number of a receipt, from the message's words on: "10, 12, 11, 13 to 18, 30, 31, 32"

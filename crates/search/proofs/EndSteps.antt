@@ -13,7 +13,8 @@ use lib.Dec.{T, eqb, leb, ltb, leb→le, ltb→lt, nltb→le}
 use lib.ListN.{length, getD, take, drop, set, length-append, length-set, length-map, List·getD-append}
 use lib.Seq.{take-suc}
 use lib.Count.{ones}
-use Rattle.names.specs.Sets.{subset, union, less, noSet}
+use Rattle.names.specs.Sets.{subset, union, noSet}
+use Rattle.names.specs.code.Parts.{minus}
 use Rattle.names.proofs.SetLaws.{ones-empty}
 use Rattle.numbers.specs.Numbers.{put, tab}
 use Rattle.numbers.proofs.NumberLaws.{put-then, put-front, tab-ext}
@@ -292,7 +293,7 @@ module _ (limit free : ℕ) (whole : List (List ℕ)) where
         pub trying-stop : found < noSet → Best noSet limit 0 free whole noSet found
         trying-stop l = w found (term-stop noSet limit 0 free′ noSet masks at end ps h k found e b l)
 
-        pub trying-on : (rest : ℕ) → noSet ≤ found → rest ≡ cond (eqb (ones (union 0 t)) (ones 0 + 1)) (less free′ t) free′
+        pub trying-on : (rest : ℕ) → noSet ≤ found → rest ≡ cond (eqb (ones (union 0 t)) (ones 0 + 1)) (minus free′ t) free′
             → Trying limit free whole masks ps end (at + 1) rest
         trying-on rest l q r d =
             let same : noSet ≡ found = omega (arith, b .low) in

@@ -11,10 +11,11 @@ use native.Mathlib.Omega.{arith}
 use lib.Dec.{T, T-not, eqb, leb, leb→le, le→leb}
 use borrow.Author.Tests.{eq-eqb, ne-eqb}
 use lib.Count.{ones}
-use Rattle.names.specs.Sets.{subset, union, shared, less, lowest}
+use Rattle.names.specs.Sets.{subset, union}
+use Rattle.names.specs.code.Parts.{shared, minus, leastName}
 use Rattle.names.proofs.SetLaws.{subset-refl, subset-trans, subset-antisym, union-left, union-right, union-least, ones-mono, ones-union}
 use Rattle.numbers.proofs.NumberLaws.{above-zero}
-use Rattle.names.proofs.PartLaws.{without-one, adds-none, adds-some, adds-one, one-added, shared-left, shared-right, shared-greatest, less-subset, less-mono, less-add, less-apart, union-add, subset-same, ones-more, single-part, lowest-least, lowest-in, lowest-one}
+use Rattle.names.proofs.PartLaws.{without-one, adds-none, adds-some, adds-one, one-added, shared-left, shared-right, shared-greatest, minus-subset, minus-mono, minus-add, minus-apart, union-add, subset-same, ones-more, single-part, least-name-least, least-name-in, least-name-one}
 use Rattle.predicates.specs.Lists.{all, In}
 use Rattle.predicates.specs.Predicates.{holds}
 use Rattle.predicates.proofs.ListLaws.{both, both-l, both-r, cond-ind}
@@ -23,9 +24,9 @@ use Rattle.search.specs.code.Search.{Fits, Best, gather, alone, narrowed
 use Rattle.search.proofs.SearchLaws.{best-none, best-of}
 
 -- what is free once a term was tried: v is what it adds
-module _ (s t free v : ℕ) (a : v ≡ less t s) where
+module _ (s t free v : ℕ) (a : v ≡ minus t s) where
   abbrev after : ℕ
-  after = cond (eqb (ones (union s t)) (ones s + 1)) (less free t) free
+  after = cond (eqb (ones (union s t)) (ones s + 1)) (minus free t) free
 
   pub freed-none : v ≡ 0 → free ≡ after
   freed-none z =
@@ -33,18 +34,18 @@ module _ (s t free v : ℕ) (a : v ≡ less t s) where
       rw (ne-eqb (ones (union s t)) (ones s + 1) (λ e. omega (arith, e, ones-mono (union s t) s held))) refl
 
   module _ (f : v ≡ 0 → ⊥) where
-    some : 0 < less t s
+    some : 0 < minus t s
     some = rw a at (above-zero f)
 
-    pub freed-one : v ≡ lowest v → (r : ℕ) → r ≡ less free t → r ≡ after
+    pub freed-one : v ≡ leastName v → (r : ℕ) → r ≡ minus free t → r ≡ after
     freed-one k r e =
         let more = ones-more s (union s t) (union-left s t) (λ q.
         adds-some s t (λ z. f (a ∙ z)) (subst (λ (x : ℕ). T (subset t x)) (sym q) (union-right s t))) in
-        rw (eq-eqb (ones (union s t)) (ones s + 1) (omega (arith, more, adds-one s t some (sym a ∙ k ∙ ap lowest a)))) e
+        rw (eq-eqb (ones (union s t)) (ones s + 1) (omega (arith, more, adds-one s t some (sym a ∙ k ∙ ap leastName a)))) e
 
-    pub freed-more : (v ≡ lowest v → ⊥) → free ≡ after
+    pub freed-more : (v ≡ leastName v → ⊥) → free ≡ after
     freed-more k =
-        rw (ne-eqb (ones (union s t)) (ones s + 1) (λ e. k (a ∙ one-added s t some (omega (arith, e)) ∙ ap lowest (sym a)))) refl
+        rw (ne-eqb (ones (union s t)) (ones s + 1) (λ e. k (a ∙ one-added s t some (omega (arith, e)) ∙ ap leastName (sym a)))) refl
 
 module _ (limit s : ℕ) (last : ones s + 1 ≡ limit) where
   -- ---- the names that alone do for one predicate
@@ -195,33 +196,33 @@ module _ (limit s : ℕ) (last : ones s + 1 ≡ limit) where
         best-none enough limit s free best (p ∷ ps) (λ u f.
         fits-more u f (subset-antisym s u (f .above) (subst (λ (x : ℕ). T (subset u x)) e (fits-names u f))))
 
-    beyond : (u : ℕ) → T (subset s u) → (s ≡ u → ⊥) → 0 < less u s
-    beyond u h f = go (less u s) (less-add s u h) f
+    beyond : (u : ℕ) → T (subset s u) → (s ≡ u → ⊥) → 0 < minus u s
+    beyond u h f = go (minus u s) (minus-add s u h) f
       where
         go : (d : ℕ) → s + d ≡ u → (s ≡ u → ⊥) → 0 < d
         go d e g = omega arith
 
     -- s with the least name that does alone
-    pub last-found : (s ≡ names → ⊥) → Best enough limit s free (p ∷ ps) best (min (union s (lowest (less names s))) best)
+    pub last-found : (s ≡ names → ⊥) → Best enough limit s free (p ∷ ps) best (min (union s (leastName (minus names s))) best)
     last-found f = best-of enough limit s free best (p ∷ ps) (union s c) fits below
       where
         rest : ℕ
-        rest = less names s
+        rest = minus names s
 
         c : ℕ
-        c = lowest rest
+        c = leastName rest
 
         some : 0 < rest
         some = beyond names (narrowed-above (union s free) (p ∷ ps) (union-left s free)) f
 
         one : ones c ≡ 1
-        one = lowest-one rest some
+        one = least-name-one rest some
 
         c-in : T (subset c names)
-        c-in = subset-trans c rest names (lowest-in rest) (less-subset names s)
+        c-in = subset-trans c rest names (least-name-in rest) (minus-subset names s)
 
         apart : T (subset c s) → ⊥
-        apart h = less-apart names s c (lowest-in rest) h one
+        apart h = minus-apart names s c (least-name-in rest) h one
 
         fits : Fits limit s free (p ∷ ps) (union s c)
         fits =
@@ -237,6 +238,6 @@ module _ (limit s : ℕ) (last : ones s + 1 ≡ limit) where
             omega (
               arith,
               union-add s c,
-              less-add s u (g .above),
-              lowest-least rest (less u s) (less-mono u names s (fits-names u g)) (beyond u (g .above) (fits-more u g)),
+              minus-add s u (g .above),
+              least-name-least rest (minus u s) (minus-mono u names s (fits-names u g)) (beyond u (g .above) (fits-more u g)),
             )

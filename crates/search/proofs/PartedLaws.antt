@@ -11,14 +11,16 @@ use borrow.Author.Tests.{le-leb, eq-eqb}
 use lib.Dec.{T, T-not, eqb→eq, leb, leb→le, le→leb}
 use lib.Count.{ones}
 use lib.ListN.{getD, take, drop}
-use Rattle.names.specs.Sets.{subset, union, shared}
+use Rattle.names.specs.Sets.{subset, union}
+use Rattle.names.specs.code.Parts.{shared}
 use Rattle.names.proofs.SetLaws.{test-ext, digit-lt, digit-empty, digit-union, digits-ext, subset-empty, subset-out, subset-trans, union-left, union-right, union-left-comm, ones-empty, ones-none, ones-union}
 use Rattle.names.proofs.PartLaws.{shared-greatest}
 use Rattle.predicates.specs.Lists.{In, keep}
-use Rattle.predicates.specs.Predicates.{holds, singles}
+use Rattle.predicates.specs.Predicates.{holds}
+use Rattle.predicates.specs.code.Marks.{singles}
 use Rattle.predicates.proofs.ListLaws.{true-T, T-true, T-false, split, cond-ind, keep-in, keep-out}
 use Rattle.predicates.proofs.PredicateLaws.{holds-in, holds-out}
-use Rattle.predicates.proofs.MaskLaws.{singles-holds}
+use Rattle.predicates.proofs.MarkLaws.{singles-holds}
 use Rattle.search.specs.code.Search.{Rows, rowWidth, gather, alone, isSingle, rowTerms, Parted, several}
 
 -- ---- one term

@@ -12,9 +12,10 @@ use native.Mathlib.Omega.{arith}
 use lib.Dec.{T, T-not}
 use lib.Count.{ones}
 use lib.ListN.{length}
-use Rattle.names.specs.Sets.{subset, union, less}
+use Rattle.names.specs.Sets.{subset, union}
+use Rattle.names.specs.code.Parts.{minus}
 use Rattle.names.proofs.SetLaws.{subset-refl, subset-trans, subset-le, union-left, union-right, union-least}
-use Rattle.names.proofs.PartLaws.{less-subset, subset-same, one-more, less-free}
+use Rattle.names.proofs.PartLaws.{minus-subset, subset-same, one-more, minus-free}
 use Rattle.predicates.specs.Lists.{all}
 use Rattle.predicates.specs.Predicates.{holds}
 use Rattle.predicates.proofs.ListLaws.{both, both-l, both-r, or-cases, or-l, or-r, T-true, T-false, split, cond-ind}
@@ -186,6 +187,6 @@ module _ (enough limit s free : ℕ) (ps : List (List ℕ)) where
 
       -- the term adds one name, which is not free then
       pub terms-bar : (r : ℕ) → enough ≤ found → ones (union s t) ≡ ones s + 1
-          → Best enough limit s (less free t) (ts ∷ ps) found r → Best enough limit s free ((t ∷ ts) ∷ ps) best r
+          → Best enough limit s (minus free t) (ts ∷ ps) found r → Best enough limit s free ((t ∷ ts) ∷ ps) best r
       terms-bar r h e c =
-          go-on (less free t) r h (less-subset free t) (λ u f n. less-free s t u free (f .within) (one-more s t u e (f .above) n)) c
+          go-on (minus free t) r h (minus-subset free t) (λ u f n. minus-free s t u free (f .within) (one-more s t u e (f .above) n)) c

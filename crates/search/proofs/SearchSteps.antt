@@ -16,9 +16,10 @@ use lib.ListN.{length, getD, take, drop, drop-of-length-le}
 use lib.Seq.{drop-cons}
 use Rattle.numbers.specs.Numbers.{tab}
 use Rattle.numbers.proofs.NumberLaws.{above-zero, length-tab, getD-tab}
-use Rattle.names.specs.Sets.{subset, union, shared, less, lowest}
+use Rattle.names.specs.Sets.{subset, union}
+use Rattle.names.specs.code.Parts.{shared, minus, leastName}
 use Rattle.names.proofs.SetLaws.{subset-le, subset-refl, subset-trans, subset-antisym, union-right, union-least, ones-none, ones-mono}
-use Rattle.names.proofs.PartLaws.{shared-greatest, less-add, less-apart, subset-same, lowest-in, lowest-one, added, adds-none, adds-some, adds-one, one-added}
+use Rattle.names.proofs.PartLaws.{shared-greatest, minus-add, minus-apart, subset-same, least-name-in, least-name-one, added, adds-none, adds-some, adds-one, one-added}
 use Rattle.predicates.specs.Predicates.{holds}
 use Rattle.predicates.proofs.ListLaws.{both, both-l, both-r, true-T, T-true, T-false, split, cond-ind}
 use Rattle.predicates.specs.Lists.{all, In}
@@ -181,11 +182,11 @@ module _ (enough limit s free best : ℕ) (masks : List ℕ) (at end : ℕ) (ps 
       pub term-stop : found < enough → Best enough limit s free (take (end - at) (drop at masks) ∷ ps) best found
       term-stop l = back found (terms-stop enough limit s free ps t ts best found room b l)
 
-      pub term-on : (free′ r : ℕ) → enough ≤ found → free′ ≡ cond (eqb (ones (union s t)) (ones s + 1)) (less free t) free
+      pub term-on : (free′ r : ℕ) → enough ≤ found → free′ ≡ cond (eqb (ones (union s t)) (ones s + 1)) (minus free t) free
           → Best enough limit s free′ (ts ∷ ps) found r → Best enough limit s free (take (end - at) (drop at masks) ∷ ps) best r
       term-on free′ r l e c =
           cond-ind (λ x. Best enough limit s x (ts ∷ ps) found r → Best enough limit s free (take (end - at) (drop at masks) ∷ ps) best r)
-          (eqb (ones (union s t)) (ones s + 1)) (less free t) free
+          (eqb (ones (union s t)) (ones s + 1)) (minus free t) free
           (λ o d. back r (terms-bar enough limit s free ps t ts best found room b r l (eqb→eq (ones (union s t)) (ones s + 1) o) d))
           (λ _ d. back r (terms-on enough limit s free ps t ts best found room b r l d))
           (subst (λ (x : ℕ). Best enough limit s x (ts ∷ ps) found r) e c)
@@ -219,18 +220,18 @@ worth-few limit s free t best w =
 -- ---- the names that do alone
 
 -- one term that the set holds is enough
-pub terms-hold : (s : ℕ) (p : List ℕ) (t v names x : ℕ) → In t p → v ≡ less t s → v ≡ 0 → names ≡ cond (holds s p) names x
+pub terms-hold : (s : ℕ) (p : List ℕ) (t v names x : ℕ) → In t p → v ≡ minus t s → v ≡ 0 → names ≡ cond (holds s p) names x
 terms-hold s p t v names x m a z =
     let yes : holds s p ≡ true = T-true (holds s p) (holds-in s p t m (adds-none s t (sym a ∙ z))) in
     rw yes
 
 -- from the last term to the first: i is the place before which the names are known, v what the term before it adds
 module _ (d s : ℕ) (p : List ℕ) (i does v : ℕ) (h : 0 < i) (l : i ≤ length p) (e : does ≡ gather d (ones s + 1) s (drop i p))
-    (f : holds s (drop i p) ≡ false) (a : v ≡ less (getD p (i - 1) 0) s) (g : v ≡ 0 → ⊥) where
+    (f : holds s (drop i p) ≡ false) (a : v ≡ minus (getD p (i - 1) 0) s) (g : v ≡ 0 → ⊥) where
   last : drop (i - 1) p ≡ getD p (i - 1) 0 ∷ drop i p
   last = let back : i - 1 + 1 ≡ i = omega arith in rw back at (drop-next p (i - 1) (omega arith))
 
-  some : 0 < less (getD p (i - 1) 0) s
+  some : 0 < minus (getD p (i - 1) 0) s
   some = rw a at (above-zero g)
 
   pub terms-false : holds s (drop (i - 1) p) ≡ false
@@ -239,15 +240,15 @@ module _ (d s : ℕ) (p : List ℕ) (i does v : ℕ) (h : 0 < i) (l : i ≤ leng
       let no : subset (getD p (i - 1) 0) s ≡ false = T-false (subset (getD p (i - 1) 0) s) (not-T (subset (getD p (i - 1) 0) s) (adds-some s (getD p (i - 1) 0) (λ z. g (a ∙ z)))) in
       rw (last, no) f
 
-  pub terms-with : v ≡ lowest v → (w r : ℕ) → w ≡ union s (getD p (i - 1) 0) → r ≡ union w does → r ≡ gather d (ones s + 1) s (drop (i - 1) p)
+  pub terms-with : v ≡ leastName v → (w r : ℕ) → w ≡ union s (getD p (i - 1) 0) → r ≡ union w does → r ≡ gather d (ones s + 1) s (drop (i - 1) p)
   unfolding gather
   terms-with k w r b c =
-      rw (last, le-leb (ones (union s (getD p (i - 1) 0))) (ones s + 1) (adds-one s (getD p (i - 1) 0) some (sym a ∙ k ∙ ap lowest a)), sym b, sym e) c
+      rw (last, le-leb (ones (union s (getD p (i - 1) 0))) (ones s + 1) (adds-one s (getD p (i - 1) 0) some (sym a ∙ k ∙ ap leastName a)), sym b, sym e) c
 
-  pub terms-past : (v ≡ lowest v → ⊥) → does ≡ gather d (ones s + 1) s (drop (i - 1) p)
+  pub terms-past : (v ≡ leastName v → ⊥) → does ≡ gather d (ones s + 1) s (drop (i - 1) p)
   unfolding gather
   terms-past k =
-      rw (last, lt-leb (ones (union s (getD p (i - 1) 0))) (ones s + 1) (not-le (λ q. k (a ∙ one-added s (getD p (i - 1) 0) some q ∙ ap lowest (sym a))))) e
+      rw (last, lt-leb (ones (union s (getD p (i - 1) 0))) (ones s + 1) (not-le (λ q. k (a ∙ one-added s (getD p (i - 1) 0) some q ∙ ap leastName (sym a))))) e
     where
       not-le : {x y : ℕ} → (x ≤ y → ⊥) → y < x
       not-le q = omega arith
@@ -291,34 +292,34 @@ module _ (n : ℕ) (listed : List ℕ) (table : Rows) (limit s free k best : ℕ
       over (e ∙ ap (λ (x : ℕ). narrowed limit s x (rest n listed table j)) z ∙ narrowed-stop limit s few (rest n listed table j)) enough
 
   -- some are left at the end
-  pub last-least : (m v c u r : ℕ) → names ≡ m → (m ≡ s → ⊥) → v ≡ less m s → c ≡ lowest v → u ≡ union s c → r ≡ min u best → (enough : ℕ)
+  pub last-least : (m v c u r : ℕ) → names ≡ m → (m ≡ s → ⊥) → v ≡ minus m s → c ≡ leastName v → u ≡ union s c → r ≡ min u best → (enough : ℕ)
       → Best enough limit s free (rest n listed table k) best r
   last-least m v c u r e f a b d g enough =
       let same : narrowed limit s (union s free) (predAt listed table k ∷ rest n listed table (k + 1)) ≡ m =
       ap (narrowed limit s (union s free)) (sym first-rest) ∙ e in
-      let result : min (union s (lowest (less m s))) best ≡ r = sym (g ∙ ap (λ (x : ℕ). min x best) (d ∙ ap (union s) (b ∙ ap lowest a))) in
+      let result : min (union s (leastName (minus m s))) best ≡ r = sym (g ∙ ap (λ (x : ℕ). min x best) (d ∙ ap (union s) (b ∙ ap leastName a))) in
       subst (λ (ps : List (List ℕ)). Best enough limit s free ps best r) (sym first-rest)
       (subst (λ (x : ℕ). Best enough limit s free (predAt listed table k ∷ rest n listed table (k + 1)) best x) result
-      (subst (λ (x : ℕ). Best enough limit s free (predAt listed table k ∷ rest n listed table (k + 1)) best (min (union s (lowest (less x s))) best)) same
+      (subst (λ (x : ℕ). Best enough limit s free (predAt listed table k ∷ rest n listed table (k + 1)) best (min (union s (leastName (minus x s))) best)) same
       (last-found limit s few enough free best (predAt listed table k) (rest n listed table (k + 1)) left-false (λ q. f (sym (q ∙ same))))))
 
   -- names are left beyond s
-  pub last-some : (m : ℕ) → T (subset s (union s free)) → names ≡ m → (m ≡ s → ⊥) → 0 < less m s
+  pub last-some : (m : ℕ) → T (subset s (union s free)) → names ≡ m → (m ≡ s → ⊥) → 0 < minus m s
   last-some m i e f =
-      go (less m s) (less-add s m (subst (λ (x : ℕ). T (subset s x)) e (narrowed-above limit s few (union s free) (rest n listed table k) i)))
+      go (minus m s) (minus-add s m (subst (λ (x : ℕ). T (subset s x)) e (narrowed-above limit s few (union s free) (rest n listed table k) i)))
     where
       go : (d : ℕ) → s + d ≡ m → 0 < d
       go d q = above-zero (λ z. f (omega arith))
 
   -- names are left beyond s at place j, as the loop has them
-  pub some-left : (m : ℕ) → T (subset s m) → (m ≡ s → ⊥) → 0 < less m s
-  some-left m i f = go (less m s) (less-add s m i)
+  pub some-left : (m : ℕ) → T (subset s m) → (m ≡ s → ⊥) → 0 < minus m s
+  some-left m i f = go (minus m s) (minus-add s m i)
     where
       go : (d : ℕ) → s + d ≡ m → 0 < d
       go d q = above-zero (λ z. f (omega arith))
 
   -- one name is left at place j: s with it makes the predicates from there on true, or nothing does
-  pub last-one : (j m v u : ℕ) → names ≡ narrowed limit s m (rest n listed table j) → T (subset s m) → (m ≡ s → ⊥) → v ≡ less m s
+  pub last-one : (j m v u : ℕ) → names ≡ narrowed limit s m (rest n listed table j) → T (subset s m) → (m ≡ s → ⊥) → v ≡ minus m s
       → leb (ones v) 1 ≡ true → u ≡ union s v → (r : ℕ) → r ≡ cond (all (holds u) (rest n listed table j)) (min u best) best → (enough : ℕ)
       → Best enough limit s free (rest n listed table k) best r
   last-one j m v u e i f a b d r g enough = go (split (all (holds u) ps))
@@ -333,7 +334,7 @@ module _ (n : ℕ) (listed : List ℕ) (table : Rows) (limit s free k best : ℕ
       one = let more : ones v ≡ 0 → ⊥ = λ z. absurd (omega (arith, some, ones-none v z)) in omega (arith, leb→le (ones v) 1 (true-T _ b), more)
 
       apart : T (subset v s) → ⊥
-      apart h = less-apart m s v (rw a (subset-refl (less m s))) h one
+      apart h = minus-apart m s v (rw a (subset-refl (minus m s))) h one
 
       whole : m ≡ union s v
       whole = sym (ap (union s) a ∙ added s m ∙ subset-antisym (union s m) m (union-least s m m i (subset-refl m)) (union-right s m))
@@ -341,8 +342,8 @@ module _ (n : ℕ) (listed : List ℕ) (table : Rows) (limit s free k best : ℕ
       here : names ≡ narrowed limit s (union s v) ps
       here = e ∙ ap (λ (x : ℕ). narrowed limit s x ps) whole
 
-      least : v ≡ lowest v
-      least = sym (subset-same (lowest v) v (lowest-in v) (omega (arith, one, lowest-one v some)))
+      least : v ≡ leastName v
+      least = sym (subset-same (leastName v) v (least-name-in v) (omega (arith, one, least-name-one v some)))
 
       go : T (all (holds u) ps) ⊎ T (not (all (holds u) ps)) → Best enough limit s free (rest n listed table k) best r
       go (inl t) =

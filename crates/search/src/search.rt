@@ -7,7 +7,8 @@ ghost use Prim.Native.Nat.{ℕ, _+_, _-_, _*_, _≤_, _<_, min};
 ghost use lib.Dec.{T, eqb, leb, ltb};
 ghost use lib.Count.{ones};
 ghost use lib.ListN.{length, getD, take, drop};
-ghost use Rattle.names.specs.Sets.{subset, union, shared, less};
+ghost use Rattle.names.specs.Sets.{subset, union};
+ghost use Rattle.names.specs.code.Parts.{shared, minus};
 ghost use Rattle.predicates.specs.Lists.{all};
 ghost use Rattle.predicates.specs.Predicates.{holds as Predicates·holds};
 ghost use Rattle.search.specs.code.Search.{Rows, rowsOf, rowWidth, Best, RowsFit, rowTerms, Parted, predAt, preds, skipped, gather, alone};
@@ -132,11 +133,11 @@ fn narrow_terms(p: &[u32], set: u32, base: u32, names: u32) -> u32
     while 0 < i {
         i -= 1;
         let t = p[i];
-        let added = names::less(t, set);
+        let added = names::minus(t, set);
         if added == 0 {
             return names;
         }
-        if added == names::lowest(added) {
+        if added == names::least_name(added) {
             does = names::union(names::union(set, t), does);
         }
     }
@@ -198,7 +199,7 @@ fn only_set(
 }
 
 // With one name left to add: the least set that makes the predicates from k on true, or `best`. Once a single name is left it is tried as it is: to
-// test a set costs less than to narrow.
+// test a set costs minus than to narrow.
 fn last_name(
     listed: &[u32],
     counts: &[u32],
@@ -225,7 +226,7 @@ fn last_name(
         if names == set {
             return best;
         }
-        let rest = names::less(names, set);
+        let rest = names::minus(names, set);
         if names::at_most_one(rest) {
             return only_set(
                 listed,
@@ -257,7 +258,7 @@ fn last_name(
         return best;
     }
     lesser(
-        names::union(set, names::lowest(names::less(names, set))),
+        names::union(set, names::least_name(names::minus(names, set))),
         best,
     )
 }
@@ -278,14 +279,14 @@ pub fn worth(t: u32, set: u32, free: u32, limit: u32, best: u32) -> bool
 
 // What is free once a term was tried: where it adds one name to the set, that name no more.
 pub fn freed(t: u32, set: u32, free: u32) -> u32
-    ensures { λ r. ⌜ r ≡ cond (eqb (ones (union set t)) (ones set + 1)) (less free t) free ⌝ }
+    ensures { λ r. ⌜ r ≡ cond (eqb (ones (union set t)) (ones set + 1)) (minus free t) free ⌝ }
 {
-    let added = names::less(t, set);
+    let added = names::minus(t, set);
     if added == 0 {
         return free;
     }
-    if added == names::lowest(added) {
-        return names::less(free, t);
+    if added == names::least_name(added) {
+        return names::minus(free, t);
     }
     free
 }

@@ -11,9 +11,11 @@ use lib.Dec.{T, eqb, leb}
 use lib.Count.{ones}
 use lib.ListN.{length, getD, take, drop}
 use Rattle.numbers.specs.Numbers.{tab}
-use Rattle.names.specs.Sets.{subset, union, shared}
+use Rattle.names.specs.Sets.{subset, union}
+use Rattle.names.specs.code.Parts.{shared}
 use Rattle.predicates.specs.Lists.{all, keep}
-use Rattle.predicates.specs.Predicates.{holds, singles}
+use Rattle.predicates.specs.Predicates.{holds}
+use Rattle.predicates.specs.code.Marks.{singles}
 
 -- ---- what is looked for
 

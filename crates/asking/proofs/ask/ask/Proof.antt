@@ -1,7 +1,7 @@
 -- `asking::ask::ask` meets its contract: the arrays hold the claims of the state, and the search over all of them tells whether every instant counts.
 use native.Mathlib.Omega.{arith}
 use mathlib.Core.Path.{ap, _∙_}
-use Rattle.names.specs.Sets.{others}
+use Rattle.names.specs.code.Parts.{others}
 use Rattle.names.proofs.SetLaws.{ones-empty}
 use Rattle.state.proofs.StateLaws.{held-count-le, entry-count-le}
 use Rattle.asking.proofs.ArrayLaws.{order-rows}

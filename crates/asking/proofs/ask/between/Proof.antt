@@ -1,7 +1,7 @@
 -- `asking::ask::between` meets its contract: both searches over the ends find what the answer is made of (`AskSteps`).
 use mathlib.Core.Path.{ap, _∙_}
 use native.Mathlib.Omega.{arith}
-use Rattle.names.specs.Sets.{others}
+use Rattle.names.specs.code.Parts.{others}
 use Rattle.asking.proofs.AskSteps.{own-fits, rows-fit, ends-bounded, ends-low, ends-ready, mirror-ready, between-none, between-room, between-is, free-lt}
 use borrow.Author.Needs.{needs}
 use Rattle.asking.proofs.ask.between.Statement.{statement}

@@ -6,17 +6,17 @@ use Rattle.search.proofs.search.freed.Statement.{statement}
 use Rattle.search.proofs.search.freed.Tie as tie
 
 returns : tie.Need-returns
-returns c = freed-none _ _ _ _ (c .before .less .ensures) (c .if1 .taken)
+returns c = freed-none _ _ _ _ (c .before .minus .ensures) (c .if1 .taken)
 
 returns-2 : tie.Need-returns-2
 returns-2 c =
-    freed-one _ _ _ _ (c .before .before .before .before .less .ensures) (c .before .before .before .if1 .left)
-    (c .before .if2 .taken ∙ c .before .before .lowest .ensures) _ (c .less2 .ensures)
+    freed-one _ _ _ _ (c .before .before .before .before .minus .ensures) (c .before .before .before .if1 .left)
+    (c .before .if2 .taken ∙ c .before .before .least-name .ensures) _ (c .minus2 .ensures)
 
 returns-3 : tie.Need-returns-3
 returns-3 c =
-    freed-more _ _ _ _ (c .before .before .before .less .ensures) (c .before .before .if1 .left)
-    (λ q. c .if2 .left (q ∙ sym (c .before .lowest .ensures)))
+    freed-more _ _ _ _ (c .before .before .before .minus .ensures) (c .before .before .if1 .left)
+    (λ q. c .if2 .left (q ∙ sym (c .before .least-name .ensures)))
 
 pub freed-spec : {M : Type 1} → statement M
 freed-spec =

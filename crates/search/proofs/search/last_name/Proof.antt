@@ -45,7 +45,7 @@ returns-2 c =
     let head = one .before .before .before .before in
     let a = head .before .before .before .before .before .before .before .before in
     last-one _ _ _ _ _ _ _ _ (a .pre .2) (a .pre .1) (a .pre .3) (head .loop .j) _ _ _ (head .loop .inv .3) (head .loop .inv .2) (one .before .before .if1 .left)
-    (one .before .less .ensures) (sym (one .at-most-one .ensures) ∙ c .before .before .if2 .taken) (c .before .union2 .ensures) _ (c .only-set .ensures)
+    (one .before .minus .ensures) (sym (one .at-most-one .ensures) ∙ c .before .before .if2 .taken) (c .before .union2 .ensures) _ (c .only-set .ensures)
 
 narrow-requires : tie.Need-narrow-requires Inv-loop μ-loop
 narrow-requires c κs =
@@ -74,20 +74,20 @@ returns-3 c =
     let a = head .before .before .before .before .before .before .before .before in
     last-stop _ _ _ _ _ _ _ _ (a .pre .2) (a .pre .1) (a .pre .3) (head .loop .j) _ (head .loop .inv .3) (c .if3 .taken)
 
-lowest-requires : tie.Need-lowest-requires Inv-loop μ-loop
-lowest-requires c κs =
+least-name-requires : tie.Need-least-name-requires Inv-loop μ-loop
+least-name-requires c κs =
     let head = c .before .before .before in
     let a = head .before .before .before .before .before .before .before .before in
     let names = head .loop .inv .3 ∙ narrowed-done _ _ _ _ (head .loop .j) _ _ (c .before .before .loop-test .left) in
-    rw (c .less2 .ensures) (last-some _ _ _ _ _ _ _ (a .args .best) (a .pre .2) (a .pre .1) (a .pre .3) _ (union-left _ _) names (c .before .if3 .left))
+    rw (c .minus2 .ensures) (last-some _ _ _ _ _ _ _ (a .args .best) (a .pre .2) (a .pre .1) (a .pre .3) _ (union-left _ _) names (c .before .if3 .left))
 
 returns-4 : tie.Need-returns-4 Inv-loop μ-loop
 returns-4 c =
     let head = c .before .before .before .before .before .before in
     let a = head .before .before .before .before .before .before .before .before in
     let names = head .loop .inv .3 ∙ narrowed-done _ _ _ _ (head .loop .j) _ _ (c .before .before .before .before .before .loop-test .left) in
-    last-least _ _ _ _ _ _ _ _ (a .pre .2) (a .pre .1) (a .pre .3) _ _ _ _ _ names (c .before .before .before .before .if3 .left) (c .before .before .before .less2 .ensures)
-    (c .before .before .lowest .ensures) (c .before .union3 .ensures) (c .lesser .ensures)
+    last-least _ _ _ _ _ _ _ _ (a .pre .2) (a .pre .1) (a .pre .3) _ _ _ _ _ names (c .before .before .before .before .if3 .left) (c .before .before .before .minus2 .ensures)
+    (c .before .before .least-name .ensures) (c .before .union3 .ensures) (c .lesser .ensures)
 
 pub last-name-spec : {M : Type 1} → statement M
 last-name-spec =
@@ -109,7 +109,7 @@ last-name-spec =
     loop-again
     returns-3
     (λ c κs. search needs)
-    lowest-requires
+    least-name-requires
     (λ c κs. search needs)
     (λ c κs. search needs)
     returns-4)

@@ -33,7 +33,7 @@ returns c =
     let p = head .before .before .args .p .now in
     let in-front : head .loop .i - 1 < length p = omega (arith, head .loop .inv .0, c .before .before .before .loop-test .taken) in
     terms-hold _ p _ _ _ _ (at-in p 0 (head .loop .i - 1) in-front)
-    (c .before .less .ensures) (c .if1 .taken)
+    (c .before .minus .ensures) (c .if1 .taken)
 
 loop-again : tie.Need-loop-again Inv-loop μ-loop
 loop-again c =
@@ -41,10 +41,10 @@ loop-again c =
     let head = term .before .before .before in
     let inv = head .loop .inv in (
       omega arith,
-      terms-with _ _ _ (head .loop .i) _ _ (term .before .before .loop-test .taken) (inv .0) (inv .1) (inv .2) (term .less .ensures)
-          (c .before .before .before .before .if1 .left) (c .before .before .if2 .taken ∙ c .before .before .before .lowest .ensures) _ _
+      terms-with _ _ _ (head .loop .i) _ _ (term .before .before .loop-test .taken) (inv .0) (inv .1) (inv .2) (term .minus .ensures)
+          (c .before .before .before .before .if1 .left) (c .before .before .if2 .taken ∙ c .before .before .before .least-name .ensures) _ _
           (c .before .union .ensures) (c .union2 .ensures),
-      terms-false _ _ _ (head .loop .i) _ _ (term .before .before .loop-test .taken) (inv .0) (inv .1) (inv .2) (term .less .ensures)
+      terms-false _ _ _ (head .loop .i) _ _ (term .before .before .loop-test .taken) (inv .0) (inv .1) (inv .2) (term .minus .ensures)
           (c .before .before .before .before .if1 .left),
     )
 
@@ -54,9 +54,9 @@ loop-again-2 c =
     let head = term .before .before .before in
     let inv = head .loop .inv in (
       omega arith,
-      terms-past _ _ _ (head .loop .i) _ _ (term .before .before .loop-test .taken) (inv .0) (inv .1) (inv .2) (term .less .ensures)
-          (c .before .before .if1 .left) (λ q. c .if2 .left (q ∙ sym (c .before .lowest .ensures))),
-      terms-false _ _ _ (head .loop .i) _ _ (term .before .before .loop-test .taken) (inv .0) (inv .1) (inv .2) (term .less .ensures)
+      terms-past _ _ _ (head .loop .i) _ _ (term .before .before .loop-test .taken) (inv .0) (inv .1) (inv .2) (term .minus .ensures)
+          (c .before .before .if1 .left) (λ q. c .if2 .left (q ∙ sym (c .before .least-name .ensures))),
+      terms-false _ _ _ (head .loop .i) _ _ (term .before .before .loop-test .taken) (inv .0) (inv .1) (inv .2) (term .minus .ensures)
           (c .before .before .if1 .left),
     )
 
