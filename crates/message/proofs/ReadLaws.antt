@@ -251,3 +251,34 @@ module _ {at : ℕ} {ends : Bool} {ws : List ℕ} {s l r n : ℕ} (t : Taken at 
 -- where the interval stands right behind the head
 pub terms-middle : {ends : Bool} {ws : List ℕ} {s l r n : ℕ} → Taken 1 ends ws s l r n → termWords (Message s l r n) ws ≡ middle 1 ends ws
 terms-middle {ends} {ws} t = terms-middle-from t (omega arith) (ap six (slice-empty 1 ws))
+
+-- ---- a refusal has a number above 0
+
+unfoldable Above : Reading → Type 0
+Above (Refused number) = 0 < number
+Above (Message sender left right count) = Unit {0}
+
+above-span : (sender count : ℕ) (normal : Bool) (i : Interval) → Above (withSpan sender count normal i)
+unfolding withSpan Above
+above-span sender count normal Bad = omega arith
+above-span sender count true (Span left right) = tt
+above-span sender count false (Span left right) = omega arith
+
+above-cond : (b : Bool) (number : ℕ) (r : Reading) → 0 < number → Above r → Above (cond b (Refused number) r)
+unfolding Above
+above-cond true number r h a = h
+above-cond false number r h a = a
+
+above : (ws : List ℕ) → Above (readWords ws)
+unfolding readWords readFrom readForm
+above ws =
+    above-cond (ltb (length ws) wordsLeast || ltb wordsMost (length ws)) 10 _ (omega arith)
+    (above-cond (not (headWordFits (getD ws 0 0))) 12 _ (omega arith)
+    (above-cond (not (opens 1 ws)) 11 _ (omega arith)
+    (above-cond (not (eqb (length ws) (start 1 (isEnds 1 ws) + countOf (getD ws 0 0) + 1))) 13 _ (omega arith)
+    (above-cond (not (kindsFit 1 (isEnds 1 ws) ws)) 14 _ (omega arith)
+    (above-cond (not (checkFits ws)) 15 _ (omega arith) (above-span (senderOf (getD ws 0 0)) (countOf (getD ws 0 0)) (isNormal (masks (middle 1 (isEnds 1 ws) ws))) (span 1 (isEnds 1 ws) ws)))))))
+
+pub refused-above : (ws : List ℕ) (number : ℕ) → readWords ws ≡ Refused number → 0 < number
+unfolding Above
+refused-above ws number e = subst (λ (r : Reading). Above r) e (above ws)

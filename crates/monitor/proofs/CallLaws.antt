@@ -15,7 +15,7 @@ use Rattle.numbers.specs.Numbers.{num, bytes, tab, Words, wordsOf, bytesOf, put
 use Rattle.numbers.proofs.NumberLaws.{length-tab, length-bytesOf, words-bytes, take-put}
 use Rattle.predicates.specs.Lists.{all}
 use Rattle.predicates.specs.Predicates.{isNormal}
-use Rattle.predicates.proofs.ListLaws.{both-l, both-r, true-T}
+use Rattle.predicates.proofs.ListLaws.{both-l, both-r, true-T, T-false}
 use Rattle.message.specs.Words.{payload, masks}
 use Rattle.message.specs.Read.{termWords}
 use Rattle.message.specs.Write.{messageWords}
@@ -24,7 +24,8 @@ use Rattle.message.proofs.MessageLaws.{Masks, length-message, words-message, re
 use Rattle.state.specs.Layout.{stateSize, datumPlace, masksAt, rowAt, datumAt, heldCount}
 use Rattle.state.specs.Form.{termFits, termsFit, inForm}
 use Rattle.state.proofs.StateLaws.{datum-at-ok, length-datum-at}
-use Rattle.state.specs.Refusal.{refuse}
+use Rattle.state.specs.Refusal.{after}
+use Rattle.state.proofs.LentLaws.{refuse-none, lent-passed}
 use Rattle.state.proofs.OkLaws.{ok-datum-out, ok-terms-out}
 use Rattle.asking.proofs.AskSteps.{own-fits}
 use Rattle.monitor.specs.Messages.{readBytes, readNumber, readingBytes, answered}
@@ -148,30 +149,27 @@ module _ (s : List ℕ) (t : T (inForm s)) (position : ℕ) (h : position < held
 
 -- ---- the call as a whole
 
--- what is taken was refused by no test
-taken-tests : (a b c d : Bool) → refuse a 24 (refuse b 25 (refuse c 23 (refuse d 24 0))) ≡ 0 → (b ≡ false) × (c ≡ false) × (d ≡ false)
-taken-tests true b c d e = absurd (omega arith)
-taken-tests false true c d e = absurd (omega arith)
-taken-tests false false true d e = absurd (omega arith)
-taken-tests false false false true e = absurd (omega arith)
-taken-tests false false false false e = (refl, refl, refl)
-
 module _ (s : List ℕ) (position : ℕ) (out : List ℕ) (e : writeNumber s position out ≡ 0) where
-  tests : (not (inForm s) ≡ false) × (leb (heldCount s) position ≡ false) × (ltb (length out) (length (writtenBytes s position)) ≡ false)
+  -- what is taken was refused by no test
+  tests : T (inForm s) × T (not (leb (heldCount s) position)) × T (not (ltb (length out) (length (writtenBytes s position))))
   unfolding writeNumber
-  tests = taken-tests (ltb (length s) stateSize) (not (inForm s)) (leb (heldCount s) position) (ltb (length out) (length (writtenBytes s position))) e
+  tests =
+      let lent-to = lent-passed s _ e in
+      let there = refuse-none (leb (heldCount s) position) 23 _ (omega arith) (lent-to .2) in
+      let room = refuse-none (ltb (length out) (length (writtenBytes s position))) 24 0 (omega arith) (there .1) in
+      (lent-to .1, there .0, room .0)
 
   -- a taken writing has a state in form and a held datum at the position
   pub write-form : T (inForm s)
-  write-form = true-T (inForm s) (not-false (inForm s) (tests .0))
+  write-form = tests .0
 
   pub write-held : position < heldCount s
-  write-held = leb-false (heldCount s) position (tests .1)
+  write-held = leb-false (heldCount s) position (T-false (leb (heldCount s) position) (tests .1))
 
   -- and leaves the message at the front of the output
   pub write-front : take (length (writtenBytes s position)) (writeOutput s position out) ≡ writtenBytes s position
-  unfolding writeOutput
-  write-front = rw e (take-put (length (writtenBytes s position)) (writtenBytes s position) out refl (ltb-false _ _ (tests .2)))
+  unfolding writeOutput after
+  write-front = rw e (take-put (length (writtenBytes s position)) (writtenBytes s position) out refl (ltb-false _ _ (T-false _ (tests .2))))
 
   pub write-front-reads : readBytes (take (length (writtenBytes s position)) (writeOutput s position out))
       ≡ Message (num 0 4 s) (datumAt s position .left) (datumAt s position .right) (length (datumAt s position .terms))

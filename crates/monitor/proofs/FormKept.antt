@@ -27,85 +27,61 @@ use Rattle.state.specs.Form.{inForm, stateOk}
 use Rattle.state.proofs.StateLaws.{length-state, decode-encode, encode-form, form-ok}
 use Rattle.engine.specs.Receiving.{delivery}
 use Rattle.engine.specs.Calls.{Setup, setUp, age, receive, done}
-use Rattle.engine.specs.Refusals.{setUpRefusal, ageRefusal, delaysFail, receiptRefusal}
+use Rattle.engine.specs.Refusals.{setUpRefusal, ageRefusal, delaysFail, receiptRefusal, delayMost}
 use Rattle.state.specs.Refusal.{after}
-use Rattle.engine.specs.Outcomes.{setUpBytes, ageBytes}
 use Rattle.state.proofs.LentLaws.{refuse-none}
 use Rattle.engine.proofs.CallLaws.{set-up-ok, age-ok, Heard, receive-ok}
+use Rattle.state.specs.Refusal.{lent}
+use Rattle.state.proofs.LentLaws.{length-after, lent-passed}
 use Rattle.monitor.specs.Messages.{readBytes}
-use Rattle.monitor.specs.Calls.{setUpNumber, setUpState, ageState}
-use Rattle.monitor.specs.Receive.{receiptNumber, receiptBytes, receiveState}
+use Rattle.monitor.specs.Calls.{setUpNumber, setUpState, ageNumber, ageState}
+use Rattle.monitor.specs.Receive.{Receipt, delivered, deliveredAs, deliveredNumber, deliveredState, receiveNumber, receiveState}
 use Rattle.monitor.proofs.MessageCalls.{read-words-in, words-in-taken}
 
 -- ---- the lent bytes after a call
 
 -- a right state that is stored in front is in form, and read back
-pub put-form : (st : State) (s : List ℕ) → T (stateOk st) → 3032 ≤ length s → T (inForm (put 0 (stateBytes st) s))
-put-form st s t h = rw (put-front 3032 (stateBytes st) s (length-state st t) h) (encode-form st t (drop 3032 s))
+pub put-form : (st : State) (s : List ℕ) → T (stateOk st) → stateSize ≤ length s → T (inForm (put 0 (stateBytes st) s))
+put-form st s t h = rw (put-front stateSize (stateBytes st) s (length-state st t) h) (encode-form st t (drop stateSize s))
 
-pub put-state : (st : State) (s : List ℕ) → T (stateOk st) → 3032 ≤ length s → stateOf (put 0 (stateBytes st) s) ≡ st
-put-state st s t h = rw (put-front 3032 (stateBytes st) s (length-state st t) h) (decode-encode st t (drop 3032 s))
+pub put-state : (st : State) (s : List ℕ) → T (stateOk st) → stateSize ≤ length s → stateOf (put 0 (stateBytes st) s) ≡ st
+put-state st s t h = rw (put-front stateSize (stateBytes st) s (length-state st t) h) (decode-encode st t (drop stateSize s))
 
--- what is kept of the bytes s: the form, and the length
-abbrev Formed : List ℕ → Type 0
-Formed u = T (inForm u)
-
-abbrev SameLength : List ℕ → List ℕ → Type 0
-SameLength s u = length u ≡ length s
-
--- a test that refuses leaves the bytes
-kept : (P : List ℕ → Type 0) (test : Bool) (s u : List ℕ) → P s → (T (not test) → P u) → P (cond test s u)
-kept P test s u same next = cond-ind P test s u (λ t. same) next
-
-module _ (number : ℕ) (st : State) (s : List ℕ) where
-  after-form : T (inForm s) → 3032 ≤ length s → (number ≡ 0 → T (stateOk st)) → T (inForm (after number st s))
-  unfolding after
-  after-form t h ok =
-      cond-ind Formed (eqb number 0) (put 0 (stateBytes st) s) s (λ e. put-form st s (ok (eqb→eq number 0 e)) h) (λ e. t)
-
-  length-after : length (after number st s) ≡ length s
-  unfolding after
-  length-after =
-      cond-ind (SameLength s) (eqb number 0) (put 0 (stateBytes st) s) s (λ e. length-put 0 (stateBytes st) s) (λ e. refl)
+-- what a call leaves is in form, where it was refused and where it was taken with a right state
+after-form : (number : ℕ) (st : State) (s : List ℕ) → T (inForm s) → (number ≡ 0 → (stateSize ≤ length s) × T (stateOk st))
+    → T (inForm (after number (stateBytes st) s))
+unfolding after
+after-form number st s t ok =
+    cond-ind (λ (u : List ℕ). T (inForm u)) (eqb number 0) (put 0 (stateBytes st) s) s
+    (λ e. let k = ok (eqb→eq number 0 e) in put-form st s (k .1) (k .0)) (λ e. t)
 
 -- ---- setting up
 
-module _ (s : List ℕ) (own drift reading : ℕ) where
-  abbrev entered : Setup
-  entered = record { own = own; drift = drift; reading = reading }
-
+module _ (s : List ℕ) (u : Setup) where
   -- a taken setting up
-  pub set-up-form : setUpNumber s own drift reading ≡ 0 → T (inForm (setUpState s own drift reading))
-  unfolding setUpNumber setUpState setUpBytes after
+  pub set-up-form : setUpNumber s u ≡ 0 → T (inForm (setUpState s u))
+  unfolding setUpNumber setUpState after
   set-up-form e =
-      let a = refuse-none (ltb (length s) stateSize) 24 (setUpRefusal entered) (omega arith) e in
-      rw (T-false (ltb (length s) stateSize) (a .0), a .1)
-      (put-form (setUp entered) s (set-up-ok entered (a .1)) (nltb→le (length s) stateSize (a .0)))
+      let a = refuse-none (ltb (length s) stateSize) 24 (setUpRefusal u) (omega arith) e in
+      rw e (put-form (setUp u) s (set-up-ok u (a .1)) (nltb→le (length s) stateSize (a .0)))
 
-  pub length-set-up : length (setUpState s own drift reading) ≡ length s
-  unfolding setUpState setUpBytes
-  length-set-up =
-      kept (SameLength s) (ltb (length s) stateSize) s (setUpBytes entered s) refl
-      (λ t. length-after (setUpRefusal entered) (setUp entered) s)
+  pub length-set-up : length (setUpState s u) ≡ length s
+  unfolding setUpState
+  length-set-up = length-after (setUpNumber s u) (stateBytes (setUp u)) s
 
 -- ---- ageing
 
 module _ (s : List ℕ) (reading : ℕ) where
   -- taken or refused
   pub age-form : T (inForm s) → T (inForm (ageState s reading))
-  unfolding ageState ageBytes
+  unfolding ageNumber ageState
   age-form t =
-      kept Formed (ltb (length s) stateSize) s _ t
-      (λ a. kept Formed (not (inForm s)) s (ageBytes reading s) t
-      (λ b. after-form (ageRefusal (stateOf s) reading) (done (stateOf s) (age reading)) s t (nltb→le (length s) stateSize a)
-      (age-ok (stateOf s) reading (form-ok s t))))
+      after-form (lent s (ageRefusal (stateOf s) reading)) (done (stateOf s) (age reading)) s t
+      (λ e. let k = lent-passed s (ageRefusal (stateOf s) reading) e in (k .0, age-ok (stateOf s) reading (form-ok s t) (k .2)))
 
   pub length-age : length (ageState s reading) ≡ length s
-  unfolding ageState ageBytes
-  length-age =
-      kept (SameLength s) (ltb (length s) stateSize) s _ refl
-      (λ a. kept (SameLength s) (not (inForm s)) s (ageBytes reading s) refl
-      (λ b. length-after (ageRefusal (stateOf s) reading) (done (stateOf s) (age reading)) s))
+  unfolding ageState
+  length-age = length-after (ageNumber s reading) (stateBytes (done (stateOf s) (age reading))) s
 
 -- ---- receiving
 
@@ -133,37 +109,31 @@ heard-in {sender} {left} {right} {n} least greatest m d e =
       few = omega (arith, length-masks (termWords (Message sender left right n) ws), ap length same, length-middle t, t .count-le);
     }
 
-module _ (s : List ℕ) (least greatest : ℕ) (m : List ℕ) where
-  receipt-form : T (inForm s) → 3032 ≤ length s → least ≤ greatest → (r : Reading) → readBytes m ≡ r
-      → T (inForm (receiptBytes s least greatest r (wordsOf m)))
-  unfolding receiptBytes receiptNumber
-  receipt-form t h d (Refused number) e = t
-  receipt-form t h d (Message sender left right n) e =
-      let g = delivery least greatest sender left right (masks (termWords (Message sender left right n) (wordsOf m))) in
-      after-form (receiptRefusal (stateOf s) g) (done (stateOf s) (receive g)) s t h
-      (receive-ok (stateOf s) g (form-ok s t) (heard-in least greatest m d e))
+-- what a taken receipt has passed: its delays, and the tests behind them
+pub receive-passed : (s : List ℕ) (g : Receipt) → receiveNumber s g ≡ 0
+    → (stateSize ≤ length s) × (g .least ≤ g .greatest) × (deliveredNumber (stateOf s) (delivered g) ≡ 0)
+unfolding receiveNumber
+receive-passed s g e =
+    let a = lent-passed s _ e in
+    let b = refuse-none (delaysFail (g .least) (g .greatest)) 21 _ (omega arith) (a .2) in
+    (a .0, nltb→le (g .greatest) (g .least) (neither (ltb (g .greatest) (g .least)) (ltb delayMost (g .greatest)) (b .0) .0), b .1)
 
-  length-receipt : (r : Reading) → length (receiptBytes s least greatest r (wordsOf m)) ≡ length s
-  unfolding receiptBytes receiptNumber
-  length-receipt (Refused number) = refl
-  length-receipt (Message sender left right n) =
-      let g = delivery least greatest sender left right (masks (termWords (Message sender left right n) (wordsOf m))) in
-      length-after (receiptRefusal (stateOf s) g) (done (stateOf s) (receive g)) s
+module _ (s : List ℕ) (g : Receipt) where
+  delivered-ok : T (inForm s) → g .least ≤ g .greatest → deliveredNumber (stateOf s) (delivered g) ≡ 0 → T (stateOk (deliveredState (stateOf s) (delivered g)))
+  unfolding delivered deliveredAs deliveredNumber deliveredState
+  delivered-ok t d = go (readBytes (g .message)) refl
+    where
+      go : (r : Reading) → readBytes (g .message) ≡ r → deliveredNumber (stateOf s) (deliveredAs g r) ≡ 0 → T (stateOk (deliveredState (stateOf s) (deliveredAs g r)))
+      go (Refused number) e z = form-ok s t
+      go (Message sender left right n) e z = receive-ok (stateOf s) _ (form-ok s t) (heard-in (g .least) (g .greatest) (g .message) d e) z
 
   -- taken or refused
-  pub receive-form : T (inForm s) → T (inForm (receiveState s least greatest m))
+  pub receive-form : T (inForm s) → T (inForm (receiveState s g))
   unfolding receiveState
   receive-form t =
-      kept Formed (ltb (length s) stateSize) s _ t
-      (λ a. kept Formed (not (inForm s)) s _ t
-      (λ b. kept Formed (delaysFail least greatest) s (receiptBytes s least greatest (readBytes m) (wordsOf m)) t
-      (λ c. receipt-form t (nltb→le (length s) stateSize a)
-      (nltb→le greatest least (neither (ltb greatest least) (ltb 60_000_000 greatest) c .0)) (readBytes m) refl)))
+      after-form (receiveNumber s g) (deliveredState (stateOf s) (delivered g)) s t
+      (λ e. let k = receive-passed s g e in (k .0, delivered-ok t (k .1) (k .2)))
 
-  pub length-receive : length (receiveState s least greatest m) ≡ length s
+  pub length-receive : length (receiveState s g) ≡ length s
   unfolding receiveState
-  length-receive =
-      kept (SameLength s) (ltb (length s) stateSize) s _ refl
-      (λ a. kept (SameLength s) (not (inForm s)) s _ refl
-      (λ b. kept (SameLength s) (delaysFail least greatest) s (receiptBytes s least greatest (readBytes m) (wordsOf m)) refl
-      (λ c. length-receipt (readBytes m))))
+  length-receive = length-after (receiveNumber s g) (stateBytes (deliveredState (stateOf s) (delivered g))) s

@@ -18,37 +18,48 @@ use Rattle.message.specs.declared.Reading.{Reading}
 use Rattle.message.specs.declared.Reading.the-variants.{Message, Refused}
 use Rattle.message.proofs.ReadLaws.{read-out, terms-middle, length-middle}
 use Rattle.message.proofs.MessageLaws.{rewrite-length}
+use Rattle.message.specs.Words.{wordsMost, bytesMost}
+use Rattle.engine.specs.Refusals.{delayMost}
+use Rattle.state.specs.Refusal.{after}
+use Rattle.state.proofs.LentLaws.{after-refused}
+use Rattle.message.proofs.ReadLaws.{refused-above}
 use Rattle.monitor.specs.Messages.{readBytes, wordsIn, rewrittenBytes}
 
 -- more than 14 words, or none, are 10
-read-many : (ws : List ℕ) → 14 < length ws → readWords ws ≡ Refused 10
+read-many : (ws : List ℕ) → wordsMost < length ws → readWords ws ≡ Refused 10
 unfolding readWords
-read-many ws h = rw (le-ltb (length ws) 5 (omega arith), lt-ltb 14 (length ws) h)
+read-many ws h = rw (le-ltb (length ws) 5 (omega arith), lt-ltb wordsMost (length ws) h)
 
 length-words : (m : List ℕ) → length (wordsOf m) ≡ length m / 4
 unfolding wordsOf
 length-words m = length-tab (length m / 4) (λ i. num (i * 4) 4 m)
 
-too-many : (m : List ℕ) → eqb (length m % 4) 0 ≡ true → ltb 56 (length m) ≡ true → readWords (wordsOf m) ≡ Refused 10
-too-many m e f = read-many (wordsOf m) (omega (arith, length-words m, eqb-true (length m % 4) 0 e, ltb-true 56 (length m) f))
+too-many : (m : List ℕ) → eqb (length m % 4) 0 ≡ true → ltb bytesMost (length m) ≡ true → readWords (wordsOf m) ≡ Refused 10
+too-many m e f = read-many (wordsOf m) (omega (arith, length-words m, eqb-true (length m % 4) 0 e, ltb-true bytesMost (length m) f))
 
 pub read-words-in : (m : List ℕ) → readWords (wordsIn m) ≡ readBytes m
 unfolding readBytes wordsIn readWords
-read-words-in m = go (eqb (length m % 4) 0) (ltb 56 (length m)) refl refl
+read-words-in m = go (eqb (length m % 4) 0) (ltb bytesMost (length m)) refl refl
   where
-    go : (a b : Bool) → eqb (length m % 4) 0 ≡ a → ltb 56 (length m) ≡ b → readWords (cond a (cond b [] (wordsOf m)) []) ≡ cond a (readWords (wordsOf m)) (Refused 10)
+    go : (a b : Bool) → eqb (length m % 4) 0 ≡ a → ltb bytesMost (length m) ≡ b → readWords (cond a (cond b [] (wordsOf m)) []) ≡ cond a (readWords (wordsOf m)) (Refused 10)
     go true true e f = sym (too-many m e f)
     go true false e f = refl
     go false b e f = refl
 
 pub rewritten-words-in : (m : List ℕ) → rewritten (wordsIn m) ≡ rewrittenAs (readBytes m) (wordsOf m)
 unfolding rewritten rewrittenAs readBytes wordsIn
-rewritten-words-in m = ap (λ (r : Reading). rewrittenAs r (wordsIn m)) (read-words-in m) ∙ go (eqb (length m % 4) 0) (ltb 56 (length m)) refl refl
+rewritten-words-in m = ap (λ (r : Reading). rewrittenAs r (wordsIn m)) (read-words-in m) ∙ go (eqb (length m % 4) 0) (ltb bytesMost (length m)) refl refl
   where
-    go : (a b : Bool) → eqb (length m % 4) 0 ≡ a → ltb 56 (length m) ≡ b → rewrittenAs (readBytes m) (wordsIn m) ≡ rewrittenAs (readBytes m) (wordsOf m)
+    go : (a b : Bool) → eqb (length m % 4) 0 ≡ a → ltb bytesMost (length m) ≡ b → rewrittenAs (readBytes m) (wordsIn m) ≡ rewrittenAs (readBytes m) (wordsOf m)
     go true true e f = rw (e, f, too-many m e f)
     go true false e f = rw (e, f)
     go false b e f = rw e
+
+-- a refused reading leaves what the number says: the bytes as they were
+pub refused-stays : (m bytes s : List ℕ) (number : ℕ) → readBytes m ≡ Refused number → s ≡ after number bytes s
+refused-stays m bytes s number e =
+    let above = refused-above (wordsIn m) number (read-words-in m ∙ e) in
+    after-refused number bytes s (λ z. omega arith)
 
 -- ---- the words in bytes
 
@@ -57,11 +68,11 @@ module _ (m : List ℕ) where
   unfolding wordsIn
   words-in-rest h = rw (ne-eqb _ _ h)
 
-  pub words-in-many : length m % 4 ≡ 0 → 56 < length m → wordsIn m ≡ []
+  pub words-in-many : length m % 4 ≡ 0 → bytesMost < length m → wordsIn m ≡ []
   unfolding wordsIn
   words-in-many h k = rw (eq-eqb _ _ h, lt-ltb _ _ k)
 
-  pub words-in-all : length m % 4 ≡ 0 → length m ≤ 56 → wordsIn m ≡ tab (length m / 4) (λ i. num (0 + i * 4) 4 m)
+  pub words-in-all : length m % 4 ≡ 0 → length m ≤ bytesMost → wordsIn m ≡ tab (length m / 4) (λ i. num (0 + i * 4) 4 m)
   unfolding wordsIn wordsOf
   words-in-all h k = rw (eq-eqb _ _ h, le-ltb _ _ k) (simp zero-add)
 
@@ -99,9 +110,9 @@ module _ {s l r n : ℕ} (m : List ℕ) (e : readBytes m ≡ Message s l r n) wh
 
 pub words-in-taken : {s l r n : ℕ} (m : List ℕ) → readBytes m ≡ Message s l r n → wordsIn m ≡ wordsOf m
 unfolding wordsIn readBytes
-words-in-taken {s} {l} {r} {n} m e = go (eqb (length m % 4) 0) (ltb 56 (length m)) refl refl e
+words-in-taken {s} {l} {r} {n} m e = go (eqb (length m % 4) 0) (ltb bytesMost (length m)) refl refl e
   where
-    go : (a b : Bool) → eqb (length m % 4) 0 ≡ a → ltb 56 (length m) ≡ b → cond a (readWords (wordsOf m)) (Refused 10) ≡ Message s l r n → cond a (cond b [] (wordsOf m)) [] ≡ wordsOf m
+    go : (a b : Bool) → eqb (length m % 4) 0 ≡ a → ltb bytesMost (length m) ≡ b → cond a (readWords (wordsOf m)) (Refused 10) ≡ Message s l r n → cond a (cond b [] (wordsOf m)) [] ≡ wordsOf m
     go true true p q e = let z : _≡_ {A = ℕ} 0 1 = cc (too-many m p q) in absurd (omega arith)
     go true false p q e = refl
     go false b p q e = let z : _≡_ {A = ℕ} 0 1 = cc in absurd (omega arith)
@@ -115,10 +126,10 @@ taken-says m e =
 
 -- ---- delays that pass the test for 21
 
-pub delays-fit : (least greatest : ℕ) → (ltb greatest least || ltb 60_000_000 greatest) ≡ false → (least ≤ greatest) × (greatest ≤ 60_000_000)
-delays-fit least greatest e = go (ltb greatest least) (ltb 60_000_000 greatest) refl refl e
+pub delays-fit : (least greatest : ℕ) → (ltb greatest least || ltb delayMost greatest) ≡ false → (least ≤ greatest) × (greatest ≤ delayMost)
+delays-fit least greatest e = go (ltb greatest least) (ltb delayMost greatest) refl refl e
   where
-    go : (a b : Bool) → ltb greatest least ≡ a → ltb 60_000_000 greatest ≡ b → a || b ≡ false → (least ≤ greatest) × (greatest ≤ 60_000_000)
+    go : (a b : Bool) → ltb greatest least ≡ a → ltb delayMost greatest ≡ b → a || b ≡ false → (least ≤ greatest) × (greatest ≤ delayMost)
     go true b p q e = let z : _≡_ {A = ℕ} 0 1 = cc in absurd (omega arith)
     go false true p q e = let z : _≡_ {A = ℕ} 0 1 = cc in absurd (omega arith)
-    go false false p q e = (ltb-false greatest least p, ltb-false 60_000_000 greatest q)
+    go false false p q e = (ltb-false greatest least p, ltb-false delayMost greatest q)

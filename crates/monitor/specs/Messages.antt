@@ -5,9 +5,11 @@ use mathlib.Core.Bool.{cond}
 use mathlib.Core.List.{List, [], _++_}
 use lib.ListN.{length}
 use lib.Dec.{ltb, eqb}
-use Rattle.numbers.specs.Numbers.{bytes, put, wordsOf, bytesOf}
+use Rattle.numbers.specs.Numbers.{bytes, wordsOf, bytesOf}
+use Rattle.message.specs.Words.{bytesMost}
 use Rattle.message.specs.Read.{readWords}
 use Rattle.message.specs.Write.{rewrittenAs}
+use Rattle.state.specs.Refusal.{after}
 use Rattle.message.specs.declared.Reading.{Reading}
 use Rattle.message.specs.declared.Reading.the-variants.{Message, Refused}
 
@@ -17,17 +19,12 @@ readBytes message = cond (eqb (length message % 4) 0) (readWords (wordsOf messag
 
 -- the words in the bytes; none where the bytes are too many or leave a rest, and reading none is number 10 too
 unfoldable pub wordsIn : List ℕ → List ℕ
-wordsIn message = cond (eqb (length message % 4) 0) (cond (ltb 56 (length message)) [] (wordsOf message)) []
+wordsIn message = cond (eqb (length message % 4) 0) (cond (ltb bytesMost (length message)) [] (wordsOf message)) []
 
 -- the number of a call that reads a message and has `written` for its output: "Where an output is lent, 24 for it comes last"
 unfoldable pub answered : Reading → List ℕ → List ℕ → ℕ
 answered (Refused number) written out = number
 answered (Message sender left right count) written out = cond (ltb (length out) (length written)) 24 0
-
--- its output afterwards: "A refusal is its number alone; state and output stay as they were"; bytes beyond what is written are untouched
-unfoldable pub outputAfter : Reading → List ℕ → List ℕ → List ℕ
-outputAfter (Refused number) written out = out
-outputAfter (Message sender left right count) written out = cond (ltb (length out) (length written)) out (put 0 written out)
 
 -- ---- reading: "reading 32 (sender, left, right, term count), 8 bytes a number"
 
@@ -39,7 +36,7 @@ unfoldable pub readNumber : List ℕ → List ℕ → ℕ
 readNumber message out = answered (readBytes message) (readingBytes (readBytes message)) out
 
 unfoldable pub readOutput : List ℕ → List ℕ → List ℕ
-readOutput message out = outputAfter (readBytes message) (readingBytes (readBytes message)) out
+readOutput message out = after (readNumber message out) (readingBytes (readBytes message)) out
 
 -- ---- rewriting: "takes a message and writes it in ends form with the sender, interval and terms it has"
 
@@ -50,4 +47,4 @@ unfoldable pub rewriteNumber : List ℕ → List ℕ → ℕ
 rewriteNumber message out = answered (readBytes message) (rewrittenBytes message) out
 
 unfoldable pub rewriteOutput : List ℕ → List ℕ → List ℕ
-rewriteOutput message out = outputAfter (readBytes message) (rewrittenBytes message) out
+rewriteOutput message out = after (rewriteNumber message out) (rewrittenBytes message) out

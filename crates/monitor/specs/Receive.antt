@@ -1,46 +1,55 @@
--- Receiving, over bytes (document 01, "Receiving" and "Who can cause which refusal"): the number that the call returns and the lent state
--- afterwards. Assumes nothing: these are definitions.
+-- Receiving, over bytes (document 01, "Receiving" and "Who can cause which refusal"): what C gives a receipt, what its message delivers, the number
+-- that the call returns and the lent state afterwards. Assumes nothing: these are definitions.
 use Prim.Native.Nat.{ℕ}
-use mathlib.Core.Bool.{not, cond}
 use mathlib.Core.List.{List}
-use lib.ListN.{length}
-use lib.Dec.{ltb}
 use Rattle.numbers.specs.Numbers.{wordsOf}
 use Rattle.message.specs.Words.{masks}
 use Rattle.message.specs.Read.{termWords}
 use Rattle.message.specs.declared.Reading.{Reading}
 use Rattle.message.specs.declared.Reading.the-variants.{Message, Refused}
-use Rattle.state.specs.Layout.{stateSize, stateOf}
-use Rattle.state.specs.Form.{inForm}
-use Rattle.engine.specs.Receiving.{delivery}
+use Rattle.state.specs.Model.{State}
+use Rattle.state.specs.Layout.{stateBytes, stateOf}
+use Rattle.state.specs.Refusal.{refuse, lent, after}
+use Rattle.engine.specs.Receiving.{Delivery, delivery}
 use Rattle.engine.specs.Calls.{receive, done}
-use Rattle.state.specs.Refusal.{refuse}
 use Rattle.engine.specs.Refusals.{delaysFail, receiptRefusal}
-use Rattle.state.specs.Refusal.{after}
 use Rattle.monitor.specs.Messages.{readBytes}
 
--- the number of a receipt, from the message's words on: "10, 12, 11, 13 to 18, 30, 31, 32"
-unfoldable pub receiptNumber : List ℕ → ℕ → ℕ → Reading → List ℕ → ℕ
-receiptNumber s least greatest (Refused number) ws = number
-receiptNumber s least greatest (Message sender left right count) ws =
-    receiptRefusal (stateOf s) (delivery least greatest sender left right (masks (termWords (Message sender left right count) ws)))
+-- what C gives a receipt, the state aside: the channel's least and greatest delay, and the message's bytes
+pub record Receipt : Type 0 where
+  pub least : ℕ
+  pub greatest : ℕ
+  pub message : List ℕ
 
--- and the state afterwards
-unfoldable pub receiptBytes : List ℕ → ℕ → ℕ → Reading → List ℕ → List ℕ
-receiptBytes s least greatest (Refused number) ws = s
-receiptBytes s least greatest (Message sender left right count) ws =
-    after (receiptNumber s least greatest (Message sender left right count) ws)
-    (done (stateOf s) (receive (delivery least greatest sender left right (masks (termWords (Message sender left right count) ws))))) s
+abbrev pub receiptOf : ℕ → ℕ → List ℕ → Receipt
+receiptOf least greatest message = record { least = least; greatest = greatest; message = message }
+
+-- what a message delivers: the number of its refusal, or what the engine receives
+pub data Delivered : Type 0 where
+  refused : ℕ → Delivered
+  brings : Delivery → Delivered
+
+unfoldable pub deliveredAs : Receipt → Reading → Delivered
+deliveredAs g (Refused number) = refused number
+deliveredAs g (Message sender left right count) =
+    brings (delivery (g .least) (g .greatest) sender left right (masks (termWords (Message sender left right count) (wordsOf (g .message)))))
+
+unfoldable pub delivered : Receipt → Delivered
+delivered g = deliveredAs g (readBytes (g .message))
+
+-- from the message's words on: "10, 12, 11, 13 to 18, 30, 31, 32"
+unfoldable pub deliveredNumber : State → Delivered → ℕ
+deliveredNumber st (refused number) = number
+deliveredNumber st (brings g) = receiptRefusal st g
+
+-- the state after a taken receipt; a message that cannot be read is never taken
+unfoldable pub deliveredState : State → Delivered → State
+deliveredState st (refused number) = st
+deliveredState st (brings g) = done st (receive g)
 
 -- "Receiving 24, 25, 21, 10, 12, 11, 13 to 18, 30, 31, 32"
-unfoldable pub receiveNumber : List ℕ → ℕ → ℕ → List ℕ → ℕ
-receiveNumber s least greatest message =
-    refuse (ltb (length s) stateSize) 24
-    (refuse (not (inForm s)) 25
-    (refuse (delaysFail least greatest) 21 (receiptNumber s least greatest (readBytes message) (wordsOf message))))
+unfoldable pub receiveNumber : List ℕ → Receipt → ℕ
+receiveNumber s g = lent s (refuse (delaysFail (g .least) (g .greatest)) 21 (deliveredNumber (stateOf s) (delivered g)))
 
-unfoldable pub receiveState : List ℕ → ℕ → ℕ → List ℕ → List ℕ
-receiveState s least greatest message =
-    cond (ltb (length s) stateSize) s
-    (cond (not (inForm s)) s
-    (cond (delaysFail least greatest) s (receiptBytes s least greatest (readBytes message) (wordsOf message))))
+unfoldable pub receiveState : List ℕ → Receipt → List ℕ
+receiveState s g = after (receiveNumber s g) (stateBytes (deliveredState (stateOf s) (delivered g))) s

@@ -4,17 +4,19 @@ ghost use Prim.Native.Nat.{_≤_, _<_};
 ghost use lib.ListN.{length};
 ghost use lib.Dec.{T};
 ghost use Rattle.numbers.specs.Numbers.{put};
-ghost use Rattle.state.specs.Layout.{heldCount};
+ghost use Rattle.message.specs.Words.{wordsMost};
+ghost use Rattle.state.specs.Layout.{stateSize, dataMost, heldCount};
 ghost use Rattle.state.specs.Form.{inForm};
+ghost use Rattle.engine.specs.Calls.{setup};
 ghost use Rattle.monitor.specs.Calls.{setUpNumber, setUpState, ageNumber, ageState, writtenWords, writeNumber, writeOutput};
 
 // Sets a monitor up: own name, drift in parts per million, and a reading of the own clock. Answers 0, or 24, 1, 2 or 3.
 #[no_mangle]
 pub extern "C" fn monitor_set_up(state: &mut [u8], own: u32, drift: u32, reading: u64) -> u32
-    ensures { λ r. ⌜ r ≡ setUpNumber (now (state .entry)) own drift reading ⌝ }
-    ensures { λ _. ⌜ now (state .exit) ≡ setUpState (now (state .entry)) own drift reading ⌝ }
+    ensures { λ r. ⌜ r ≡ setUpNumber (now (state .entry)) (setup own drift reading) ⌝ }
+    ensures { λ _. ⌜ now (state .exit) ≡ setUpState (now (state .entry)) (setup own drift reading) ⌝ }
 {
-    if state.len() < 3032 {
+    if state.len() < state::STATE_SIZE {
         return 24;
     }
     engine::set_up::set_up(state, own, drift, reading)
@@ -26,30 +28,28 @@ pub extern "C" fn monitor_age(state: &mut [u8], reading: u64) -> u32
     ensures { λ r. ⌜ r ≡ ageNumber (now (state .entry)) reading ⌝ }
     ensures { λ _. ⌜ now (state .exit) ≡ ageState (now (state .entry)) reading ⌝ }
 {
-    if state.len() < 3032 {
-        return 24;
-    }
-    if !state::form::in_form(state) {
-        return 25;
+    let number = state::form::refusal(state);
+    if number != 0 {
+        return number;
     }
     engine::ageing::age(state, reading)
 }
 
 // Writes the words of the held datum at a position to the front of `words` and answers how many.
 fn datum_words(state: &[u8], position: usize, words: &mut [u32]) -> usize
-    requires { ⌜ (3032 ≤ length (now state)) × T (inForm (now state)) ⌝ }
-    requires { ⌜ (position < heldCount (now state)) × (position < 16) × (14 ≤ length (now words)) ⌝ }
-    ensures { λ r. ⌜ (r ≡ length (writtenWords (now (state .entry)) position)) × (r ≤ 14) ⌝ }
+    requires { ⌜ (stateSize ≤ length (now state)) × T (inForm (now state)) ⌝ }
+    requires { ⌜ (position < heldCount (now state)) × (position < dataMost) × (wordsMost ≤ length (now words)) ⌝ }
+    ensures { λ r. ⌜ (r ≡ length (writtenWords (now (state .entry)) position)) × (r ≤ wordsMost) ⌝ }
     ensures { λ _. ⌜ now (words .exit) ≡ put 0 (writtenWords (now (state .entry)) position) (now (words .entry)) ⌝ }
 {
-    let at = 24 + position * 52;
-    let own = numbers::get32(state, 0);
+    let at = state::DATA_AT + position * state::DATUM_SIZE;
+    let own = numbers::get32(state, state::OWN_AT);
     let left = numbers::get64(state, at);
-    let right = numbers::get64(state, at + 8);
-    let row = at + 16;
+    let right = numbers::get64(state, at + state::RIGHT_IN);
+    let row = at + state::ROW_IN;
     let count = numbers::get32(state, row) as usize;
-    let mut masks = [0u32; 8];
-    numbers::get_words(state, row + 4, &mut masks, 8);
+    let mut masks = [0u32; state::DATUM_TERMS];
+    numbers::get_words(state, row + 4, &mut masks, state::DATUM_TERMS);
     let none = [0u32; 0];
     message::write::write(words, own, &none, left, right, &masks[..count]);
     count + 6
@@ -61,17 +61,15 @@ pub extern "C" fn monitor_write(state: &[u8], position: u64, message: &mut [u8])
     ensures { λ r. ⌜ r ≡ writeNumber (now (state .entry)) position (now (message .entry)) ⌝ }
     ensures { λ _. ⌜ now (message .exit) ≡ writeOutput (now (state .entry)) position (now (message .entry)) ⌝ }
 {
-    if state.len() < 3032 {
-        return 24;
+    let number = state::form::refusal(state);
+    if number != 0 {
+        return number;
     }
-    if !state::form::in_form(state) {
-        return 25;
-    }
-    let held = numbers::get32(state, 16);
+    let held = numbers::get32(state, state::HELD_AT);
     if held as u64 <= position {
         return 23;
     }
-    let mut words = [0u32; 14];
+    let mut words = [0u32; message::WORDS_MOST];
     let n = datum_words(state, position as usize, &mut words);
     if message.len() < n * 4 {
         return 24;

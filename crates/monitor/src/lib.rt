@@ -5,6 +5,7 @@ ghost use mathlib.Core.List.{_++_};
 ghost use Prim.Native.Nat.{_≤_};
 ghost use lib.ListN.{length, drop};
 ghost use Rattle.numbers.specs.Numbers.{bytes, put};
+ghost use Rattle.message.specs.Words.{wordsMost};
 ghost use Rattle.monitor.specs.Messages.{wordsIn, readNumber, readOutput, rewriteNumber, rewriteOutput};
 use message::Reading;
 
@@ -14,15 +15,15 @@ pub mod receive;
 
 // Puts the words of a message's bytes at the front of `words` and answers how many; none where the bytes cannot be a message's.
 fn take_words(message: &[u8], words: &mut [u32]) -> usize
-    requires { ⌜ 14 ≤ length (now words) ⌝ }
-    ensures { λ r. ⌜ (r ≡ length (wordsIn (now (message .entry)))) × (r ≤ 14) ⌝ }
+    requires { ⌜ wordsMost ≤ length (now words) ⌝ }
+    ensures { λ r. ⌜ (r ≡ length (wordsIn (now (message .entry)))) × (r ≤ wordsMost) ⌝ }
     ensures { λ r. ⌜ now (words .exit) ≡ wordsIn (now (message .entry)) ++ drop r (now (words .entry)) ⌝ }
 {
     let size = message.len();
     if size % 4 != 0 {
         return 0;
     }
-    if 56 < size {
+    if message::BYTES_MOST < size {
         return 0;
     }
     let n = size / 4;
@@ -47,7 +48,7 @@ pub extern "C" fn message_read(message: &[u8], reading: &mut [u8]) -> u32
     ensures { λ r. ⌜ r ≡ readNumber (now (message .entry)) (now (reading .entry)) ⌝ }
     ensures { λ _. ⌜ now (reading .exit) ≡ readOutput (now (message .entry)) (now (reading .entry)) ⌝ }
 {
-    let mut words = [0u32; 14];
+    let mut words = [0u32; message::WORDS_MOST];
     let n = take_words(message, &mut words);
     let got = message::read::read(&words[..n]);
     let Reading::Message(sender, left, right, count) = got else {
@@ -66,9 +67,9 @@ pub extern "C" fn message_rewrite(message: &[u8], out: &mut [u8]) -> u32
     ensures { λ r. ⌜ r ≡ rewriteNumber (now (message .entry)) (now (out .entry)) ⌝ }
     ensures { λ _. ⌜ now (out .exit) ≡ rewriteOutput (now (message .entry)) (now (out .entry)) ⌝ }
 {
-    let mut words = [0u32; 14];
+    let mut words = [0u32; message::WORDS_MOST];
     let n = take_words(message, &mut words);
-    let mut written = [0u32; 14];
+    let mut written = [0u32; message::WORDS_MOST];
     let got = message::write::rewrite(&words[..n], &mut written);
     let Reading::Message(_, _, _, count) = got else {
         return message::read::refusal(got);

@@ -6,13 +6,18 @@ ghost use lib.ListN.{length};
 ghost use Rattle.numbers.specs.Numbers.{put};
 ghost use Rattle.asking.specs.Asking.{answerNumbers};
 ghost use Rattle.asking.specs.Fewest.{fewestNumbers};
-ghost use Rattle.monitor.specs.Ask.{wide, askNumber, askOutput, fewestNumber, fewestOutput};
+ghost use Rattle.monitor.specs.Ask.{answerSize, fewestSize, wide, askNumber, askOutput, fewestNumber, fewestOutput};
 use asking::Answer;
 use asking::Fewest;
 
+// The greatest limit, and the bytes that an answer and the fewest failures take.
+pub const LIMIT_MOST: u64 = 4;
+pub const ANSWER_SIZE: usize = 24;
+pub const FEWEST_SIZE: usize = 16;
+
 // Writes three numbers of 8 bytes at the front.
 fn put_three(out: &mut [u8], a: u64, b: u64, c: u64)
-    requires { ⌜ 24 ≤ length (now out) ⌝ }
+    requires { ⌜ answerSize ≤ length (now out) ⌝ }
     ensures { λ _. ⌜ now (out .exit) ≡ put 0 (wide (a ∷ b ∷ c ∷ [])) (now (out .entry)) ⌝ }
 {
     numbers::put64(out, 0, a);
@@ -22,7 +27,7 @@ fn put_three(out: &mut [u8], a: u64, b: u64, c: u64)
 
 // Writes an answer: 0 contradicted, 1 open, 2 between; left; right.
 fn put_answer(out: &mut [u8], got: Answer)
-    requires { ⌜ 24 ≤ length (now out) ⌝ }
+    requires { ⌜ answerSize ≤ length (now out) ⌝ }
     ensures { λ _. ⌜ now (out .exit) ≡ put 0 (wide (answerNumbers got)) (now (out .entry)) ⌝ }
 {
     match got {
@@ -34,7 +39,7 @@ fn put_answer(out: &mut [u8], got: Answer)
 
 // Writes two numbers of 8 bytes at the front.
 fn put_two(out: &mut [u8], a: u64, b: u64)
-    requires { ⌜ 16 ≤ length (now out) ⌝ }
+    requires { ⌜ fewestSize ≤ length (now out) ⌝ }
     ensures { λ _. ⌜ now (out .exit) ≡ put 0 (wide (a ∷ b ∷ [])) (now (out .entry)) ⌝ }
 {
     numbers::put64(out, 0, a);
@@ -43,7 +48,7 @@ fn put_two(out: &mut [u8], a: u64, b: u64)
 
 // Writes the fewest failures: their count and mask; 5 and 0 where there are more than 4.
 fn put_fewest(out: &mut [u8], got: Fewest)
-    requires { ⌜ 16 ≤ length (now out) ⌝ }
+    requires { ⌜ fewestSize ≤ length (now out) ⌝ }
     ensures { λ _. ⌜ now (out .exit) ≡ put 0 (wide (fewestNumbers got)) (now (out .entry)) ⌝ }
 {
     match got {
@@ -58,16 +63,14 @@ pub extern "C" fn monitor_ask(state: &[u8], limit: u64, answer: &mut [u8]) -> u3
     ensures { λ r. ⌜ r ≡ askNumber (now (state .entry)) limit (now (answer .entry)) ⌝ }
     ensures { λ _. ⌜ now (answer .exit) ≡ askOutput (now (state .entry)) limit (now (answer .entry)) ⌝ }
 {
-    if state.len() < 3032 {
-        return 24;
+    let number = state::form::refusal(state);
+    if number != 0 {
+        return number;
     }
-    if !state::form::in_form(state) {
-        return 25;
-    }
-    if 4 < limit {
+    if LIMIT_MOST < limit {
         return 22;
     }
-    if answer.len() < 24 {
+    if answer.len() < ANSWER_SIZE {
         return 24;
     }
     put_answer(answer, asking::ask::ask(state, limit as u32));
@@ -80,13 +83,11 @@ pub extern "C" fn monitor_fewest(state: &[u8], answer: &mut [u8]) -> u32
     ensures { λ r. ⌜ r ≡ fewestNumber (now (state .entry)) (now (answer .entry)) ⌝ }
     ensures { λ _. ⌜ now (answer .exit) ≡ fewestOutput (now (state .entry)) (now (answer .entry)) ⌝ }
 {
-    if state.len() < 3032 {
-        return 24;
+    let number = state::form::refusal(state);
+    if number != 0 {
+        return number;
     }
-    if !state::form::in_form(state) {
-        return 25;
-    }
-    if answer.len() < 16 {
+    if answer.len() < FEWEST_SIZE {
         return 24;
     }
     put_fewest(answer, asking::failures::fewest_failures(state));

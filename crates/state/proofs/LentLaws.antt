@@ -63,3 +63,13 @@ length-after number bytes s = go (eqb number 0)
     go : (b : Bool) → length (cond b (put 0 bytes s) s) ≡ length s
     go true = length-put 0 bytes s
     go false = refl
+
+-- what a call answers that its first tests refuse, and what it leaves of a lent buffer
+pub lent-stays : (s out bytes : List ℕ) (r next : ℕ) → r ≡ lent s 0 → (r ≡ 0 → ⊥) → (r ≡ lent s next) × (out ≡ after (lent s next) bytes out)
+lent-stays s out bytes r next e f =
+    let same = lent-refused s r next e f in
+    (same, rw (← same) (after-refused r bytes out f))
+
+-- what they tell of a lent state that passes them
+pub lent-taken : (s : List ℕ) (r : ℕ) → r ≡ lent s 0 → r ≡ 0 → (stateSize ≤ length s) × T (inForm s)
+lent-taken s r e z = let p = lent-passed s 0 (sym e ∙ z) in (p .0, p .1)

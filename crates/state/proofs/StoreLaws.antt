@@ -23,7 +23,8 @@ use Rattle.state.specs.Form.{inForm, datumOk, termsFit}
 use Rattle.state.proofs.LayoutLaws.{all-tab, At, length-joined, at-joined, length-datum, length-entry}
 use Rattle.state.proofs.PutLaws.{joined-last}
 use Rattle.state.proofs.StateLaws.{datum-at-ok, length-datum-at, entry-at-ok, length-entry-at}
-use Rattle.state.specs.code.Tables.{Table, Columns, tableOf, table, columns, TableFits, ColumnsFit, rowOf, hasTerms, entriesIn, datum, datumIn, dataIn, Columns, Table, tableOf}
+use Rattle.state.specs.code.Tables.{Table, Columns, tableOf, table, columns, TableFits, ColumnsFit, rowOf, hasTerms, entriesIn, datumIn, dataIn, Columns, Table, tableOf}
+use Rattle.state.specs.Model.{datum}
 use Rattle.numbers.proofs.NumberLaws.{tab-suc, tab-cong}
 use Rattle.predicates.proofs.ListLaws.{keep-append}
 use Rattle.state.proofs.RowLaws.{row-lent, row-empty}

@@ -9,6 +9,9 @@ pub record Datum : Type 0 where
   pub right : ℕ
   pub terms : List ℕ
 
+abbrev pub datum : ℕ → ℕ → List ℕ → Datum
+datum left right terms = record { left = left; right = right; terms = terms }
+
 -- what setting up enters, and what calls change of it by their arguments alone
 pub record Head : Type 0 where
   pub own : ℕ

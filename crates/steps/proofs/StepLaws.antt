@@ -18,7 +18,8 @@ use Rattle.predicates.specs.Predicates.{normal}
 use Rattle.predicates.proofs.LoopLaws.{drop-next}
 use Rattle.state.specs.Model.{Datum, Store}
 use Rattle.steps.specs.Steps.{disjoint, explained, learn, learnt, unexplained, same, meet, met, without, betters, stored, heldAfter, settled}
-use Rattle.state.specs.code.Tables.{table, columns, TableFits, rowOf, hasTerms, datum, datumIn, dataIn}
+use Rattle.state.specs.code.Tables.{table, columns, TableFits, rowOf, hasTerms, datumIn, dataIn}
+use Rattle.state.specs.Model.{datum}
 use Rattle.steps.specs.code.Rows.{givenUp, FirstRow, liveBelow}
 use Rattle.numbers.proofs.NumberLaws.{tab-suc, tab-cong}
 use Rattle.predicates.proofs.ListLaws.{keep-append}

@@ -20,7 +20,8 @@ use Rattle.predicates.specs.code.Marks.{markOf, Apart}
 use Rattle.steps.specs.Steps.{explained, learn}
 use Rattle.state.specs.Model.{Datum}
 use Rattle.state.specs.Layout.{datumTerms}
-use Rattle.state.specs.code.Tables.{Columns, table, columns, TableFits, ColumnsFit, rowOf, hasTerms, entriesIn, datum, datumIn, dataIn}
+use Rattle.state.specs.code.Tables.{Columns, table, columns, TableFits, ColumnsFit, rowOf, hasTerms, entriesIn, datumIn, dataIn}
+use Rattle.state.specs.Model.{datum}
 use Rattle.steps.specs.code.Rows.{Marked, givenUp}
 use Rattle.predicates.proofs.ListLaws.{keep-append, any-append}
 use Rattle.state.proofs.RowLaws.{row-empty}

@@ -4,8 +4,9 @@ use borrow.Author.Tests.{lt-ltb, le-ltb}
 use lib.Seq.{length-take-le}
 use Rattle.numbers.specs.Numbers.{bytes}
 use Rattle.message.specs.Read.{readingNumber}
-use Rattle.monitor.specs.Messages.{readBytes, readingBytes, answered, outputAfter, readNumber, readOutput}
-use Rattle.monitor.proofs.MessageCalls.{got-read}
+use Rattle.state.specs.Refusal.{after}
+use Rattle.monitor.specs.Messages.{readBytes, readingBytes, answered, readNumber, readOutput}
+use Rattle.monitor.proofs.MessageCalls.{refused-stays, got-read}
 use borrow.Author.Needs.{needs}
 use Rattle.monitor.proofs.message_read.Statement.{statement}
 use Rattle.monitor.proofs.message_read.Tie as tie
@@ -20,21 +21,21 @@ same c =
     got-read _ _ _ _ (at-take .ensures .1) (at-take .ensures .0 .0) _ (c .read .ensures)
 
 returns : tie.Need-returns
-unfolding readNumber readOutput answered outputAfter readingNumber
+unfolding readNumber readOutput answered after readingNumber
 returns c =
     let told = c .before .enum-told .given .1 in
     let e = sym (same (c .before .before .before)) ∙ told in
-    (rw (c .refusal .ensures, told, e), rw e)
+    (rw (c .refusal .ensures, told, e), rw e (refused-stays _ _ _ _ e))
 
 returns-2 : tie.Need-returns-2
-unfolding readNumber readOutput answered outputAfter readingBytes bytes
+unfolding readNumber readOutput answered after readingBytes bytes
 returns-2 c =
     let e = sym (same (c .before .before .before .before)) ∙ c .before .before .got .given .1 in
     let short = lt-ltb _ _ (c .if1 .taken) in
     (rw (e, short), rw (e, short))
 
 returns-3 : tie.Need-returns-3
-unfolding readNumber readOutput answered outputAfter readingBytes bytes
+unfolding readNumber readOutput answered after readingBytes bytes
 returns-3 c =
     let at-if1 = c .before .before .before .before in
     let e = sym (same (at-if1 .before .before .before .before)) ∙ at-if1 .before .before .got .given .1 in

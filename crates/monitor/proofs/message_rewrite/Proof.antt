@@ -3,8 +3,9 @@ use mathlib.Core.Path.{_≡_, sym, _∙_}
 use borrow.Author.Tests.{lt-ltb, le-ltb}
 use lib.Seq.{length-take-le}
 use Rattle.message.specs.Read.{readingNumber}
-use Rattle.monitor.specs.Messages.{readBytes, answered, outputAfter, rewriteNumber, rewriteOutput}
-use Rattle.monitor.proofs.MessageCalls.{got-read, words-taken, rewritten-few, length-rewritten-bytes, written-bytes}
+use Rattle.state.specs.Refusal.{after}
+use Rattle.monitor.specs.Messages.{readBytes, answered, rewriteNumber, rewriteOutput}
+use Rattle.monitor.proofs.MessageCalls.{refused-stays, got-read, words-taken, rewritten-few, length-rewritten-bytes, written-bytes}
 use borrow.Author.Needs.{needs}
 use Rattle.monitor.proofs.message_rewrite.Statement.{statement}
 use Rattle.monitor.proofs.message_rewrite.Tie as tie
@@ -19,14 +20,14 @@ same c =
     got-read _ _ _ _ (at-take .ensures .1) (at-take .ensures .0 .0) _ (c .rewrite .ensures .0)
 
 returns : tie.Need-returns
-unfolding rewriteNumber rewriteOutput answered outputAfter readingNumber
+unfolding rewriteNumber rewriteOutput answered after readingNumber
 returns c =
     let told = c .before .enum-told .given .1 in
     let e = sym (same (c .before .before .before .before)) ∙ told in
-    (rw (c .refusal .ensures, told, e), rw e)
+    (rw (c .refusal .ensures, told, e), rw e (refused-stays _ _ _ _ e))
 
 returns-2 : tie.Need-returns-2
-unfolding rewriteNumber rewriteOutput answered outputAfter
+unfolding rewriteNumber rewriteOutput answered after
 returns-2 c =
     let e = sym (same (c .before .before .before .before .before)) ∙ c .before .before .got .given .1 in
     let short = lt-ltb _ _ (rw (← length-rewritten-bytes _ e) at (c .if1 .taken)) in
@@ -40,7 +41,7 @@ put-words-requires c κs =
     search needs
 
 returns-3 : tie.Need-returns-3
-unfolding rewriteNumber rewriteOutput answered outputAfter
+unfolding rewriteNumber rewriteOutput answered after
 returns-3 c =
     let at-if1 = c .before .before .before .before .before in
     let at-rewrite = at-if1 .before .before .before .before .before in

@@ -7,7 +7,7 @@ use mathlib.Core.List.{List, [], _∷_}
 use lib.ListN.{length, getD, take, drop}
 use Rattle.numbers.specs.Numbers.{tab}
 use Rattle.predicates.specs.Lists.{keep}
-use Rattle.state.specs.Model.{Datum, Store}
+use Rattle.state.specs.Model.{Datum, datum, Store}
 use Rattle.state.specs.Layout.{datumTerms, entryTerms}
 use Rattle.state.specs.declared.Ends.{Ends}
 
@@ -61,10 +61,7 @@ hasTerms (t ∷ p) = true
 unfoldable pub entriesIn : ℕ → Table → List (List ℕ)
 entriesIn n t = keep hasTerms (tab n (rowOf entryTerms t))
 
--- a datum by its parts; its ends travel as one struct
-abbrev pub datum : ℕ → ℕ → List ℕ → Datum
-datum left right terms = record { left = left; right = right; terms = terms }
-
+-- a datum whose ends travel as one struct
 abbrev pub datumOf : Ends → List ℕ → Datum
 datumOf e terms = datum (e .left) (e .right) terms
 

@@ -1,10 +1,12 @@
 -- `monitor::receive::receive_message` meets its contract: refused by what was read, or received with what the message says (`taken-says`).
-use mathlib.Core.Path.{_≡_, sym, _∙_}
+use mathlib.Core.Path.{_≡_, refl, sym, _∙_}
+use native.Mathlib.Omega.{arith}
 use lib.Seq.{length-take-le}
 use Rattle.message.specs.Read.{readingNumber}
+use Rattle.state.specs.Refusal.{after}
 use Rattle.monitor.specs.Messages.{readBytes}
-use Rattle.monitor.specs.Receive.{receiptNumber, receiptBytes}
-use Rattle.monitor.proofs.MessageCalls.{got-read, words-taken, words-in-taken, taken-says}
+use Rattle.monitor.specs.Receive.{delivered, deliveredAs, deliveredNumber, deliveredState}
+use Rattle.monitor.proofs.MessageCalls.{got-read, words-taken, words-in-taken, taken-says, refused-stays}
 use borrow.Author.Needs.{needs}
 use Rattle.monitor.proofs.receive.receive_message.Statement.{statement}
 use Rattle.monitor.proofs.receive.receive_message.Tie as tie
@@ -19,11 +21,12 @@ same c =
     got-read _ _ _ _ (at-take .ensures .1) (at-take .ensures .0 .0) _ (c .read .ensures)
 
 returns : tie.Need-returns
-unfolding receiptNumber receiptBytes readingNumber
+unfolding delivered deliveredAs deliveredNumber deliveredState readingNumber
 returns c =
     let told = c .before .enum-told .given .1 in
     let e = sym (same (c .before .before .before)) ∙ told in
-    (rw (c .refusal .ensures, told, e), rw e)
+    let number = rw told at (c .refusal .ensures) in
+    (rw e number, rw (e, number) (refused-stays (c .before .before .before .before .before .before .before .before .before .before .args .message .now) _ _ _ e))
 
 slice-aggregate-term-words : tie.Need-slice-aggregate-term-words
 slice-aggregate-term-words c = sym (length-take-le _ _ (search needs))
@@ -31,24 +34,22 @@ slice-aggregate-term-words c = sym (length-take-le _ _ (search needs))
 term-words-requires : tie.Need-term-words-requires
 term-words-requires c κs = sym (c .before .before .got .given .1) ∙ c .before .before .before .before .read .ensures
 
-receive-requires : tie.Need-receive-requires
-receive-requires c κs =
+deliver-requires : tie.Need-deliver-requires
+deliver-requires c κs =
     let a = c .before .before .before .before .before .before .before .before .before .before .before .before .before in
     let at-take = c .before .before .before .before .before .before .before .before .before .take-words in
     let says = taken-says (a .args .message .now) (sym (same (c .before .before .before .before .before .before)) ∙ c .before .before .before .before .got .given .1) in
     let words = words-taken _ _ _ _ (at-take .ensures .1) (at-take .ensures .0 .0) in
-    (a .pre .0, (a .pre .1 .0, a .pre .1 .1, says .0, says .1, says .2, rw (c .before .term-words .ensures, words) (says .3)))
+    (a .pre .0, ((a .pre .1 .0, a .pre .1 .1, says .0), (says .1, says .2, rw (c .before .term-words .ensures, words) (says .3))))
 
 returns-2 : tie.Need-returns-2
-unfolding receiptNumber receiptBytes
+unfolding delivered deliveredAs deliveredNumber deliveredState
 returns-2 c =
-    let a = c .before .before .before .before .before .before .before .before .before .before .before .before .before .before .before .before in
     let at-take = c .before .before .before .before .before .before .before .before .before .before .before .before .take-words in
     let e = sym (same (c .before .before .before .before .before .before .before .before .before)) ∙ c .before .before .before .before .before .before .before .got .given .1 in
-    let words = words-taken _ _ _ _ (at-take .ensures .1) (at-take .ensures .0 .0) ∙ words-in-taken (a .args .message .now) e in
+    let words = words-taken _ _ _ _ (at-take .ensures .1) (at-take .ensures .0 .0) ∙ words-in-taken (c .before .before .before .before .before .before .before .before .before .before .before .before .before .before .before .before .args .message .now) e in
     let terms = rw words at (c .before .before .before .before .term-words .ensures) in
-    let number = rw terms at (c .before .before .receive .ensures .0) in
-    (rw e number, rw e (rw number at (rw terms at (c .before .before .receive .ensures .1))))
+    (rw e (rw terms at (c .before .before .deliver .ensures .0)), rw e (rw terms at (c .before .before .deliver .ensures .1)))
 
 pub receive-message-spec : {M : Type 1} → statement M
 receive-message-spec =
@@ -66,6 +67,6 @@ receive-message-spec =
     (λ c. search needs)
     slice-aggregate-term-words
     term-words-requires
-    receive-requires
+    deliver-requires
     (λ c. search needs)
     returns-2)

@@ -4,7 +4,8 @@ use mathlib.Core.Path.{sym, ap₂, _∙_}
 use native.Mathlib.Omega.{arith}
 use lib.ListN.{length}
 use Rattle.steps.specs.Steps.{meet}
-use Rattle.state.specs.code.Tables.{datum, datumOf, datumIn}
+use Rattle.state.specs.Model.{datum}
+use Rattle.state.specs.code.Tables.{datumOf, datumIn}
 use Rattle.steps.proofs.StepLaws.{meet-none, meet-met, meet-without, table-zero}
 use borrow.Author.Needs.{needs}
 use Rattle.steps.proofs.steps.meet.Statement.{statement}

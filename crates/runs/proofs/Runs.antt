@@ -31,13 +31,15 @@ use Rattle.engine.specs.Outcomes.{setUpBytes, ageBytes}
 use Rattle.state.proofs.LentLaws.{refuse-none}
 use Rattle.engine.proofs.CallLaws.{set-up-ok, age-ok, receive-ok}
 use Rattle.asking.specs.Instants.{Allowed, Counts}
 use Rattle.monitor.specs.Messages.{readBytes}
 use Rattle.monitor.specs.Calls.{setUpNumber, setUpState, ageNumber, ageState}
 use Rattle.monitor.specs.Receive.{receiptNumber, receiptBytes, receiveNumber, receiveState}
-use Rattle.monitor.specs.Book.{Request, ageing, receipt, Book, opened, entered, enteredReading, enteredRequest, noted, bookOf, sees, Possible}
-use Rattle.monitor.specs.Runs.{numberOf, bytesAfter, bytesRun, steps, Run, begin, stateAfter, stepsOf, book, SetBySet}
+use Rattle.runs.specs.Book.{Request, ageing, receipt, Book, opened, entered, enteredRequest, noted, bookOf, sees, Possible}
+use Rattle.monitor.specs.Book.{enteredReading}
+use Rattle.monitor.specs.Runs.{numberOf}
+use Rattle.runs.specs.Runs.{bytesAfter, bytesRun, steps, Run, begin, stateAfter, stepsOf, book, SetBySet}
 use Rattle.monitor.proofs.FormKept.{put-form, put-state, heard-in}
-use Rattle.monitor.proofs.Agreement.{Agrees, agrees-none, Given, call-agrees}
+use Rattle.runs.proofs.Agreement.{Agrees, agrees-none, Given, call-agrees}
 
 -- ---- the invariant
 

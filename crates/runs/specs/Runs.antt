@@ -18,22 +18,22 @@ use Rattle.asking.specs.declared.Fewest.{Fewest}
 use Rattle.asking.specs.declared.Fewest.the-variants.{Over, Few}
 use Rattle.asking.specs.Instants.{Allowed, Fine}
 use Rattle.asking.specs.Fewest.{FewestOf}
 use Rattle.monitor.specs.Calls.{setUpNumber, setUpState, ageNumber, ageState}
 use Rattle.monitor.specs.Receive.{receiveNumber, receiveState}
-use Rattle.monitor.specs.Ask.{askNumber, askOutput, fewestNumber, fewestOutput}
-use Rattle.monitor.specs.Book.{Request, ageing, receipt, Step, Book, opened, bookOf, sees, Ends, Possible}
+use Rattle.monitor.specs.Ask.{limitMost, answerSize, fewestSize, answerIn, fewestIn, askNumber, askOutput, fewestNumber, fewestOutput}
+use Rattle.runs.specs.Book.{Request, ageing, receipt, Step, Book, opened, bookOf, sees, EndsOn, Possible}
 
 -- ---- a run
 
 -- the number that a call on the state bytes s returns
-unfoldable pub numberOf : List ℕ → Request → ℕ
-numberOf s (ageing reading) = ageNumber s reading
-numberOf s (receipt least greatest message) = receiveNumber s least greatest message
+unfoldable pub requestNumber : List ℕ → Request → ℕ
+requestNumber s (ageing reading) = ageNumber s reading
+requestNumber s (receipt g) = receiveNumber s g
 
 -- the state bytes that it leaves
 unfoldable pub bytesAfter : List ℕ → Request → List ℕ
 bytesAfter s (ageing reading) = ageState s reading
-bytesAfter s (receipt least greatest message) = receiveState s least greatest message
+bytesAfter s (receipt g) = receiveState s g
 
 -- "each gets the state the last one left": the bytes after a list of calls, and the calls with their numbers
 unfoldable pub bytesRun : List ℕ → List Request → List ℕ
@@ -42,17 +42,17 @@ bytesRun s (q ∷ qs) = bytesRun (bytesAfter s q) qs
 
 unfoldable pub steps : List ℕ → List Request → List Step
 steps s [] = []
-steps s (q ∷ qs) = record { request = q; number = numberOf s q } ∷ steps (bytesAfter s q) qs
+steps s (q ∷ qs) = record { request = q; number = requestNumber s q } ∷ steps (bytesAfter s q) qs
 
 -- a setting up that was taken, in a buffer that C lends, and the calls after it
 pub record Run : Type 0 where
   pub buffer : List ℕ
   pub setup : Setup
-  pub taken : setUpNumber buffer (setup .own) (setup .drift) (setup .reading) ≡ 0
+  pub taken : setUpNumber buffer setup ≡ 0
   pub requests : List Request
 
 unfoldable pub begin : Run → List ℕ
-begin r = setUpState (r .buffer) (r .setup .own) (r .setup .drift) (r .setup .reading)
+begin r = setUpState (r .buffer) (r .setup)
 
 -- the state bytes after the run, its steps, and its book
 unfoldable pub stateAfter : Run → List ℕ
@@ -64,15 +64,7 @@ stepsOf r = steps (begin r) (r .requests)
 unfoldable pub book : Run → Book
 book r = bookOf (opened (r .setup)) (stepsOf r)
 
--- ---- the answer that C sees
-
--- the answer in the 24 bytes: "0 contradicted, 1 open, 2 between; left; right"
-unfoldable pub answerIn : List ℕ → Answer
-answerIn out = cond (eqb (num 0 8 out) 0) Contradicted (cond (eqb (num 0 8 out) 1) Open (Between (num 8 8 out) (num 16 8 out)))
-
--- the fewest failures in the 16 bytes: "count, 5 for over 4; mask, then 0"
-unfoldable pub fewestIn : List ℕ → Fewest
-fewestIn out = cond (eqb (num 0 8 out) 5) Over (Few (num 0 8 out) (num 8 8 out))
+-- ---- what the answer tells
 
 -- l is the least of the instants P, r the greatest
 abbrev pub AtLeast : ℕ → ℤ → Type 0
@@ -101,7 +93,7 @@ pub record Tells (P : ℤ → Type 0) (a : Answer) : Type 0 where
 -- "After the list, for every limit from 0 to 4": asking is taken, and its answer is the one that the possible instants of the run's book give
 unfoldable pub Demand3 : Type 0
 Demand3 =
-    (r : Run) (limit : ℕ) → limit ≤ 4 → (out : List ℕ) → 24 ≤ length out
+    (r : Run) (limit : ℕ) → limit ≤ limitMost → (out : List ℕ) → answerSize ≤ length out
     → (askNumber (stateAfter r) limit out ≡ 0) × Tells (Possible limit (book r)) (answerIn (askOutput (stateAfter r) limit out))
 
 -- the taken calls, in order
@@ -116,7 +108,7 @@ takenOf (p ∷ ps) = ifTaken (p .number) (p .request) (takenOf ps)
 -- what a further step may be: a receipt
 abbrev pub Extra : Request → Type 0
 Extra (ageing reading) = ⊥
-Extra (receipt least greatest message) = Unit {0}
+Extra (receipt g) = Unit {0}
 
 -- "Q's taken steps are P's taken steps in order with further receipts before, between or after them"
 abbrev pub Further : List Request → List Request → Type 0
@@ -137,11 +129,11 @@ Demand3·more =
 -- the law under it: for every set of names, of any size, the instants that the state leaves it are those on which the book's paths agreeing with it
 -- end
 unfoldable pub SetBySet : Type 0
-SetBySet = (r : Run) (s : ℕ) (x : ℤ) → Fine s (storeOf (stateAfter r)) x ↔ Ends (sees s) (book r .lines) x
+SetBySet = (r : Run) (s : ℕ) (x : ℤ) → Fine s (storeOf (stateAfter r)) x ↔ EndsOn (sees s) (book r .lines) x
 
 -- the fewest failures by the book: the sets of at most 4 names, without the own one, with which some path of the book agrees
 unfoldable pub FewestByBook : Type 0
 FewestByBook =
-    (r : Run) (out : List ℕ) → 16 ≤ length out
+    (r : Run) (out : List ℕ) → fewestSize ≤ length out
     → (fewestNumber (stateAfter r) out ≡ 0)
-    × FewestOf (λ s. Allowed 4 (book r .head .own) s × ((x : ℤ) × Ends (sees s) (book r .lines) x)) (fewestIn (fewestOutput (stateAfter r) out))
+    × FewestOf (λ s. Allowed 4 (book r .head .own) s × ((x : ℤ) × EndsOn (sees s) (book r .lines) x)) (fewestIn (fewestOutput (stateAfter r) out))

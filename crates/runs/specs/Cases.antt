@@ -12,11 +12,11 @@ use Rattle.steps.specs.Steps.{same}
 use Rattle.engine.specs.Calls.{Setup, setUp, Call, age, receive, done}
 use Rattle.state.specs.Refusal.{refuse}
 use Rattle.engine.specs.Refusals.{setUpRefusal, ageRefusal, delaysFail, receiptRefusal}
-use Rattle.state.specs.code.Tables.{datum}
+use Rattle.state.specs.Model.{datum}
 use Rattle.asking.specs.declared.Answer.{Answer}
 use Rattle.asking.specs.declared.Answer.the-variants.{Contradicted, Open, Between}
 use Rattle.asking.specs.Asking.{answer, answerNumbers}
 use Rattle.monitor.specs.Ask.{limitFails}
 
 -- ---- a row
 

@@ -12,7 +12,7 @@ use Rattle.engine.specs.Calls.{begun, setUp, moved, made, done}
 use Rattle.engine.specs.Refusals.{setUpRefusal, passesEnd, ageRefusal, receiptRefusal}
 use Rattle.steps.specs.Steps.{tooMany}
 use Rattle.asking.specs.Asking.{cut, common, active, leaves, setsOf, sets, either, leftBy, answer, answerNumbers}
-use Rattle.monitor.specs.Cases.{limitRefusal, refusalOf, next, stateFrom, allTaken, sameDatum, sameAnswer, meets, holdsFor, cases}
+use Rattle.runs.specs.Cases.{limitRefusal, refusalOf, next, stateFrom, allTaken, sameDatum, sameAnswer, meets, holdsFor, cases}
 
 pub each-case : T (all holdsFor cases)
 unfolding subset union has holds implies isTrue struck insert rising minimal normal formed

@@ -15,7 +15,7 @@ use Rattle.state.specs.Model.{Datum}
 use Rattle.engine.specs.Ageing.{widened}
 use Rattle.asking.specs.Instants.{Within, InAll}
 use Rattle.asking.proofs.InstantLaws.{Active, Allows}
-use Rattle.monitor.proofs.ReceiptMeaning.{inall-each, active-cases}
+use Rattle.runs.proofs.ReceiptMeaning.{inall-each, active-cases}
 
 module _ (s lo hi : ℕ) where
   within-on : (l r a : ℕ) (y : ℤ) → lo ≤ a → a ≤ hi → Within l r y → Within (l + lo) (r + hi) (y +ℤ pos a)

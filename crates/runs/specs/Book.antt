@@ -7,26 +7,21 @@ use mathlib.Core.Bool.{Bool, true}
 use mathlib.Core.List.{List, [], _∷_, _++_}
 use lib.Dec.{T}
 use lib.IntN.{ℤ, pos, _+ℤ_}
-use Rattle.numbers.specs.Numbers.{wordsOf}
 use Rattle.predicates.specs.Predicates.{holds}
-use Rattle.message.specs.Words.{masks}
-use Rattle.message.specs.Read.{termWords}
-use Rattle.message.specs.declared.Reading.{Reading}
-use Rattle.message.specs.declared.Reading.the-variants.{Message, Refused}
 use Rattle.state.specs.Model.{Datum, Head}
 use Rattle.engine.specs.Ageing.{slow, fast}
-use Rattle.engine.specs.Receiving.{delivery, grown}
+use Rattle.engine.specs.Receiving.{grown}
 use Rattle.engine.specs.Calls.{Setup, begun, Call, age, receive, moved}
 use Rattle.asking.specs.Instants.{Within, Allowed}
-use Rattle.monitor.specs.Messages.{readBytes}
+use Rattle.monitor.specs.Receive.{Receipt, Delivered, refused, brings, delivered}
 
 -- ---- calls as C makes them
 
--- an ageing to a reading; or a receipt, with the channel's least and greatest delay and the message's bytes. The state bytes aside, these are the
--- call and its arguments: "two steps are the same when call and arguments, the state bytes aside, are"
+-- an ageing to a reading, or a receipt with what C gives it. The state bytes aside, these are the call and its arguments: "two steps are the same
+-- when call and arguments, the state bytes aside, are"
 pub data Request : Type 0 where
   ageing : ℕ → Request
-  receipt : ℕ → ℕ → List ℕ → Request
+  receipt : Receipt → Request
 
 -- a call with the number that it returned
 pub record Step : Type 0 where
@@ -57,15 +52,14 @@ linesOf h (receive g) = heard (grown (h .own) g) ∷ []
 unfoldable pub entered : Book → Call → Book
 entered b c = record { head = moved (b .head) c; lines = b .lines ++ linesOf (b .head) c }
 
--- a receipt enters what its message says; a message that cannot be read is never taken
-unfoldable pub enteredReading : Book → ℕ → ℕ → Reading → List ℕ → Book
-enteredReading b least greatest (Refused number) words = b
-enteredReading b least greatest (Message sender left right count) words =
-    entered b (receive (delivery least greatest sender left right (masks (termWords (Message sender left right count) words))))
+-- a receipt enters what its message delivers; a message that cannot be read is never taken
+unfoldable pub enteredDelivery : Book → Delivered → Book
+enteredDelivery b (refused number) = b
+enteredDelivery b (brings g) = entered b (receive g)
 
 unfoldable pub enteredRequest : Book → Request → Book
 enteredRequest b (ageing reading) = entered b (age reading)
-enteredRequest b (receipt least greatest message) = enteredReading b least greatest (readBytes message) (wordsOf message)
+enteredRequest b (receipt g) = enteredDelivery b (delivered g)
 
 -- "A refused call enters nothing."
 unfoldable pub noted : ℕ → Book → Request → Book
@@ -92,10 +86,10 @@ Walk v (advanced lo hi ∷ ls) y x = (a : ℕ) × (lo ≤ a) × (a ≤ hi) × Wa
 Walk v (heard d ∷ ls) y x = (Within (d .left) (d .right) y ⊎ T (v (heard d))) × Walk v ls y x
 
 -- "The path starts with any whole true time, negative ones allowed"; it ends on x
-abbrev pub Ends : (Line → Bool) → List Line → ℤ → Type 0
-Ends v ls x = (y : ℤ) × Walk v ls y x
+abbrev pub EndsOn : (Line → Bool) → List Line → ℤ → Type 0
+EndsOn v ls x = (y : ℤ) × Walk v ls y x
 
 -- "A set and a path agree with the book": "The set has at most the limit's count of names, without the own one." "Possible is each instant that such
 -- a path ends on."
 abbrev pub Possible : ℕ → Book → ℤ → Type 0
-Possible limit b x = (s : ℕ) × Allowed limit (b .head .own) s × Ends (sees s) (b .lines) x
+Possible limit b x = (s : ℕ) × Allowed limit (b .head .own) s × EndsOn (sees s) (b .lines) x

@@ -14,10 +14,11 @@ use Rattle.message.specs.declared.Reading.the-variants.{Message, Refused}
 use Rattle.state.specs.Model.{Head}
 use Rattle.engine.specs.Receiving.{Delivery}
 use Rattle.engine.specs.Calls.{Setup, Call, age, receive, moved}
 use Rattle.monitor.specs.Messages.{readBytes}
-use Rattle.monitor.specs.Book.{Request, ageing, receipt, Step, Line, Book, opened, linesOf, entered, enteredReading, enteredRequest, noted, bookOf, sees, Ends}
-use Rattle.monitor.specs.Runs.{Run, stepsOf, book, ifTaken, takenOf, Extra, Further, Demand3·more}
-use Rattle.monitor.proofs.Agreement.{ends-out, ends-in}
+use Rattle.runs.specs.Book.{Request, ageing, receipt, Step, Line, Book, opened, linesOf, entered, enteredRequest, noted, bookOf, sees}
+use Rattle.monitor.specs.Book.{enteredReading, Ends}
+use Rattle.runs.specs.Runs.{Run, stepsOf, book, ifTaken, takenOf, Extra, Further, Demand3·more}
+use Rattle.runs.proofs.Agreement.{ends-out, ends-in}
 
 -- ---- the book of the taken calls
 

@@ -20,10 +20,11 @@ use Rattle.steps.specs.Steps.{received}
 use Rattle.engine.specs.Calls.{Call, age, receive, made}
 use Rattle.engine.proofs.CallLaws.{slow-fast, Heard, grown-ends}
 use Rattle.asking.specs.Instants.{Within, InAll, Fine}
-use Rattle.monitor.specs.Book.{Line, advanced, heard, linesOf, sees, Walk, Ends}
+use Rattle.runs.specs.Book.{Line, advanced, heard, linesOf, sees, Walk}
+use Rattle.monitor.specs.Book.{Ends}
 use Rattle.asking.proofs.InstantLaws.{Allows, not-active}
-use Rattle.monitor.proofs.ReceiptMeaning.{Some, receipt-fine, receipt-some}
-use Rattle.monitor.proofs.AgeingMeaning.{age-in, age-out}
+use Rattle.runs.proofs.ReceiptMeaning.{Some, receipt-fine, receipt-some}
+use Rattle.runs.proofs.AgeingMeaning.{age-in, age-out}
 
 -- ---- paths over more lines
 

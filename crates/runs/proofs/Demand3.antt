@@ -17,11 +17,11 @@ use Rattle.asking.specs.Asking.{answer}
 use Rattle.asking.specs.Fewest.{fewest}
 use Rattle.asking.proofs.AnswerLaws.{gives-same, answer-given}
 use Rattle.asking.proofs.FewestLaws.{fewest-is}
 use Rattle.monitor.specs.Ask.{askedBytes, askNumber, askOutput, fewestBytes, fewestNumber, fewestOutput}
-use Rattle.monitor.specs.Book.{Possible}
-use Rattle.monitor.specs.Runs.{stateAfter, book, Demand3, SetBySet, FewestByBook}
-use Rattle.monitor.proofs.Runs.{reached, set-by-set, allowed-same, counts-possible}
-use Rattle.monitor.proofs.Answers.{answer-in, answer-fits, gives-tells, fewest-in, fewest-same}
+use Rattle.runs.specs.Book.{Possible}
+use Rattle.runs.specs.Runs.{stateAfter, book, Demand3, SetBySet, FewestByBook}
+use Rattle.runs.proofs.Runs.{reached, set-by-set, allowed-same, counts-possible}
+use Rattle.runs.proofs.Answers.{answer-in, answer-fits, gives-tells, fewest-in, fewest-same}
 
 -- ---- asking and the fewest failures are taken
 
