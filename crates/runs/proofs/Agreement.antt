@@ -21,7 +21,7 @@ use Rattle.engine.specs.Calls.{Call, age, receive, made}
 use Rattle.engine.proofs.CallLaws.{slow-fast, Heard, grown-ends}
 use Rattle.asking.specs.Instants.{Within, InAll, Fine}
 use Rattle.runs.specs.Book.{Line, advanced, heard, linesOf, sees, Walk}
-use Rattle.monitor.specs.Book.{Ends}
+use Rattle.runs.specs.Book.{EndsOn}
 use Rattle.asking.proofs.InstantLaws.{Allows, not-active}
 use Rattle.runs.proofs.ReceiptMeaning.{Some, receipt-fine, receipt-some}
 use Rattle.runs.proofs.AgeingMeaning.{age-in, age-out}
@@ -40,17 +40,17 @@ module _ (v : Line → Bool) where
   walk-in (advanced lo hi ∷ ls) ms y z x h k = (h .0, h .1, h .2, walk-in ls ms (y +ℤ pos (h .0)) z x (h .3) k)
   walk-in (heard d ∷ ls) ms y z x h k = (h .0, walk-in ls ms y z x (h .1) k)
 
-  pub ends-out : (ls ms : List Line) (x : ℤ) → Ends v (ls ++ ms) x → (z : ℤ) × Ends v ls z × Walk v ms z x
+  pub ends-out : (ls ms : List Line) (x : ℤ) → EndsOn v (ls ++ ms) x → (z : ℤ) × EndsOn v ls z × Walk v ms z x
   ends-out ls ms x h = let r = walk-out ls ms (h .0) x (h .1) in (r .0, (h .0, r .1), r .2)
 
-  pub ends-in : (ls ms : List Line) (z x : ℤ) → Ends v ls z → Walk v ms z x → Ends v (ls ++ ms) x
+  pub ends-in : (ls ms : List Line) (z x : ℤ) → EndsOn v ls z → Walk v ms z x → EndsOn v (ls ++ ms) x
   ends-in ls ms z x h k = (h .0, walk-in ls ms (h .0) z x (h .1) k)
 
 -- ---- the invariant
 
 pub record Agrees (v : Line → Bool) (s : ℕ) (k : Store) (ls : List Line) : Type 0 where
-  pub forth : (x : ℤ) → Fine s k x → Ends v ls x
-  pub back : (x : ℤ) → Ends v ls x → Fine s k x
+  pub forth : (x : ℤ) → Fine s k x → EndsOn v ls x
+  pub back : (x : ℤ) → EndsOn v ls x → Fine s k x
   pub some : Some s k
 
 -- nothing is held and nothing written

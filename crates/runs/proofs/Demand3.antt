@@ -9,7 +9,7 @@ use borrow.Author.Tests.{le-ltb}
 use lib.Dec.{T}
 use lib.ListN.{length}
 use Rattle.predicates.proofs.ListLaws.{T-true}
-use Rattle.state.specs.Layout.{stateOf}
+use Rattle.state.specs.Layout.{stateOf, stateSize}
 use Rattle.state.specs.Form.{inForm}
 use Rattle.state.proofs.StateLaws.{form-ok}
 use Rattle.asking.specs.Instants.{Counts}
@@ -25,7 +25,7 @@ use Rattle.runs.proofs.Answers.{answer-in, answer-fits, gives-tells, fe
 
 -- ---- asking and the fewest failures are taken
 
-module _ (s : List ℕ) (long : 3032 ≤ length s) (form : T (inForm s)) (out : List ℕ) where
+module _ (s : List ℕ) (long : stateSize ≤ length s) (form : T (inForm s)) (out : List ℕ) where
   ask-taken : (limit : ℕ) → limit ≤ 4 → 24 ≤ length out → askNumber s limit out ≡ 0
   unfolding askNumber
   ask-taken limit l h =

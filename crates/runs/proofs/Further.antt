@@ -14,9 +14,9 @@ use Rattle.message.specs.declared.Reading.the-variants.{Message, Refused}
 use Rattle.state.specs.Model.{Head}
 use Rattle.engine.specs.Receiving.{Delivery}
 use Rattle.engine.specs.Calls.{Setup, Call, age, receive, moved}
-use Rattle.monitor.specs.Messages.{readBytes}
+use Rattle.monitor.specs.Receive.{Delivered, refused, brings, delivered}
 use Rattle.runs.specs.Book.{Request, ageing, receipt, Step, Line, Book, opened, linesOf, entered, enteredRequest, noted, bookOf, sees}
-use Rattle.monitor.specs.Book.{enteredReading, Ends}
+use Rattle.runs.specs.Book.{enteredDelivery, EndsOn}
 use Rattle.runs.specs.Runs.{Run, stepsOf, book, ifTaken, takenOf, Extra, Further, Demand3·more}
 use Rattle.runs.proofs.Agreement.{ends-out, ends-in}
 
@@ -40,7 +40,7 @@ book-written (p ∷ ps) b = book-written ps (noted (p .number) b (p .request)) �
 -- c has the head of b, and its paths end only where those of b do, whatever predicates are true
 record Less (c b : Book) : Type 0 where
   head : c .head ≡ b .head
-  ends : (v : Line → Bool) (x : ℤ) → Ends v (c .lines) x → Ends v (b .lines) x
+  ends : (v : Line → Bool) (x : ℤ) → EndsOn v (c .lines) x → EndsOn v (b .lines) x
 
 -- the same call in both
 less-call : (c b : Book) (q : Call) → Less c b → Less (entered c q) (entered b q)
@@ -64,22 +64,22 @@ less-receipt c b g l =
 
 module _ (c b : Book) (l : Less c b) where
   less-both : (q : Request) → Less (enteredRequest c q) (enteredRequest b q)
-  unfolding enteredRequest enteredReading
+  unfolding enteredRequest enteredDelivery
   less-both (ageing reading) = less-call c b (age reading) l
-  less-both (receipt least greatest m) = go (readBytes m)
+  less-both (receipt g) = go (delivered g)
     where
-      go : (r : Reading) → Less (enteredReading c least greatest r (wordsOf m)) (enteredReading b least greatest r (wordsOf m))
-      go (Refused number) = l
-      go (Message sender left right n) = less-call c b _ l
+      go : (d : Delivered) → Less (enteredDelivery c d) (enteredDelivery b d)
+      go (refused number) = l
+      go (brings d) = less-call c b _ l
 
   less-more : (q : Request) → Extra q → Less (enteredRequest c q) b
-  unfolding enteredRequest enteredReading
+  unfolding enteredRequest enteredDelivery
   less-more (ageing reading) e = absurd e
-  less-more (receipt least greatest m) e = go (readBytes m)
+  less-more (receipt g) e = go (delivered g)
     where
-      go : (r : Reading) → Less (enteredReading c least greatest r (wordsOf m)) b
-      go (Refused number) = l
-      go (Message sender left right n) = less-receipt c b _ l
+      go : (d : Delivered) → Less (enteredDelivery c d) b
+      go (refused number) = l
+      go (brings d) = less-receipt c b _ l
 
 less-written : (qs ps : List Request) (c b : Book) → Less c b → Further ps qs → Less (written c qs) (written b ps)
 unfolding written

@@ -24,33 +24,31 @@ use Rattle.state.specs.Form.{inForm, stateOk}
 use Rattle.state.proofs.StateLaws.{form-ok}
 use Rattle.engine.specs.Receiving.{delivery}
 use Rattle.engine.specs.Calls.{begun, setUp, Call, age, receive, moved, done}
-use Rattle.state.specs.Refusal.{refuse}
+use Rattle.state.specs.Refusal.{refuse, lent}
 use Rattle.engine.specs.Refusals.{setUpRefusal, ageRefusal, delaysFail, receiptRefusal}
 use Rattle.state.specs.Refusal.{after}
-use Rattle.engine.specs.Outcomes.{setUpBytes, ageBytes}
-use Rattle.state.proofs.LentLaws.{refuse-none}
+use Rattle.state.proofs.LentLaws.{refuse-none, lent-passed}
 use Rattle.engine.proofs.CallLaws.{set-up-ok, age-ok, receive-ok}
 use Rattle.asking.specs.Instants.{Allowed, Counts}
 use Rattle.monitor.specs.Messages.{readBytes}
 use Rattle.monitor.specs.Calls.{setUpNumber, setUpState, ageNumber, ageState}
-use Rattle.monitor.specs.Receive.{receiptNumber, receiptBytes, receiveNumber, receiveState}
-use Rattle.runs.specs.Book.{Request, ageing, receipt, Book, opened, entered, enteredRequest, noted, bookOf, sees, Possible}
-use Rattle.monitor.specs.Book.{enteredReading}
-use Rattle.monitor.specs.Runs.{numberOf}
+use Rattle.monitor.specs.Receive.{Receipt, delivered, deliveredAs, deliveredNumber, deliveredState, receiveNumber, receiveState}
+use Rattle.runs.specs.Book.{Request, ageing, receipt, Book, opened, entered, enteredRequest, noted, bookOf, sees, Possible, enteredDelivery}
+use Rattle.runs.specs.Runs.{requestNumber}
 use Rattle.runs.specs.Runs.{bytesAfter, bytesRun, steps, Run, begin, stateAfter, stepsOf, book, SetBySet}
-use Rattle.monitor.proofs.FormKept.{put-form, put-state, heard-in}
+use Rattle.monitor.proofs.FormKept.{put-form, put-state, heard-in, receive-passed}
 use Rattle.runs.proofs.Agreement.{Agrees, agrees-none, Given, call-agrees}
 
 -- ---- the invariant
 
 pub record Sound (s : List ℕ) (b : Book) : Type 0 where
-  pub long : 3032 ≤ length s
+  pub long : stateSize ≤ length s
   pub form : T (inForm s)
   pub head : b .head ≡ headOf s
   pub each : (f : ℕ) → Agrees (sees f) f (storeOf s) (b .lines)
 
 -- a right state that agrees with the book, stored in front
-put-sound : (st : State) (s : List ℕ) (b : Book) → T (stateOk st) → 3032 ≤ length s → b .head ≡ st .head
+put-sound : (st : State) (s : List ℕ) (b : Book) → T (stateOk st) → stateSize ≤ length s → b .head ≡ st .head
     → ((f : ℕ) → Agrees (sees f) f (st .store) (b .lines)) → Sound (put 0 (stateBytes st) s) b
 unfolding stateOf
 put-sound st s b t h e ag =
@@ -65,12 +63,6 @@ put-sound st s b t h e ag =
 
 -- ---- a call
 
--- a test that refuses: the number and the bytes
-refused : (P : ℕ → List ℕ → Type 0) (test : Bool) (number next : ℕ) (s u : List ℕ) → P number s → (T (not test) → P next u)
-    → P (refuse test number next) (cond test s u)
-refused P true number next s u h k = h
-refused P false number next s u h k = k tt
-
 module _ (s : List ℕ) (b : Book) (so : Sound s b) where
   -- a taken call, as the model has it
   taken-sound : (c : Call) → Given c → T (stateOk (done (stateOf s) c)) → Sound (put 0 (stateBytes (done (stateOf s) c)) s) (entered b c)
@@ -84,56 +76,47 @@ module _ (s : List ℕ) (b : Book) (so : Sound s b) where
   Noted q number u = Sound u (noted number b q)
 
   after-sound : (q : Request) (number : ℕ) (st : State) → (number ≡ 0 → Sound (put 0 (stateBytes st) s) (enteredRequest b q))
-      → Noted q number (after number st s)
+      → Noted q number (after number (stateBytes st) s)
   unfolding after noted
   after-sound q zero st f = f refl
   after-sound q (suc n) st f = rw (eqb·suc-zero n) so
 
-  module _ (least greatest : ℕ) (m : List ℕ) (d : least ≤ greatest) where
-    receipt-sound : (r : Reading) → readBytes m ≡ r
-        → Noted (receipt least greatest m) (receiptNumber s least greatest r (wordsOf m)) (receiptBytes s least greatest r (wordsOf m))
-    unfolding receiptNumber receiptBytes noted enteredRequest enteredReading
-    receipt-sound (Refused number) e = go number
-      where
-        go : (n : ℕ) → Noted (receipt least greatest m) n s
-        go zero = rw e so
-        go (suc n) = so
-    receipt-sound (Message sender left right n) e =
-        let g = delivery least greatest sender left right (masks (termWords (Message sender left right n) (wordsOf m))) in
-        let heard = heard-in least greatest m d e in
-        after-sound (receipt least greatest m) (receiptRefusal (stateOf s) g) (done (stateOf s) (receive g))
-        (λ z. rw e (taken-sound (receive g) heard (receive-ok (stateOf s) g (form-ok s (so .form)) heard z)))
+  -- a taken receipt, by what its message delivers
+  receipt-sound : (g : Receipt) → g .least ≤ g .greatest → deliveredNumber (stateOf s) (delivered g) ≡ 0
+      → Sound (put 0 (stateBytes (deliveredState (stateOf s) (delivered g))) s) (enteredDelivery b (delivered g))
+  unfolding delivered deliveredAs deliveredNumber deliveredState enteredDelivery stateOf
+  receipt-sound g d = go (readBytes (g .message)) refl
+    where
+      go : (r : Reading) → readBytes (g .message) ≡ r → deliveredNumber (stateOf s) (deliveredAs g r) ≡ 0
+          → Sound (put 0 (stateBytes (deliveredState (stateOf s) (deliveredAs g r))) s) (enteredDelivery b (deliveredAs g r))
+      go (Refused number) e z = put-sound (stateOf s) s b (form-ok s (so .form)) (so .long) (so .head) (so .each)
+      go (Message sender left right n) e z =
+          let heard = heard-in (g .least) (g .greatest) (g .message) d e in
+          taken-sound (receive _) heard (receive-ok (stateOf s) _ (form-ok s (so .form)) heard z)
 
-  pub step-sound : (q : Request) → Noted q (numberOf s q) (bytesAfter s q)
-  unfolding numberOf bytesAfter ageNumber ageState ageBytes receiveNumber receiveState noted enteredRequest
+  pub step-sound : (q : Request) → Noted q (requestNumber s q) (bytesAfter s q)
+  unfolding requestNumber bytesAfter ageNumber ageState receiveState enteredRequest
   step-sound (ageing reading) =
-      let P = Noted (ageing reading) in
-      refused P (ltb (length s) stateSize) 24 _ s _ so
-      (λ _. refused P (not (inForm s)) 25 _ s _ so
-      (λ _. after-sound (ageing reading) (ageRefusal (stateOf s) reading) (done (stateOf s) (age reading))
-      (λ z. taken-sound (age reading) tt (age-ok (stateOf s) reading (form-ok s (so .form)) z))))
-  step-sound (receipt least greatest m) =
-      let P = Noted (receipt least greatest m) in
-      refused P (ltb (length s) 3032) 24 _ s _ so
-      (λ _. refused P (not (inForm s)) 25 _ s _ so
-      (λ _. refused P (delaysFail least greatest) 21 _ s _ so
-      (λ c. receipt-sound least greatest m (nltb→le greatest least (neither (ltb greatest least) (ltb 60_000_000 greatest) c .0))
-      (readBytes m) refl)))
+      after-sound (ageing reading) (lent s (ageRefusal (stateOf s) reading)) (done (stateOf s) (age reading))
+      (λ z. taken-sound (age reading) tt (age-ok (stateOf s) reading (form-ok s (so .form)) (lent-passed s (ageRefusal (stateOf s) reading) z .2)))
+  step-sound (receipt g) =
+      after-sound (receipt g) (receiveNumber s g) (deliveredState (stateOf s) (delivered g))
+      (λ z. let k = receive-passed s g z in receipt-sound g (k .1) (k .2))
 
 -- ---- a run
 
 run-sound : (qs : List Request) (s : List ℕ) (b : Book) → Sound s b → Sound (bytesRun s qs) (bookOf b (steps s qs))
 unfolding bytesRun bookOf steps
 run-sound [] s b so = so
-run-sound (q ∷ qs) s b so = run-sound qs (bytesAfter s q) (noted (numberOf s q) b q) (step-sound s b so q)
+run-sound (q ∷ qs) s b so = run-sound qs (bytesAfter s q) (noted (requestNumber s q) b q) (step-sound s b so q)
 
 -- a taken setting up
 begin-sound : (r : Run) → Sound (begin r) (opened (r .setup))
-unfolding begin setUpNumber setUpState setUpBytes after opened setUp begun
+unfolding begin setUpNumber setUpState after opened setUp begun
 begin-sound r =
     let s = r .buffer in
     let a = refuse-none (ltb (length s) stateSize) 24 (setUpRefusal (r .setup)) (omega arith) (r .taken) in
-    rw (T-false (ltb (length s) stateSize) (a .0), a .1)
+    rw (r .taken)
     (put-sound (setUp (r .setup)) s (opened (r .setup)) (set-up-ok (r .setup) (a .1)) (nltb→le (length s) stateSize (a .0)) refl
     (λ f. agrees-none (sees f) f))
 
