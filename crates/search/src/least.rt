@@ -5,8 +5,8 @@ ghost use Rattle.search.specs.code.Search.{Rows, rowsOf};
 ghost use Rattle.search.specs.code.LeftEnds.{Ready, LeastSet};
 
 // The least set within the limit that explains every claim, or those whose interval lacks the left end of one of rows n to `rows`; 2^29, the
-// mask of no set, where there is none. Of each stretch of ends the last is tried, which needs the fewest claims; where there is an end, every claim is
-// more than it needs.
+// mask of no set, where there is none. Of each stretch of ends the last is tried, which needs the fewest claims; where there is an end, every claim
+// is more than it needs.
 fn least_set(
     lefts: &[u64],
     rights: &[u64],
