@@ -3,7 +3,7 @@
 -- The idea: the instants that count over the state are the possible ones (`proofs.Runs`), so the answer over the state is theirs; the bytes are
 -- read back as that answer (`proofs.Answers`). The second half of the demand is `demand3·more` of `proofs.Further`. Assumes nothing.
 use Prim.Native.Nat.{ℕ, _≤_}
-use mathlib.Core.Path.{_≡_}
+use mathlib.Core.Path.{_≡_, _∙_}
 use mathlib.Core.List.{List}
 use borrow.Author.Tests.{le-ltb}
 use lib.Dec.{T}
@@ -17,7 +17,9 @@ use Rattle.asking.specs.Asking.{answer}
 use Rattle.asking.specs.Fewest.{fewest}
 use Rattle.asking.proofs.AnswerLaws.{gives-same, answer-given}
 use Rattle.asking.proofs.FewestLaws.{fewest-is}
-use Rattle.monitor.specs.Ask.{askedBytes, askNumber, askOutput, fewestBytes, fewestNumber, fewestOutput}
+use Rattle.state.specs.Refusal.{after}
+use Rattle.state.proofs.LentLaws.{lent-next}
+use Rattle.monitor.specs.Ask.{limitMost, answerSize, fewestSize, askedBytes, askNumber, askOutput, fewestBytes, fewestNumber, fewestOutput}
 use Rattle.runs.specs.Book.{Possible}
 use Rattle.runs.specs.Runs.{stateAfter, book, Demand3, SetBySet, FewestByBook}
 use Rattle.runs.proofs.Runs.{reached, set-by-set, allowed-same, counts-possible}
@@ -26,17 +28,16 @@ use Rattle.runs.proofs.Answers.{answer-in, answer-fits, gives-tells, fe
 -- ---- asking and the fewest failures are taken
 
 module _ (s : List ℕ) (long : stateSize ≤ length s) (form : T (inForm s)) (out : List ℕ) where
-  ask-taken : (limit : ℕ) → limit ≤ 4 → 24 ≤ length out → askNumber s limit out ≡ 0
+  ask-taken : (limit : ℕ) → limit ≤ limitMost → answerSize ≤ length out → askNumber s limit out ≡ 0
   unfolding askNumber
-  ask-taken limit l h =
-      rw (le-ltb (length s) 3032 long, T-true (inForm s) form, le-ltb 4 limit l, le-ltb (length out) 24 h)
+  ask-taken limit l h = lent-next s _ long form ∙ rw (le-ltb limitMost limit l, le-ltb (length out) answerSize h)
 
-  fewest-taken : 16 ≤ length out → fewestNumber s out ≡ 0
+  fewest-taken : fewestSize ≤ length out → fewestNumber s out ≡ 0
   unfolding fewestNumber
-  fewest-taken h = rw (le-ltb (length s) 3032 long, T-true (inForm s) form, le-ltb (length out) 16 h)
+  fewest-taken h = lent-next s _ long form ∙ rw (le-ltb (length out) fewestSize h)
 
 pub demand3 : Demand3
-unfolding Demand3 askOutput askedBytes
+unfolding Demand3 askOutput askedBytes after
 demand3 r limit l out h =
     let s = stateAfter r in
     let so = reached r in
@@ -49,7 +50,7 @@ demand3 r limit l out h =
     )
 
 pub fewest-by-book : FewestByBook
-unfolding FewestByBook fewestOutput fewestBytes stateOf SetBySet
+unfolding FewestByBook fewestOutput fewestBytes after stateOf SetBySet
 fewest-by-book r out h =
     let s = stateAfter r in
     let so = reached r in
