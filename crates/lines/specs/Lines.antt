@@ -9,8 +9,7 @@ use Rattle.predicates.specs.Lists.{all}
 use Rattle.numbers.specs.Numbers.{bytesOf}
 use Rattle.monitor.specs.Calls.{setUpNumber, setUpState, ageNumber, ageState}
 use Rattle.monitor.specs.Receive.{receiveNumber, receiveState}
-use Rattle.monitor.specs.Ask.{askNumber, askOutput, fewestNumber, fewestOutput}
-use Rattle.monitor.specs.Runs.{answerIn, fewestIn}
+use Rattle.monitor.specs.Ask.{askNumber, askOutput, fewestNumber, fewestOutput, answerIn, fewestIn}
 use Rattle.lines.specs.Text.{badText, numberText, answerText, fewestText}
 
 -- ---- fields: "with single spaces"

@@ -3,7 +3,7 @@ ghost use mathlib.Core.Path.{_≡_};
 ghost use Prim.Native.Nat.{_+_, _^_, _≤_, _<_};
 ghost use lib.ListN.{length};
 ghost use Rattle.numbers.specs.Numbers.{put};
-ghost use Rattle.monitor.specs.Runs.{answerIn, fewestIn};
+ghost use Rattle.monitor.specs.Ask.{answerIn, fewestIn};
 ghost use Rattle.lines.specs.Text.{digits, decimal, withOne, withTwo, numberText, answerText, fewestText};
 
 // Stores the bytes of `text` in `out` from index `at` on, and answers the place behind them.

@@ -31,8 +31,8 @@ use Rattle.asking.specs.Instants.{Within, InAll, Counts, Gives}
 use Rattle.asking.specs.Asking.{answerNumbers}
 use Rattle.asking.specs.Fewest.{Works, FewestOf, fewestNumbers}
 use Rattle.asking.proofs.AnswerLaws.{gives-one}
-use Rattle.monitor.specs.Ask.{wide}
-use Rattle.monitor.specs.Runs.{answerIn, fewestIn, AtLeast, AtMost, Least, Greatest, Tells}
+use Rattle.monitor.specs.Ask.{wide, answerIn, fewestIn}
+use Rattle.monitor.specs.Runs.{AtLeast, AtMost, Least, Greatest, Tells}
 use Rattle.asking.proofs.InstantLaws.{Active}
 use Rattle.monitor.proofs.ReceiptMeaning.{inall-each, active-cases}
 

@@ -5,10 +5,14 @@ use mathlib.Core.Bool.{Bool, not, cond}
 use mathlib.Core.List.{List}
 use lib.ListN.{length}
 use lib.Dec.{ltb, eqb}
-use Rattle.numbers.specs.Numbers.{bytes, put}
+use Rattle.numbers.specs.Numbers.{num, bytes, put}
 use Rattle.state.specs.Layout.{stateSize, stateOf, joined}
 use Rattle.state.specs.Form.{inForm}
 use Rattle.engine.specs.Refusals.{refuse}
+use Rattle.asking.specs.declared.Answer.{Answer}
+use Rattle.asking.specs.declared.Answer.the-variants.{Contradicted, Open, Between}
+use Rattle.asking.specs.declared.Fewest.{Fewest}
+use Rattle.asking.specs.declared.Fewest.the-variants.{Over, Few}
 use Rattle.asking.specs.Asking.{answer, answerNumbers}
 use Rattle.asking.specs.Fewest.{fewest, fewestNumbers}
 
@@ -51,3 +55,13 @@ fewestNumber s out =
 
 unfoldable pub fewestOutput : List ℕ → List ℕ → List ℕ
 fewestOutput s out = cond (eqb (fewestNumber s out) 0) (put 0 (fewestBytes s) out) out
+
+-- ---- the answer that C sees
+
+-- the answer in the 24 bytes: "0 contradicted, 1 open, 2 between; left; right"
+unfoldable pub answerIn : List ℕ → Answer
+answerIn out = cond (eqb (num 0 8 out) 0) Contradicted (cond (eqb (num 0 8 out) 1) Open (Between (num 8 8 out) (num 16 8 out)))
+
+-- the fewest failures in the 16 bytes: "count, 5 for over 4; mask, then 0"
+unfoldable pub fewestIn : List ℕ → Fewest
+fewestIn out = cond (eqb (num 0 8 out) 5) Over (Few (num 0 8 out) (num 8 8 out))

@@ -4,23 +4,18 @@
 use Prim.Native.Nat.{ℕ, zero, suc, _≤_}
 use mathlib.Core.Path.{_≡_}
 use mathlib.Core.Logic.{_⊎_, _↔_}
-use mathlib.Core.Bool.{cond}
 use mathlib.Core.List.{List, [], _∷_}
-use lib.Dec.{eqb}
 use lib.ListN.{length}
 use lib.IntN.{ℤ, pos, negsuc}
-use Rattle.numbers.specs.Numbers.{num}
 use Rattle.state.specs.Layout.{storeOf}
 use Rattle.engine.specs.Calls.{Setup}
 use Rattle.asking.specs.declared.Answer.{Answer}
 use Rattle.asking.specs.declared.Answer.the-variants.{Contradicted, Open, Between}
-use Rattle.asking.specs.declared.Fewest.{Fewest}
-use Rattle.asking.specs.declared.Fewest.the-variants.{Over, Few}
 use Rattle.asking.specs.Instants.{Allowed, Fine}
 use Rattle.asking.specs.Fewest.{FewestOf}
 use Rattle.monitor.specs.Calls.{setUpNumber, setUpState, ageNumber, ageState}
 use Rattle.monitor.specs.Receive.{receiveNumber, receiveState}
-use Rattle.monitor.specs.Ask.{askNumber, askOutput, fewestNumber, fewestOutput}
+use Rattle.monitor.specs.Ask.{askNumber, askOutput, fewestNumber, fewestOutput, answerIn, fewestIn}
 use Rattle.monitor.specs.Book.{Request, ageing, receipt, Step, Book, opened, bookOf, sees, Ends, Possible}
 
 -- ---- a run
@@ -64,15 +59,7 @@ stepsOf r = steps (begin r) (r .requests)
 unfoldable pub book : Run → Book
 book r = bookOf (opened (r .setup)) (stepsOf r)
 
--- ---- the answer that C sees
-
--- the answer in the 24 bytes: "0 contradicted, 1 open, 2 between; left; right"
-unfoldable pub answerIn : List ℕ → Answer
-answerIn out = cond (eqb (num 0 8 out) 0) Contradicted (cond (eqb (num 0 8 out) 1) Open (Between (num 8 8 out) (num 16 8 out)))
-
--- the fewest failures in the 16 bytes: "count, 5 for over 4; mask, then 0"
-unfoldable pub fewestIn : List ℕ → Fewest
-fewestIn out = cond (eqb (num 0 8 out) 5) Over (Few (num 0 8 out) (num 8 8 out))
+-- ---- what the answer tells
 
 -- l is the least of the instants P, r the greatest
 abbrev pub AtLeast : ℕ → ℤ → Type 0

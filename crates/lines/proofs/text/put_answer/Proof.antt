@@ -1,6 +1,6 @@
 -- `lines::text::put_answer` meets its contract: the first number tells the answer, and the other two are the ends. Assumes nothing.
 use borrow.Author.Tests.{eq-eqb, ne-eqb}
-use Rattle.monitor.specs.Runs.{answerIn}
+use Rattle.monitor.specs.Ask.{answerIn}
 use Rattle.lines.specs.Text.{answerText}
 use borrow.Author.Needs.{needs}
 use Rattle.lines.proofs.text.put_answer.Statement.{statement}

@@ -1,6 +1,6 @@
 -- `lines::text::put_fewest` meets its contract: a count of 5 stands for more than 4. Assumes nothing.
 use borrow.Author.Tests.{eq-eqb, ne-eqb}
-use Rattle.monitor.specs.Runs.{fewestIn}
+use Rattle.monitor.specs.Ask.{fewestIn}
 use Rattle.lines.specs.Text.{fewestText}
 use borrow.Author.Needs.{needs}
 use Rattle.lines.proofs.text.put_fewest.Statement.{statement}
