@@ -8,7 +8,8 @@ use lib.Dec.{ltb, leb, eqb}
 use lib.ListN.{length, getD, drop}
 use Rattle.predicates.specs.Lists.{all}
 use Rattle.predicates.proofs.ListLaws.{cond-ind}
-use Rattle.lines.specs.Lines.{isWord, isNumber, value, fields, sameBytes, setWord, ageWord, getWord, askWord, fewestWord}
+use Rattle.fields.specs.Fields.{fields, value, isNumber, isWord, sameBytes}
+use Rattle.lines.specs.Lines.{setWord, ageWord, getWord, askWord, fewestWord}
 use Rattle.lines.specs.Lines.{Outcome, badLine, setLine, ageLine, getLine, answeredText, askText, askLine, fewestAnswer, fewestLine}
 use Rattle.lines.specs.Lines.{laterLine, wordLine, fieldsLine, lineOutcome}
 use Rattle.lines.proofs.TextLaws.{number-length, answer-length, fewest-length}

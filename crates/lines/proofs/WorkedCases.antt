@@ -7,9 +7,11 @@ use Rattle.numbers.specs.Numbers.{tab}
 use Rattle.monitor.specs.Calls.{setUpNumber, setUpState, ageNumber, ageState}
 use Rattle.monitor.specs.Receive.{receiveNumber, receiveState}
 use Rattle.monitor.specs.Ask.{askNumber, fewestNumber}
-use Rattle.lines.specs.Text.{digits, withOne, withTwo, numberText, answerText, fewestText}
-use Rattle.lines.specs.Lines.{onto, fields, valueFrom, value, isNumber, badLine, setLine, ageLine, getLine, answeredText, askText, askLine}
-use Rattle.lines.specs.Lines.{fewestAnswer, fewestLine, sameBytes, laterLine, wordLine, fieldsLine, lineOutcome}
+use Rattle.fields.specs.Fields.{onto, fields, valueFrom, value, isNumber, sameBytes}
+use Rattle.fields.specs.Decimal.{digits}
+use Rattle.lines.specs.Text.{withOne, withTwo, numberText, answerText, fewestText}
+use Rattle.lines.specs.Lines.{badLine, setLine, ageLine, getLine, answeredText, askText, askLine}
+use Rattle.lines.specs.Lines.{fewestAnswer, fewestLine, laterLine, wordLine, fieldsLine, lineOutcome}
 use Rattle.lines.specs.Cases.{ascii, printsThen, eachPrints, early, lines, asPrinted, answers}
 
 pub good-and-bad : T (eachPrints early false [] && eachPrints lines true [])

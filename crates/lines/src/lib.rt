@@ -7,7 +7,6 @@ ghost use Rattle.numbers.specs.Numbers.{put};
 ghost use Rattle.lines.specs.Lines.{lineOutcome};
 
 pub mod commands;
-pub mod read;
 pub mod stream;
 pub mod text;
 
@@ -27,14 +26,14 @@ pub fn answer(line: &[u8], state: &mut [u8], begun: bool, out: &mut [u8]) -> Ans
     ensures { λ _. ⌜ now (out .exit) ≡ put 0 (lineOutcome (now (line .entry)) begun (now (state .entry)) .text) (now (out .entry)) ⌝ }
 {
     if 200 < line.len() {
-        let size = text::put_text(out, 0, b"bad line\n");
+        let size = fields::text::put_text(out, 0, b"bad line\n");
         return Answered { begun, size };
     }
-    let end = read::field_end(line, 0);
+    let end = fields::read::field_end(line, 0);
     let mut values = [0u64; 101];
-    let n = read::numbers_behind(line, end, &mut values);
+    let n = fields::read::numbers_behind(line, end, &mut values);
     if n == 255 {
-        let size = text::put_text(out, 0, b"bad line\n");
+        let size = fields::text::put_text(out, 0, b"bad line\n");
         return Answered { begun, size };
     }
     commands::word_line(&line[..end], &values[..n], state, begun, out)

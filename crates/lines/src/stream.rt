@@ -4,7 +4,6 @@ ghost use Prim.Native.Nat.{_+_, _≤_, _<_};
 ghost use lib.ListN.{length, take};
 ghost use Rattle.numbers.specs.Numbers.{put};
 ghost use Rattle.lines.specs.Listing.{desk, outcome, deskNext, textNext, deskAfter, textAfter};
-use crate::text;
 
 // What is kept between two bytes, beside the arrays: whether a `set` was taken, how many bytes of the line have come, how many bytes of output wait.
 pub struct Place {
@@ -24,7 +23,7 @@ pub fn end_line(line: &[u8], state: &mut [u8], begun: bool, out: &mut [u8], fill
     let mut answer = [0u8; 64];
     let got = crate::answer(line, state, begun, &mut answer);
     let n = got.size;
-    let end = text::put_text(out, filled, &answer[..n]);
+    let end = fields::text::put_text(out, filled, &answer[..n]);
     Place {
         begun: got.begun,
         size: 0,

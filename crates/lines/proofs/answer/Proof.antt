@@ -12,7 +12,8 @@ use lib.Seq.{length-take-le}
 use Rattle.predicates.specs.Lists.{all}
 use Rattle.predicates.proofs.ListLaws.{true-T}
 use Rattle.numbers.proofs.NumberLaws.{take-put}
-use Rattle.lines.specs.Lines.{fields, later, spaceAt, value, isNumber, badLine}
+use Rattle.fields.specs.Fields.{fields, later, spaceAt, value, isNumber}
+use Rattle.lines.specs.Lines.{badLine}
 use Rattle.lines.proofs.LineLaws.{line-long, line-fields, count-bad, count-good}
 use borrow.Author.Needs.{needs}
 use Rattle.lines.proofs.answer.Statement.{statement}

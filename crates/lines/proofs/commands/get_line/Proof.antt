@@ -19,7 +19,7 @@ returns c =
 returns-2 : tie.Need-returns-2
 unfolding getLine badLine
 returns-2 c =
-    let ns = c .before .before .before .before .before .before .before .before .before .before .before .before .args .fields .now in
+    let ns = c .before .before .before .before .before .before .before .before .before .before .before .before .args .values .now in
     let many = le-leb _ _ (c .before .before .before .before .before .before .before .before .if1 .left) in
     let wide = rw (behind-two ns) at (sym (c .before .before .before .before .before .before .words-fit .ensures) ∙ not-true _ (c .before .before .before .before .before .if2 .taken)) in
     (rw (many, wide) (c .before .before .put-text2 .ensures .0), (rw (many, wide), rw (many, wide) (c .before .before .put-text2 .ensures .1)))
@@ -30,7 +30,7 @@ slice-aggregate-monitor-receive c = sym (length-take-le _ _ (omega arith))
 returns-3 : tie.Need-returns-3
 unfolding getLine badLine
 returns-3 c =
-    let ns = c .before .before .before .before .before .before .before .before .before .before .before .before .before .before .before .before .before .before .before .before .before .before .args .fields .now in
+    let ns = c .before .before .before .before .before .before .before .before .before .before .before .before .before .before .before .before .before .before .before .before .before .before .args .values .now in
     let many = le-leb _ _ (c .before .before .before .before .before .before .before .before .before .before .before .before .before .before .before .before .before .before .if1 .left) in
     let fit = rw (behind-two ns) at (sym (c .before .before .before .before .before .before .before .before .before .before .before .before .before .before .before .before .words-fit .ensures) ∙ not-false _ (c .before .before .before .before .before .before .before .before .before .before .before .before .before .before .before .if2 .left)) in
     let message = message-at-front ns _ _ (omega arith) (c .before .before .before .before .before .before .before .before .before .before .before .before .message-bytes .ensures) in

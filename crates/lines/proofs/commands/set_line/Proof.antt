@@ -7,7 +7,8 @@ use native.Mathlib.Omega.{arith}
 use lib.ListN.{getD}
 use Rattle.predicates.proofs.ListLaws.{true-T, T-true, both-l, both-r}
 use borrow.Author.Tests.{eq-eqb, ne-eqb, not-true, not-false, ltb-true}
-use Rattle.lines.specs.Lines.{setLine, badLine, isWord}
+use Rattle.fields.specs.Fields.{isWord}
+use Rattle.lines.specs.Lines.{setLine, badLine}
 use borrow.Author.Needs.{needs}
 use Rattle.lines.proofs.commands.set_line.Statement.{statement}
 use Rattle.lines.proofs.commands.set_line.Tie as tie
@@ -22,14 +23,14 @@ returns-2 : tie.Need-returns-2
 unfolding setLine badLine
 returns-2 c =
     let three = eq-eqb _ _ (c .before .before .before .before .before .before .before .before .if1 .left) in
-    let ns = c .before .before .before .before .before .before .before .before .before .before .before .before .args .fields .now in
+    let ns = c .before .before .before .before .before .before .before .before .before .before .before .before .args .values .now in
     let wide : isWord (getD ns 0 0) && isWord (getD ns 1 0) ≡ false = not-true _ (c .before .before .before .before .before .if2 .taken) in
     (rw (three, wide), (rw (three, wide) (c .before .before .put-text2 .ensures .0), (rw (three, wide), rw (three, wide) (c .before .before .put-text2 .ensures .1))))
 
 -- own and drift are words
-fits : (c : tie.Else2) → let ns = c .before .before .before .before .before .before .before .args .fields .now in (getD ns 0 0 < 2 ^ 32) × (getD ns 1 0 < 2 ^ 32)
+fits : (c : tie.Else2) → let ns = c .before .before .before .before .before .before .before .args .values .now in (getD ns 0 0 < 2 ^ 32) × (getD ns 1 0 < 2 ^ 32)
 fits c =
-    let ns = c .before .before .before .before .before .before .before .args .fields .now in
+    let ns = c .before .before .before .before .before .before .before .args .values .now in
     let both = true-T (isWord (getD ns 0 0) && isWord (getD ns 1 0)) (not-false _ (c .if2 .left)) in (
       ltb-true _ _ (T-true _ (both-l (isWord (getD ns 0 0)) (isWord (getD ns 1 0)) both)),
       ltb-true _ _ (T-true _ (both-r (isWord (getD ns 0 0)) (isWord (getD ns 1 0)) both)),
@@ -45,7 +46,7 @@ returns-3 : tie.Need-returns-3
 unfolding setLine badLine
 returns-3 c =
     let three = eq-eqb _ _ (c .before .before .before .before .before .before .before .before .before .before .before .before .if1 .left) in
-    let ns = c .before .before .before .before .before .before .before .before .before .before .before .before .before .before .before .before .args .fields .now in
+    let ns = c .before .before .before .before .before .before .before .before .before .before .before .before .before .before .before .before .args .values .now in
     let fit : isWord (getD ns 0 0) && isWord (getD ns 1 0) ≡ true = not-false _ (c .before .before .before .before .before .before .before .before .before .if2 .left) in
     let number = c .before .before .before .before .before .before .monitor-set-up .ensures .0 in (
       rw (three, fit, ← number),

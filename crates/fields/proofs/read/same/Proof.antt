@@ -1,15 +1,15 @@
--- `lines::read::same` meets its contract: the loop leaves at the first difference.
+-- `fields::read::same` meets its contract: the loop leaves at the first difference.
 -- Invariant: the bytes from i on are the same if all are. Measure: the bytes still to compare.
--- The mathematics is `same-length`, `same-here`, `same-next` and `same-done` of `proofs.LineLaws`. Assumes nothing.
+-- The mathematics is `same-length`, `same-here`, `same-next` and `same-done` of `proofs.FieldLaws`. Assumes nothing.
 use Prim.Native.Nat.{_-_, _≤_}
 use mathlib.Core.Path.{_≡_, refl, sym, _∙_}
 use native.Mathlib.Omega.{arith}
 use lib.ListN.{length, drop}
-use Rattle.lines.specs.Lines.{sameBytes}
-use Rattle.lines.proofs.LineLaws.{same-length, same-here, same-next, same-done}
+use Rattle.fields.specs.Fields.{sameBytes}
+use Rattle.fields.proofs.FieldLaws.{same-length, same-here, same-next, same-done}
 use borrow.Author.Needs.{needs}
-use Rattle.lines.proofs.read.same.Statement.{statement}
-use Rattle.lines.proofs.read.same.Tie as tie
+use Rattle.fields.proofs.read.same.Statement.{statement}
+use Rattle.fields.proofs.read.same.Tie as tie
 
 abbrev Inv-loop : tie.InvT-loop
 Inv-loop a b i₀ i = (i ≤ length a) × (length a ≡ length b) × (sameBytes (drop i a) (drop i b) ≡ sameBytes a b)

@@ -1,20 +1,20 @@
--- `lines::text::put_digits` meets its contract: the digits of the tenth, by a call of itself, and then the last one.
--- Measure over the calls: the places k. The mathematics is `digits-one`, `digits-put` and `tenth-fits` of `proofs.TextLaws`. Assumes nothing.
+-- `fields::text::put_digits` meets its contract: the digits of the tenth, by a call of itself, and then the last one.
+-- Measure over the calls: the places k. The mathematics is `digits-one`, `digits-put` and `tenth-fits` of `proofs.DecimalLaws`. Assumes nothing.
 use mathlib.Core.Path.{_≡_}
 use native.Mathlib.Omega.{arith}
 use Rattle.numbers.specs.Numbers.{put}
-use Rattle.lines.specs.Text.{digits}
-use Rattle.lines.proofs.TextLaws.{digits-one, tenth-fits, digits-put}
+use Rattle.fields.specs.Decimal.{digits}
+use Rattle.fields.proofs.DecimalLaws.{digits-one, tenth-fits, digits-put}
 use borrow.Author.Needs.{needs}
 use Prim.Native.Nat.{ℕ, _<_}
 use borrow.Fn.Kinds.{In}
 use borrow.Fn.PlainCycle.{Measures, is, falls, and}
-use Rattle.lines.proofs.text.put_digits.Reads as put-digits
-use Rattle.lines.proofs.text.put_digits.Kinds as put-digits-kinds
-use Rattle.lines.proofs.text.+put_digits.Lts-put_digits as put-digits-lts
-use Rattle.lines.proofs.text.glyph.Reads as glyph-reads
-use Rattle.lines.proofs.text.+put_digits.{statement}
-use Rattle.lines.proofs.text.+put_digits.Tie.{close}
+use Rattle.fields.proofs.text.put_digits.Reads as put-digits
+use Rattle.fields.proofs.text.put_digits.Kinds as put-digits-kinds
+use Rattle.fields.proofs.text.+put_digits.Lts-put_digits as put-digits-lts
+use Rattle.fields.proofs.text.glyph.Reads as glyph-reads
+use Rattle.fields.proofs.text.+put_digits.{statement}
+use Rattle.fields.proofs.text.+put_digits.Tie.{close}
 
 abbrev μ-put-digits : Measures 1 put-digits-kinds.ps ℕ
 μ-put-digits κs a = a .1 .1 .0

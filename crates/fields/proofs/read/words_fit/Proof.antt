@@ -1,4 +1,4 @@
--- `lines::read::words_fit` meets its contract: the loop leaves at the first number that is no word.
+-- `fields::read::words_fit` meets its contract: the loop leaves at the first number that is no word.
 -- Invariant: the numbers from i on are words if all are. Measure: the numbers still to test. Assumes nothing.
 use Prim.Native.Nat.{_-_}
 use mathlib.Core.Path.{_≡_, refl, sym, _∙_}
@@ -6,10 +6,10 @@ use borrow.Author.Tests.{lt-ltb, le-ltb}
 use lib.ListN.{length, drop}
 use Rattle.predicates.specs.Lists.{all}
 use Rattle.predicates.proofs.LoopLaws.{all-here, all-next, all-done}
-use Rattle.lines.specs.Lines.{isWord}
+use Rattle.fields.specs.Fields.{isWord}
 use borrow.Author.Needs.{needs}
-use Rattle.lines.proofs.read.words_fit.Statement.{statement}
-use Rattle.lines.proofs.read.words_fit.Tie as tie
+use Rattle.fields.proofs.read.words_fit.Statement.{statement}
+use Rattle.fields.proofs.read.words_fit.Tie as tie
 
 abbrev Inv-loop : tie.InvT-loop
 Inv-loop words i₀ i = all isWord (drop i words) ≡ all isWord words

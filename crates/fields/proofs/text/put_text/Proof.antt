@@ -1,6 +1,6 @@
--- `lines::text::put_text` meets its contract: turn i stores byte i of the text.
+-- `fields::text::put_text` meets its contract: turn i stores byte i of the text.
 -- Invariant: what is stored, with the text from i on stored behind it, is the whole. Measure: the bytes still to store.
--- The mathematics is `copy-next` of `proofs.TextLaws`. Assumes nothing.
+-- The mathematics is `copy-next` of `proofs.DecimalLaws`. Assumes nothing.
 use Prim.Native.Nat.{_+_, _-_, _≤_}
 use mathlib.Core.Path.{_≡_, refl, sym, _∙_}
 use native.Mathlib.Nat.{add-zero}
@@ -8,10 +8,10 @@ use native.Mathlib.Omega.{arith}
 use lib.ListN.{length, drop, length-set}
 use lib.Seq.{drop-length}
 use Rattle.numbers.specs.Numbers.{put}
-use Rattle.lines.proofs.TextLaws.{copy-next}
+use Rattle.fields.proofs.DecimalLaws.{copy-next}
 use borrow.Author.Needs.{needs}
-use Rattle.lines.proofs.text.put_text.Statement.{statement}
-use Rattle.lines.proofs.text.put_text.Tie as tie
+use Rattle.fields.proofs.text.put_text.Statement.{statement}
+use Rattle.fields.proofs.text.put_text.Tie as tie
 
 abbrev Inv-loop : tie.InvT-loop
 Inv-loop out₀ at text i₀ out i =

@@ -1,4 +1,4 @@
--- `lines::read::message_bytes` meets its contract: turn i stores the four bytes of word i behind those of the words before it.
+-- `fields::read::message_bytes` meets its contract: turn i stores the four bytes of word i behind those of the words before it.
 -- Invariant: out is what it was, with the bytes of the first i words at its front. Measure: the words still to store.
 -- The mathematics is `bytesOf-next` of `numbers`. Assumes nothing.
 use Prim.Native.Nat.{_*_, _-_, _≤_}
@@ -10,8 +10,8 @@ use lib.Seq.{take-length}
 use Rattle.numbers.specs.Numbers.{put, bytesOf}
 use Rattle.numbers.proofs.NumberLaws.{bytesOf-next}
 use borrow.Author.Needs.{needs}
-use Rattle.lines.proofs.read.message_bytes.Statement.{statement}
-use Rattle.lines.proofs.read.message_bytes.Tie as tie
+use Rattle.fields.proofs.read.message_bytes.Statement.{statement}
+use Rattle.fields.proofs.read.message_bytes.Tie as tie
 use Rattle.numbers.proofs.put_num.Reads as put-num-reads
 
 abbrev Inv-loop : tie.InvT-loop

@@ -1,6 +1,6 @@
--- `lines::read::number` meets its contract: the loop leaves at a byte that is no digit, and where the number would pass 64 bits, since the digits
+-- `fields::read::number` meets its contract: the loop leaves at a byte that is no digit, and where the number would pass 64 bits, since the digits
 -- behind never make it smaller. Invariant: the digits from i on, behind v, write the field's number, and are digits if all are.
--- Measure: the bytes still to read. The mathematics is `value-ge`, `value-next` and the laws of `isNumber` of `proofs.LineLaws`. Assumes nothing.
+-- Measure: the bytes still to read. The mathematics is `value-ge`, `value-next` and the laws of `isNumber` of `proofs.FieldLaws`. Assumes nothing.
 use Prim.Native.Nat.{_+_, _*_, _-_, _^_, _≤_, _<_}
 use mathlib.Core.Path.{_≡_, refl, sym, _∙_}
 use mathlib.Core.Bool.{true, false}
@@ -11,11 +11,11 @@ use lib.ListN.{length, getD, drop}
 use Rattle.predicates.specs.Lists.{all}
 use Rattle.predicates.proofs.LoopLaws.{all-here, all-next, all-done}
 use Rattle.predicates.proofs.ListLaws.{true-T, T-true, both-l}
-use Rattle.lines.specs.Lines.{isDigit, valueFrom, value, isNumber}
-use Rattle.lines.proofs.LineLaws.{value-ge, value-next, value-done, number-size, number-digits, number-large, number-good}
+use Rattle.fields.specs.Fields.{isDigit, valueFrom, value, isNumber}
+use Rattle.fields.proofs.FieldLaws.{value-ge, value-next, value-done, number-size, number-digits, number-large, number-good}
 use borrow.Author.Needs.{needs}
-use Rattle.lines.proofs.read.number.Statement.{statement}
-use Rattle.lines.proofs.read.number.Tie as tie
+use Rattle.fields.proofs.read.number.Statement.{statement}
+use Rattle.fields.proofs.read.number.Tie as tie
 
 abbrev Inv-loop : tie.InvT-loop
 Inv-loop field size v₀ i₀ v i =

@@ -1,14 +1,14 @@
--- `lines::read::numbers_behind` meets its contract: a line with no space has no field behind the first, and else they start behind that space.
+-- `fields::read::numbers_behind` meets its contract: a line with no space has no field behind the first, and else they start behind that space.
 -- Assumes nothing.
 use mathlib.Core.Path.{_≡_, sym, _∙_}
 use native.Mathlib.Omega.{arith}
 use lib.ListN.{length}
 use Rattle.numbers.specs.Numbers.{put}
-use Rattle.lines.specs.Lines.{spaceAt}
-use Rattle.lines.proofs.LineLaws.{later-none, later-some}
+use Rattle.fields.specs.Fields.{spaceAt}
+use Rattle.fields.proofs.FieldLaws.{later-none, later-some}
 use borrow.Author.Needs.{needs}
-use Rattle.lines.proofs.read.numbers_behind.Statement.{statement}
-use Rattle.lines.proofs.read.numbers_behind.Tie as tie
+use Rattle.fields.proofs.read.numbers_behind.Statement.{statement}
+use Rattle.fields.proofs.read.numbers_behind.Tie as tie
 
 returns : tie.Need-returns
 unfolding put

@@ -1,15 +1,15 @@
--- `lines::read::field_end` meets its contract: the loop stops at the first space.
+-- `fields::read::field_end` meets its contract: the loop stops at the first space.
 -- Invariant: the first space from i on is the first from at on. Measure: the bytes still to look at.
--- The mathematics is `space-here`, `space-next` and `space-done` of `proofs.LineLaws`. Assumes nothing.
+-- The mathematics is `space-here`, `space-next` and `space-done` of `proofs.FieldLaws`. Assumes nothing.
 use Prim.Native.Nat.{_+_, _-_, _≤_}
 use mathlib.Core.Path.{_≡_, refl}
 use native.Mathlib.Omega.{arith}
 use lib.ListN.{length, drop}
-use Rattle.lines.specs.Lines.{spaceAt}
-use Rattle.lines.proofs.LineLaws.{space-here, space-next, space-done}
+use Rattle.fields.specs.Fields.{spaceAt}
+use Rattle.fields.proofs.FieldLaws.{space-here, space-next, space-done}
 use borrow.Author.Needs.{needs}
-use Rattle.lines.proofs.read.field_end.Statement.{statement}
-use Rattle.lines.proofs.read.field_end.Tie as tie
+use Rattle.fields.proofs.read.field_end.Statement.{statement}
+use Rattle.fields.proofs.read.field_end.Tie as tie
 
 abbrev Inv-loop : tie.InvT-loop
 Inv-loop line at i₀ i = (at ≤ i) × (i ≤ length line) × (i + spaceAt (drop i line) ≡ at + spaceAt (drop at line))

@@ -1,6 +1,6 @@
--- `lines::read::numbers_from` meets its contract: each turn reads the field up to the next space.
+-- `fields::read::numbers_from` meets its contract: each turn reads the field up to the next space.
 -- Invariant: the fields from at on, behind the n numbers that are stored, are the whole; each field has a byte, so n is at most half of at.
--- Measure: the bytes behind at. The mathematics is `numbers-bad`, `numbers-last` and `numbers-more` of `proofs.LineLaws`. Assumes nothing.
+-- Measure: the bytes behind at. The mathematics is `numbers-bad`, `numbers-last` and `numbers-more` of `proofs.FieldLaws`. Assumes nothing.
 use Prim.Native.Nat.{_+_, _*_, _-_, _≤_}
 use mathlib.Core.Path.{_≡_, refl, sym, _∙_}
 use mathlib.Core.List.{map}
@@ -9,11 +9,11 @@ use borrow.Author.Tests.{not-true, not-false}
 use lib.ListN.{length, drop, length-set}
 use Rattle.predicates.specs.Lists.{all}
 use Rattle.numbers.specs.Numbers.{put}
-use Rattle.lines.specs.Lines.{fields, value, isNumber}
-use Rattle.lines.proofs.LineLaws.{numbers-bad, numbers-last, numbers-more, field-some}
+use Rattle.fields.specs.Fields.{fields, value, isNumber}
+use Rattle.fields.proofs.FieldLaws.{numbers-bad, numbers-last, numbers-more, field-some}
 use borrow.Author.Needs.{needs}
-use Rattle.lines.proofs.read.numbers_from.Statement.{statement}
-use Rattle.lines.proofs.read.numbers_from.Tie as tie
+use Rattle.fields.proofs.read.numbers_from.Statement.{statement}
+use Rattle.fields.proofs.read.numbers_from.Tie as tie
 
 abbrev Inv-loop : tie.InvT-loop
 Inv-loop line from values₀ at₀ n₀ values at n =
