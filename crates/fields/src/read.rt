@@ -1,8 +1,8 @@
 // The fields of a line and the numbers that they write.
 ghost use mathlib.Core.Path.{_≡_};
 ghost use mathlib.Core.Bool.{cond};
-ghost use mathlib.Core.List.{map};
-ghost use Prim.Native.Nat.{_+_, _*_, _≤_};
+ghost use mathlib.Core.List.{List, map};
+ghost use Prim.Native.Nat.{ℕ, _+_, _*_, _≤_, _<_};
 ghost use lib.Dec.{T};
 ghost use lib.ListN.{length, drop};
 ghost use Rattle.predicates.specs.Lists.{all};
@@ -75,11 +75,20 @@ fn number(field: &[u8]) -> Field
     }
 }
 
-// Reads the fields from `from` on into `values` and answers how many they are, or 255 where one is no number.
-fn numbers_from(line: &[u8], from: usize, values: &mut [u64]) -> usize
-    requires { ⌜ (from ≤ length (now line)) × (length (now line) ≤ 200) × (101 ≤ length (now values)) ⌝ }
-    ensures { λ r. ⌜ (r ≡ cond (all isNumber (fields (drop from (now (line .entry))))) (length (fields (drop from (now (line .entry))))) 255) ⌝ }
-    ensures { λ r. ⌜ (T (all isNumber (fields (drop from (now (line .entry))))) → (r ≤ 101) × (now (values .exit) ≡ put 0 (map value (fields (drop from (now (line .entry))))) (now (values .entry)))) ⌝ }
+// Whether each field that was read is a number, and how many they are; 0 where one is none.
+pub struct Numbers {
+    pub good: bool,
+    pub count: usize,
+}
+
+// Reads the numbers of the fields from `from` on into the front of `values`, which has more than half as many places as the line has bytes: a number
+// and the space behind it are two bytes at least. Where a field is no number, nothing is said of what `values` holds.
+fn numbers_from(line: &[u8], from: usize, values: &mut [u64]) -> Numbers
+    requires { ⌜ (from ≤ length (now line)) × (length (now line) < 2 * length (now values)) ⌝ }
+    ensures { λ r. ⌜ (let read : List (List ℕ) = fields (drop from (now (line .entry))) in
+        (r .good ≡ all isNumber read) × (r .count ≡ cond (all isNumber read) (length read) 0) × (r .count ≤ length (now (values .entry)))) ⌝ }
+    ensures { λ _. ⌜ (let read : List (List ℕ) = fields (drop from (now (line .entry))) in
+        T (all isNumber read) → now (values .exit) ≡ put 0 (map value read) (now (values .entry))) ⌝ }
 {
     let mut at = from;
     let mut n: usize = 0;
@@ -87,26 +96,36 @@ fn numbers_from(line: &[u8], from: usize, values: &mut [u64]) -> usize
         let end = field_end(line, at);
         let got = number(&line[at..end]);
         if !got.good {
-            return 255;
+            return Numbers {
+                good: false,
+                count: 0,
+            };
         }
         values[n] = got.value;
         n += 1;
         if end == line.len() {
-            return n;
+            return Numbers {
+                good: true,
+                count: n,
+            };
         }
         at = end + 1;
     }
 }
 
 // The same for the fields behind the first one, which ends at `end`.
-pub fn numbers_behind(line: &[u8], end: usize, values: &mut [u64]) -> usize
-    requires { ⌜ (end ≡ spaceAt (now line)) × (end ≤ length (now line)) ⌝ }
-    requires { ⌜ (length (now line) ≤ 200) × (101 ≤ length (now values)) ⌝ }
-    ensures { λ r. ⌜ r ≡ cond (all isNumber (later (fields (now (line .entry))))) (length (later (fields (now (line .entry))))) 255 ⌝ }
-    ensures { λ r. ⌜ (T (all isNumber (later (fields (now (line .entry))))) → (r ≤ 101) × (now (values .exit) ≡ put 0 (map value (later (fields (now (line .entry))))) (now (values .entry)))) ⌝ }
+pub fn numbers_behind(line: &[u8], end: usize, values: &mut [u64]) -> Numbers
+    requires { ⌜ (end ≡ spaceAt (now line)) × (end ≤ length (now line)) × (length (now line) < 2 * length (now values)) ⌝ }
+    ensures { λ r. ⌜ (let read : List (List ℕ) = later (fields (now (line .entry))) in
+        (r .good ≡ all isNumber read) × (r .count ≡ cond (all isNumber read) (length read) 0) × (r .count ≤ length (now (values .entry)))) ⌝ }
+    ensures { λ _. ⌜ (let read : List (List ℕ) = later (fields (now (line .entry))) in
+        T (all isNumber read) → now (values .exit) ≡ put 0 (map value read) (now (values .entry))) ⌝ }
 {
     if end == line.len() {
-        return 0;
+        return Numbers {
+            good: true,
+            count: 0,
+        };
     }
     numbers_from(line, end + 1, values)
 }

@@ -1,22 +1,21 @@
 -- Laws of `specs.Lines`: the message of a `get` line, what a line leaves as it was, and a line by its fields.
 -- No contract cites this file. Assumes nothing.
 use Prim.Native.Nat.{ℕ, _*_, _-_, _≤_, _<_}
-use mathlib.Core.Path.{_≡_, refl, sym, ap, _∙_}
-use mathlib.Core.Bool.{Bool, true, false, not, _&&_, cond}
-use mathlib.Core.Logic.{⊎-elim}
+use mathlib.Core.Path.{_≡_, refl, ap, _∙_}
+use mathlib.Core.Bool.{Bool, true, _&&_, cond}
 use mathlib.Core.List.{List, map}
 use native.Mathlib.Omega.{arith}
-use borrow.Author.Tests.{lt-ltb, le-ltb, ltb-true, ltb-false}
-use lib.Dec.{T, ltb, leb, eqb}
-use lib.ListN.{length, take, drop, length-take, length-drop}
+use borrow.Author.Tests.{lt-ltb, le-ltb}
+use lib.Dec.{leb, eqb}
+use lib.ListN.{length, take, drop, length-drop}
 use lib.Seq.{take-all}
 use Rattle.predicates.specs.Lists.{all}
-use Rattle.predicates.proofs.ListLaws.{T-true, T-false, cond-ind, split}
+use Rattle.predicates.proofs.ListLaws.{cond-ind}
 use Rattle.numbers.specs.Numbers.{put, bytesOf}
 use Rattle.numbers.proofs.NumberLaws.{length-bytesOf, take-put}
 use Rattle.fields.specs.Fields.{fields, later, spaceAt, value, isNumber, isWord, sameBytes}
 use Rattle.fields.proofs.FieldLaws.{first-field}
-use Rattle.lines.specs.Lines.{Outcome, badLine, ageLine, getLine, askLine, fewestLine, laterLine, wordLine, fieldsLine, lineOutcome}
+use Rattle.lines.specs.Lines.{lineMost, Outcome, badLine, ageLine, getLine, askLine, fewestLine, laterLine, wordLine, fieldsLine, lineOutcome}
 use Rattle.lines.specs.Lines.{ageWord, getWord, askWord, fewestWord}
 
 -- ---- the message of a `get` line
@@ -54,33 +53,12 @@ later-begun word ns s =
 
 -- ---- a line: its length, and its fields
 
-pub line-long : (line s : List ℕ) (begun : Bool) → 200 < length line → lineOutcome line begun s ≡ badLine begun s
+pub line-long : (line s : List ℕ) (begun : Bool) → lineMost < length line → lineOutcome line begun s ≡ badLine begun s
 unfolding lineOutcome
 line-long line s begun h = rw (lt-ltb _ _ h)
 
-pub line-fields : (line s : List ℕ) (begun : Bool) → length line ≤ 200 →
+pub line-fields : (line s : List ℕ) (begun : Bool) → length line ≤ lineMost →
     lineOutcome line begun s
     ≡ cond (all isNumber (later (fields line))) (wordLine (take (spaceAt line) line) (map value (later (fields line))) begun s) (badLine begun s)
 unfolding lineOutcome fieldsLine
 line-fields line s begun h = rw (le-ltb _ _ h) (ap (λ fs. fieldsLine fs begun s) (first-field line))
-
--- the count of the fields tells whether all are numbers
-pub count-bad : (b : Bool) (n k : ℕ) → n ≡ cond b k 255 → (T b → n ≤ 101) → n ≡ 255 → b ≡ false
-count-bad true n k e h f = absurd (omega (arith, h tt))
-count-bad false n k e h f = refl
-
-pub count-good : (b : Bool) (n k : ℕ) → n ≡ cond b k 255 → (n ≡ 255 → ⊥) → (b ≡ true) × (n ≡ k)
-count-good true n k e h = (refl, e)
-count-good false n k e h = absurd (h e)
-
--- the first 201 bytes of a line decide
-pub line-cut : (line s : List ℕ) (begun : Bool) → lineOutcome (take 201 line) begun s ≡ lineOutcome line begun s
-line-cut line s begun =
-    ⊎-elim
-    (λ (h : T (ltb 200 (length line))).
-    let long : 200 < length line = ltb-true _ _ (T-true _ h) in
-    line-long (take 201 line) s begun (rw length-take (omega arith)) ∙ sym (line-long line s begun long))
-    (λ (h : T (not (ltb 200 (length line)))).
-    let short : length line ≤ 200 = ltb-false _ _ (T-false _ h) in
-    rw (take-all 201 line (omega arith)))
-    (split (ltb 200 (length line)))

@@ -10,21 +10,22 @@ use Rattle.predicates.specs.Lists.{all}
 use Rattle.predicates.proofs.ListLaws.{cond-ind}
 use Rattle.fields.specs.Fields.{fields, value, isNumber, isWord, sameBytes}
 use Rattle.lines.specs.Lines.{setWord, ageWord, getWord, askWord, fewestWord}
-use Rattle.lines.specs.Lines.{Outcome, badLine, setLine, ageLine, getLine, answeredText, askText, askLine, fewestAnswer, fewestLine}
+use Rattle.lines.specs.Text.{answerMost}
+use Rattle.lines.specs.Lines.{lineMost, Outcome, badLine, setLine, ageLine, getLine, answeredText, askText, askLine, fewestAnswer, fewestLine}
 use Rattle.lines.specs.Lines.{laterLine, wordLine, fieldsLine, lineOutcome}
 use Rattle.lines.proofs.TextLaws.{number-length, answer-length, fewest-length}
 
 -- the text of an outcome is short
 abbrev Short : Outcome → Type 0
-Short o = length (o .text) ≤ 64
+Short o = length (o .text) ≤ answerMost
 
 bad-short : (begun : Bool) (s : List ℕ) → Short (badLine begun s)
 unfolding badLine
 bad-short begun s = omega arith
 
-answered-short : (number : ℕ) (text : List ℕ) → length text ≤ 64 → length (answeredText number text) ≤ 64
+answered-short : (number : ℕ) (text : List ℕ) → length text ≤ answerMost → length (answeredText number text) ≤ answerMost
 unfolding answeredText
-answered-short number text h = cond-ind (λ (l : List ℕ). length l ≤ 64) (eqb number 0) _ _ (λ _. h) (λ _. number-length number)
+answered-short number text h = cond-ind (λ (l : List ℕ). length l ≤ answerMost) (eqb number 0) _ _ (λ _. h) (λ _. number-length number)
 
 set-short : (ns : List ℕ) (begun : Bool) (s : List ℕ) → Short (setLine ns begun s)
 unfolding setLine
@@ -51,6 +52,6 @@ fields-short (word ∷ fs) begun s =
     (λ _. cond-ind Short begun _ _ (λ _. later-short word (map value fs) s) (λ _. bad-short begun s)))
     (λ _. bad-short begun s)
 
-pub line-short : (line : List ℕ) (begun : Bool) (s : List ℕ) → length (lineOutcome line begun s .text) ≤ 64
+pub line-short : (line : List ℕ) (begun : Bool) (s : List ℕ) → length (lineOutcome line begun s .text) ≤ answerMost
 unfolding lineOutcome
-line-short line begun s = cond-ind Short (ltb 200 (length line)) _ _ (λ _. bad-short begun s) (λ _. fields-short (fields line) begun s)
+line-short line begun s = cond-ind Short (ltb lineMost (length line)) _ _ (λ _. bad-short begun s) (λ _. fields-short (fields line) begun s)

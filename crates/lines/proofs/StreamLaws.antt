@@ -9,20 +9,21 @@ use lib.ListN.{length, getD, take, drop, set, length-append, length-drop, take-a
 use lib.Seq.{take-suc, take-suc-set, take-all, take-at, length-take-le, drop-drop}
 use Rattle.numbers.specs.Numbers.{put}
 use Rattle.numbers.proofs.NumberLaws.{put-then}
+use Rattle.lines.specs.Lines.{lineMost}
 use Rattle.lines.specs.Listing.{Desk, deskNext, textNext, deskAfter, textAfter}
 
 -- ---- the line so far
 
-pub kept-byte : (l : List ℕ) (n b : ℕ) → n < 201 → 201 ≤ length l → take (n + 1) (set l n b) ≡ take 201 (take n l ++ (b ∷ []))
+pub kept-byte : (l : List ℕ) (n b : ℕ) → n < lineMost + 1 → lineMost + 1 ≤ length l → take (n + 1) (set l n b) ≡ take (lineMost + 1) (take n l ++ (b ∷ []))
 kept-byte l n b h k =
     let front : length (take n l) ≡ n = length-take-le n l (omega arith) in
-    let short : length (take n l ++ (b ∷ [])) ≤ 201 = rw length-append (omega arith) in
-    rw (add-one, take-suc-set l n b (omega arith), take-all 201 (take n l ++ (b ∷ [])) short)
+    let short : length (take n l ++ (b ∷ [])) ≤ lineMost + 1 = rw length-append (omega arith) in
+    rw (add-one n, take-suc-set l n b (omega arith), take-all (lineMost + 1) (take n l ++ (b ∷ [])) short)
 
-pub kept-full : (l : List ℕ) (n b : ℕ) → n ≤ 201 → 201 ≤ n → 201 ≤ length l → take n l ≡ take 201 (take n l ++ (b ∷ []))
+pub kept-full : (l : List ℕ) (n b : ℕ) → n ≤ lineMost + 1 → lineMost + 1 ≤ n → lineMost + 1 ≤ length l → take n l ≡ take (lineMost + 1) (take n l ++ (b ∷ []))
 kept-full l n b h k m =
-    let front : length (take n l) ≡ 201 = length-take-le n l (omega arith) ∙ omega arith in
-    sym (take-at (take n l) (b ∷ []) 201 front)
+    let front : length (take n l) ≡ lineMost + 1 = length-take-le n l (omega arith) ∙ omega arith in
+    sym (take-at (take n l) (b ∷ []) (lineMost + 1) front)
 
 -- ---- a byte behind the others
 

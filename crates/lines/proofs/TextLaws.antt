@@ -14,7 +14,7 @@ use Rattle.asking.specs.declared.Answer.{Answer}
 use Rattle.asking.specs.declared.Answer.the-variants.{Contradicted, Open, Between}
 use Rattle.asking.specs.declared.Fewest.{Fewest}
 use Rattle.asking.specs.declared.Fewest.the-variants.{Over, Few}
-use Rattle.lines.specs.Text.{withOne, withTwo, numberText, answerText, fewestText, refusedWord, betweenWord, fewestWord}
+use Rattle.lines.specs.Text.{answerMost, withOne, withTwo, numberText, answerText, fewestText, refusedWord, betweenWord, fewestWord}
 
 -- ---- lines put together
 
@@ -43,26 +43,26 @@ with-two word a b i j k l end s t u v w x e₁ p₁ e₂ p₂ e₃ p₃ e₄ p�
 
 -- ---- how long a line can be
 
-with-one-length : (word : List ℕ) (a : ℕ) → length word ≤ 8 → length (withOne word a) ≤ 64
+with-one-length : (word : List ℕ) (a : ℕ) → length word ≤ 8 → length (withOne word a) ≤ answerMost
 unfolding withOne
 with-one-length word a h = simp length-append (omega (arith, digits-length 20 a))
 
-with-two-length : (word : List ℕ) (a b : ℕ) → length word ≤ 8 → length (withTwo word a b) ≤ 64
+with-two-length : (word : List ℕ) (a b : ℕ) → length word ≤ 8 → length (withTwo word a b) ≤ answerMost
 unfolding withTwo
 with-two-length word a b h = simp length-append (omega (arith, digits-length 20 a, digits-length 20 b))
 
-pub number-length : (number : ℕ) → length (numberText number) ≤ 64
+pub number-length : (number : ℕ) → length (numberText number) ≤ answerMost
 unfolding numberText
 number-length number =
-    cond-ind (λ (l : List ℕ). length l ≤ 64) (eqb number 0) _ _ (λ _. omega arith) (λ _. with-one-length refusedWord number (omega arith))
+    cond-ind (λ (l : List ℕ). length l ≤ answerMost) (eqb number 0) _ _ (λ _. omega arith) (λ _. with-one-length refusedWord number (omega arith))
 
-pub answer-length : (a : Answer) → length (answerText a) ≤ 64
+pub answer-length : (a : Answer) → length (answerText a) ≤ answerMost
 unfolding answerText
 answer-length Contradicted = omega arith
 answer-length Open = omega arith
 answer-length (Between left right) = with-two-length betweenWord left right (omega arith)
 
-pub fewest-length : (f : Fewest) → length (fewestText f) ≤ 64
+pub fewest-length : (f : Fewest) → length (fewestText f) ≤ answerMost
 unfolding fewestText
 fewest-length Over = omega arith
 fewest-length (Few count mask) = with-two-length fewestWord count mask (omega arith)

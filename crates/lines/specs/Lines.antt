@@ -1,6 +1,6 @@
 -- A line of the listing (document 01, "A listing, complete"): what it leaves and prints. A line is its bytes without the line feed.
 -- Assumes nothing: these are definitions.
-use Prim.Native.Nat.{ℕ}
+use Prim.Native.Nat.{ℕ, _+_, _/_}
 use mathlib.Core.Bool.{Bool, true, _&&_, _||_, cond}
 use mathlib.Core.List.{List, [], _∷_, map}
 use lib.Dec.{ltb, leb, eqb}
@@ -12,6 +12,16 @@ use Rattle.monitor.specs.Calls.{setUpNumber, setUpState, ageNumber, ageState}
 use Rattle.monitor.specs.Receive.{receiveNumber, receiveState}
 use Rattle.monitor.specs.Ask.{askNumber, askOutput, fewestNumber, fewestOutput, answerIn, fewestIn}
 use Rattle.lines.specs.Text.{badText, numberText, answerText, fewestText}
+
+-- ---- how long a line is
+
+-- "A line above 200 bytes"
+abbrev pub lineMost : ℕ
+lineMost = 200
+
+-- so many fields have room in it: each has a byte, and a space before the next
+abbrev pub valuesMost : ℕ
+valuesMost = lineMost / 2 + 1
 
 -- ---- what a line leaves
 
@@ -119,4 +129,4 @@ fieldsLine (word ∷ fs) begun s = cond (all isNumber fs) (wordLine word (map va
 
 -- "A line above 200 bytes or empty is a `bad line`": an empty line's one field is no command word
 unfoldable pub lineOutcome : List ℕ → Bool → List ℕ → Outcome
-lineOutcome line begun s = cond (ltb 200 (length line)) (badLine begun s) (fieldsLine (fields line) begun s)
+lineOutcome line begun s = cond (ltb lineMost (length line)) (badLine begun s) (fieldsLine (fields line) begun s)

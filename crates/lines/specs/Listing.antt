@@ -1,11 +1,11 @@
 -- The listing over a stream of bytes (document 01, "A listing, complete"): what is kept between two bytes, and what is printed.
 -- Assumes nothing: these are definitions.
-use Prim.Native.Nat.{ℕ}
+use Prim.Native.Nat.{ℕ, _+_}
 use mathlib.Core.Bool.{Bool, cond}
 use mathlib.Core.List.{List, [], _∷_, _++_}
 use lib.Dec.{eqb}
 use lib.ListN.{take}
-use Rattle.lines.specs.Lines.{Outcome, lineOutcome}
+use Rattle.lines.specs.Lines.{lineMost, Outcome, lineOutcome}
 
 -- whether a `set` was taken, the state, and the bytes of the line so far
 pub record Desk : Type 0 where
@@ -20,10 +20,10 @@ desk begun state line = record { begun = begun; state = state; line = line }
 unfoldable pub outcome : Desk → Outcome
 outcome d = lineOutcome (d .line) (d .begun) (d .state)
 
--- the desk behind a byte: a line feed ends the line. A line above 200 bytes is bad however it goes on, so 201 of its bytes are kept
+-- the desk behind a byte: a line feed ends the line. A line above 200 bytes is bad however it goes on, so one byte more is kept
 unfoldable pub deskNext : Desk → ℕ → Desk
 deskNext d b =
-    cond (eqb b 10) (desk (outcome d .begun) (outcome d .state) []) (desk (d .begun) (d .state) (take 201 (d .line ++ (b ∷ []))))
+    cond (eqb b 10) (desk (outcome d .begun) (outcome d .state) []) (desk (d .begun) (d .state) (take (lineMost + 1) (d .line ++ (b ∷ []))))
 
 -- what a byte prints
 unfoldable pub textNext : Desk → ℕ → List ℕ

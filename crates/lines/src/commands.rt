@@ -3,14 +3,19 @@ ghost use mathlib.Core.Path.{_≡_};
 ghost use Prim.Native.Nat.{_≤_};
 ghost use lib.ListN.{length};
 ghost use Rattle.numbers.specs.Numbers.{put};
-ghost use Rattle.lines.specs.Lines.{setLine, ageLine, getLine, askLine, fewestLine, laterLine, wordLine};
+ghost use Rattle.lines.specs.Text.{answerMost};
+ghost use Rattle.lines.specs.Lines.{valuesMost, setLine, ageLine, getLine, askLine, fewestLine, laterLine, wordLine};
 use crate::Answered;
+use crate::VALUES_MOST;
 use crate::text;
 use fields::read;
 
+// The message of a `get` line has at most these bytes: four for each field behind the two delays.
+const MESSAGE_MOST: usize = (VALUES_MOST - 2) * 4;
+
 // `set` own drift reading.
 pub fn set_line(values: &[u64], state: &mut [u8], begun: bool, out: &mut [u8]) -> Answered
-    requires { ⌜ 64 ≤ length (now out) ⌝ }
+    requires { ⌜ answerMost ≤ length (now out) ⌝ }
     ensures { λ r. ⌜ r .begun ≡ setLine (now (values .entry)) begun (now (state .entry)) .begun ⌝ }
     ensures { λ r. ⌜ r .size ≡ length (setLine (now (values .entry)) begun (now (state .entry)) .text) ⌝ }
     ensures { λ _. ⌜ now (state .exit) ≡ setLine (now (values .entry)) begun (now (state .entry)) .state ⌝ }
@@ -36,7 +41,7 @@ pub fn set_line(values: &[u64], state: &mut [u8], begun: bool, out: &mut [u8]) -
 
 // `age` reading.
 fn age_line(values: &[u64], state: &mut [u8], out: &mut [u8]) -> usize
-    requires { ⌜ 64 ≤ length (now out) ⌝ }
+    requires { ⌜ answerMost ≤ length (now out) ⌝ }
     ensures { λ r. ⌜ r ≡ length (ageLine (now (values .entry)) (now (state .entry)) .text) ⌝ }
     ensures { λ _. ⌜ now (state .exit) ≡ ageLine (now (values .entry)) (now (state .entry)) .state ⌝ }
     ensures { λ _. ⌜ now (out .exit) ≡ put 0 (ageLine (now (values .entry)) (now (state .entry)) .text) (now (out .entry)) ⌝ }
@@ -50,7 +55,7 @@ fn age_line(values: &[u64], state: &mut [u8], out: &mut [u8]) -> usize
 
 // `get` least greatest words: the words as bytes are the message.
 fn get_line(values: &[u64], state: &mut [u8], out: &mut [u8]) -> usize
-    requires { ⌜ (length (now values) ≤ 101) × (64 ≤ length (now out)) ⌝ }
+    requires { ⌜ (length (now values) ≤ valuesMost) × (answerMost ≤ length (now out)) ⌝ }
     ensures { λ r. ⌜ r ≡ length (getLine (now (values .entry)) (now (state .entry)) .text) ⌝ }
     ensures { λ _. ⌜ now (state .exit) ≡ getLine (now (values .entry)) (now (state .entry)) .state ⌝ }
     ensures { λ _. ⌜ now (out .exit) ≡ put 0 (getLine (now (values .entry)) (now (state .entry)) .text) (now (out .entry)) ⌝ }
@@ -62,7 +67,7 @@ fn get_line(values: &[u64], state: &mut [u8], out: &mut [u8]) -> usize
     if !fits {
         return fields::text::put_text(out, 0, b"bad line\n");
     }
-    let mut message = [0u8; 400];
+    let mut message = [0u8; MESSAGE_MOST];
     read::message_bytes(&values[2..], &mut message);
     let size = (values.len() - 2) * 4;
     let number = monitor::receive::monitor_receive(state, values[0], values[1], &message[..size]);
@@ -71,7 +76,7 @@ fn get_line(values: &[u64], state: &mut [u8], out: &mut [u8]) -> usize
 
 // `ask` limit.
 fn ask_line(values: &[u64], state: &[u8], out: &mut [u8]) -> usize
-    requires { ⌜ 64 ≤ length (now out) ⌝ }
+    requires { ⌜ answerMost ≤ length (now out) ⌝ }
     ensures { λ r. ⌜ r ≡ length (askLine (now (values .entry)) (now (state .entry)) .text) ⌝ }
     ensures { λ _. ⌜ now (out .exit) ≡ put 0 (askLine (now (values .entry)) (now (state .entry)) .text) (now (out .entry)) ⌝ }
 {
@@ -88,7 +93,7 @@ fn ask_line(values: &[u64], state: &[u8], out: &mut [u8]) -> usize
 
 // `fewest`.
 fn fewest_line(values: &[u64], state: &[u8], out: &mut [u8]) -> usize
-    requires { ⌜ 64 ≤ length (now out) ⌝ }
+    requires { ⌜ answerMost ≤ length (now out) ⌝ }
     ensures { λ r. ⌜ r ≡ length (fewestLine (now (values .entry)) (now (state .entry)) .text) ⌝ }
     ensures { λ _. ⌜ now (out .exit) ≡ put 0 (fewestLine (now (values .entry)) (now (state .entry)) .text) (now (out .entry)) ⌝ }
 {
@@ -105,7 +110,7 @@ fn fewest_line(values: &[u64], state: &[u8], out: &mut [u8]) -> usize
 
 // A command that needs a taken `set` before it.
 pub fn later_line(word: &[u8], values: &[u64], state: &mut [u8], out: &mut [u8]) -> usize
-    requires { ⌜ (length (now values) ≤ 101) × (64 ≤ length (now out)) ⌝ }
+    requires { ⌜ (length (now values) ≤ valuesMost) × (answerMost ≤ length (now out)) ⌝ }
     ensures { λ r. ⌜ r ≡ length (laterLine (now (word .entry)) (now (values .entry)) (now (state .entry)) .text) ⌝ }
     ensures { λ _. ⌜ now (state .exit) ≡ laterLine (now (word .entry)) (now (values .entry)) (now (state .entry)) .state ⌝ }
     ensures { λ _. ⌜ now (out .exit) ≡ put 0 (laterLine (now (word .entry)) (now (values .entry)) (now (state .entry)) .text) (now (out .entry)) ⌝ }
@@ -133,7 +138,7 @@ pub fn word_line(
     begun: bool,
     out: &mut [u8],
 ) -> Answered
-    requires { ⌜ (length (now values) ≤ 101) × (64 ≤ length (now out)) ⌝ }
+    requires { ⌜ (length (now values) ≤ valuesMost) × (answerMost ≤ length (now out)) ⌝ }
     ensures { λ r. ⌜ r .begun ≡ wordLine (now (word .entry)) (now (values .entry)) begun (now (state .entry)) .begun ⌝ }
     ensures { λ r. ⌜ r .size ≡ length (wordLine (now (word .entry)) (now (values .entry)) begun (now (state .entry)) .text) ⌝ }
     ensures { λ _. ⌜ now (state .exit) ≡ wordLine (now (word .entry)) (now (values .entry)) begun (now (state .entry)) .state ⌝ }

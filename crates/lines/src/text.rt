@@ -4,12 +4,12 @@ ghost use Prim.Native.Nat.{_≤_};
 ghost use lib.ListN.{length};
 ghost use Rattle.numbers.specs.Numbers.{put};
 ghost use Rattle.monitor.specs.Ask.{answerIn, fewestIn};
-ghost use Rattle.lines.specs.Text.{withOne, withTwo, numberText, answerText, fewestText};
+ghost use Rattle.lines.specs.Text.{answerMost, withOne, withTwo, numberText, answerText, fewestText};
 use fields::text;
 
 // The line of a word and a number at the front of the output; answers how many bytes it has.
 fn put_one(out: &mut [u8], word: &[u8], a: u64) -> usize
-    requires { ⌜ (length (now word) ≤ 8) × (64 ≤ length (now out)) ⌝ }
+    requires { ⌜ (length (now word) ≤ 8) × (answerMost ≤ length (now out)) ⌝ }
     ensures { λ r. ⌜ r ≡ length (withOne (now (word .entry)) a) ⌝ }
     ensures { λ _. ⌜ now (out .exit) ≡ put 0 (withOne (now (word .entry)) a) (now (out .entry)) ⌝ }
 {
@@ -20,7 +20,7 @@ fn put_one(out: &mut [u8], word: &[u8], a: u64) -> usize
 
 // The line of a word and two numbers at the front of the output.
 pub fn put_two(out: &mut [u8], word: &[u8], a: u64, b: u64) -> usize
-    requires { ⌜ (length (now word) ≤ 8) × (64 ≤ length (now out)) ⌝ }
+    requires { ⌜ (length (now word) ≤ 8) × (answerMost ≤ length (now out)) ⌝ }
     ensures { λ r. ⌜ r ≡ length (withTwo (now (word .entry)) a b) ⌝ }
     ensures { λ _. ⌜ now (out .exit) ≡ put 0 (withTwo (now (word .entry)) a b) (now (out .entry)) ⌝ }
 {
@@ -33,7 +33,7 @@ pub fn put_two(out: &mut [u8], word: &[u8], a: u64, b: u64) -> usize
 
 // The line for the number of a call: `ok`, or `refused` and the number.
 pub fn put_number(out: &mut [u8], number: u32) -> usize
-    requires { ⌜ 64 ≤ length (now out) ⌝ }
+    requires { ⌜ answerMost ≤ length (now out) ⌝ }
     ensures { λ r. ⌜ r ≡ length (numberText number) ⌝ }
     ensures { λ _. ⌜ now (out .exit) ≡ put 0 (numberText number) (now (out .entry)) ⌝ }
 {
@@ -45,7 +45,7 @@ pub fn put_number(out: &mut [u8], number: u32) -> usize
 
 // The line for the 24 bytes that asking gives: `contradicted`, `open`, or `between` and both ends.
 pub fn put_answer(out: &mut [u8], answer: &[u8]) -> usize
-    requires { ⌜ (24 ≤ length (now answer)) × (64 ≤ length (now out)) ⌝ }
+    requires { ⌜ (24 ≤ length (now answer)) × (answerMost ≤ length (now out)) ⌝ }
     ensures { λ r. ⌜ r ≡ length (answerText (answerIn (now (answer .entry)))) ⌝ }
     ensures { λ _. ⌜ now (out .exit) ≡ put 0 (answerText (answerIn (now (answer .entry)))) (now (out .entry)) ⌝ }
 {
@@ -63,7 +63,7 @@ pub fn put_answer(out: &mut [u8], answer: &[u8]) -> usize
 
 // The line for the 16 bytes that the fewest failures give: `fewest over 4`, or `fewest` with count and mask.
 pub fn put_fewest(out: &mut [u8], answer: &[u8]) -> usize
-    requires { ⌜ (16 ≤ length (now answer)) × (64 ≤ length (now out)) ⌝ }
+    requires { ⌜ (16 ≤ length (now answer)) × (answerMost ≤ length (now out)) ⌝ }
     ensures { λ r. ⌜ r ≡ length (fewestText (fewestIn (now (answer .entry)))) ⌝ }
     ensures { λ _. ⌜ now (out .exit) ≡ put 0 (fewestText (fewestIn (now (answer .entry)))) (now (out .entry)) ⌝ }
 {

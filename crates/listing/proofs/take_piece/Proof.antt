@@ -6,6 +6,7 @@ use mathlib.Core.Path.{_≡_, refl, sym, _∙_}
 use native.Mathlib.Omega.{arith}
 use lib.ListN.{length, take, drop, length-drop}
 use lib.Seq.{length-take-le}
+use Rattle.lines.specs.Lines.{lineMost}
 use Rattle.lines.specs.Listing.{desk, deskAfter}
 use Rattle.lines.proofs.StreamLaws.{feed-rest, feed-done}
 use borrow.Author.Needs.{needs}
@@ -14,7 +15,7 @@ use Rattle.listing.proofs.take_piece.Tie as tie
 
 abbrev Inv-loop : tie.InvT-loop
 Inv-loop piece line₀ state₀ out₀ begun₀ size₀ at₀ line state out begun size at =
-    ((at ≤ length piece) × (size ≤ 201))
+    ((at ≤ length piece) × (size ≤ lineMost + 1))
     × ((length line ≡ length line₀) × (length state ≡ length state₀) × (length out ≡ length out₀))
     × (deskAfter (desk begun state (take size line)) (drop at piece) ≡ deskAfter (desk begun₀ state₀ (take size₀ line₀)) piece)
 
@@ -55,7 +56,7 @@ loop-again c =
 returns : tie.Need-returns Inv-loop μ-loop
 returns c =
     let head = c .before .loop in
-    (head .inv .0 .1, sym (feed-done _ (c .before .before .before .before .before .before .args .piece .now) (head .at) (c .loop-test .left)) ∙ head .inv .2)
+    ((head .inv .0 .1, refl), sym (feed-done _ (c .before .before .before .before .before .before .args .piece .now) (head .at) (c .loop-test .left)) ∙ head .inv .2)
 
 pub take-piece-spec : {M : Type 1} → statement M
 take-piece-spec =

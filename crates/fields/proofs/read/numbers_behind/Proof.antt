@@ -13,14 +13,14 @@ use Rattle.fields.proofs.read.numbers_behind.Tie as tie
 returns : tie.Need-returns
 unfolding put
 returns c =
-    let none = later-none (c .before .before .before .args .line .now) (sym (c .before .before .before .pre .0 .0) ∙ c .if1 .taken) in
-    (rw none, λ t. (omega arith, rw none))
+    let none = later-none (c .before .before .before .args .line .now) (sym (c .before .before .before .pre .0) ∙ c .if1 .taken) in
+    ((rw none, rw none, omega arith), λ t. rw none)
 
 returns-2 : tie.Need-returns-2
 returns-2 c =
     let a = c .before .before .before .before .before .before .before in
     let line = a .args .line .now in
-    let e : a .args .end ≡ spaceAt line = a .pre .0 .0 in
+    let e : a .args .end ≡ spaceAt line = a .pre .0 in
     let some = rw (← e) at (later-some line (λ (f : spaceAt line ≡ length line). c .before .before .before .before .if1 .left (omega arith))) in
     (rw some (c .before .before .numbers-from .ensures .0), rw some (c .before .before .numbers-from .ensures .1))
 

@@ -34,7 +34,7 @@ returns c =
     let l = c .before .before .before .before .before .before .before .before .args .line .now in
     let bad = sym (c .before .before .number .ensures .0) ∙ not-true _ (c .if1 .taken) in
     let none = sym (head .inv .3) ∙ numbers-bad l (head .at) (c .before .before .before .before .field-end .result) (head .n) (head .values) (head .inv .0) (c .before .before .before .before .field-end .ensures .0) bad in
-    (rw none, λ t. absurd (rw none at t))
+    ((sym none, rw none, omega arith), λ t. absurd (rw none at t))
 
 returns-2 : tie.Need-returns-2 Inv-loop μ-loop
 returns-2 c =
@@ -44,7 +44,7 @@ returns-2 c =
     let last = numbers-last l (head .at) (c .before .before .before .before .before .field-end .result) (head .n) (head .values) (head .inv .0) (c .before .before .before .before .before .field-end .ensures .0) good (c .if2 .taken) in
     let all-good = sym (head .inv .3) ∙ last .0 in
     let stored = rw good at (c .before .before .before .number .ensures .1) in
-    (rw all-good (omega arith), λ t. (omega arith, rw stored (sym (last .2) ∙ head .inv .5)))
+    ((sym all-good, rw all-good (omega arith), omega arith), λ t. rw stored (sym (last .2) ∙ head .inv .5))
 
 loop-less : tie.Need-loop-less Inv-loop μ-loop
 loop-less c =

@@ -6,6 +6,7 @@ use native.Mathlib.Omega.{arith}
 use lib.ListN.{length, take, length-take}
 use lib.Seq.{length-take-le}
 use Rattle.numbers.proofs.NumberLaws.{take-put}
+use Rattle.lines.specs.Text.{answerMost}
 use Rattle.lines.specs.Lines.{lineOutcome}
 use Rattle.lines.specs.Listing.{outcome}
 use Rattle.lines.proofs.OutcomeLaws.{line-short}
@@ -13,10 +14,10 @@ use borrow.Author.Needs.{needs}
 use Rattle.lines.proofs.stream.end_line.Statement.{statement}
 use Rattle.lines.proofs.stream.end_line.Tie as tie
 
-short : (c : tie.After-answer2) → c .answer2 .result .size ≤ 64
+short : (c : tie.After-answer2) → c .answer2 .result .size ≤ answerMost
 short c = rw (c .answer2 .ensures .1 .0) (line-short _ _ _)
 
-kept : (c : tie.After-answer2) → length (c .answer2 .last .1 .1 .1 .0) ≡ 64
+kept : (c : tie.After-answer2) → length (c .answer2 .last .1 .1 .1 .0) ≡ answerMost
 kept c = c .answer2 .kept .1 .1 .1 .0
 
 text : (c : tie.After-answer2) → let a = c .before .before .before .before .before .before .args in

@@ -6,6 +6,8 @@ use mathlib.Core.Path.{_≡_, refl}
 use native.Mathlib.Omega.{arith}
 use lib.ListN.{length, take}
 use Rattle.numbers.specs.Numbers.{put}
+use Rattle.lines.specs.Text.{answerMost}
+use Rattle.lines.specs.Lines.{lineMost}
 use Rattle.lines.specs.Listing.{desk, deskAfter, textAfter}
 use Rattle.lines.proofs.StreamLaws.{feed-next}
 use borrow.Author.Needs.{needs}
@@ -14,7 +16,7 @@ use Rattle.lines.proofs.stream.feed.Tie as tie
 
 abbrev Inv-loop : tie.InvT-loop
 Inv-loop piece line₀ state₀ out₀ place₀ i₀ line state out place i =
-    ((i ≤ length piece) × (place .size ≤ 201) × (place .filled + 64 ≤ length out))
+    ((i ≤ length piece) × (place .size ≤ lineMost + 1) × (place .filled + answerMost ≤ length out))
     × ((length line ≡ length line₀) × (length state ≡ length state₀) × (length out ≡ length out₀))
     × (desk (place .begun) state (take (place .size) line) ≡ deskAfter (desk (place₀ .begun) state₀ (take (place₀ .size) line₀)) (take i piece))
     × (place .filled ≡ place₀ .filled + length (textAfter (desk (place₀ .begun) state₀ (take (place₀ .size) line₀)) (take i piece)))

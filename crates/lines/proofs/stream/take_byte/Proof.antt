@@ -28,7 +28,7 @@ unfolding deskNext textNext put
 returns-2 c =
     let a = c .before .before .before .before .before .args in
     let other = ne-eqb _ _ (c .before .if1 .left) in
-    let line = kept-byte (a .line .now) (a .place .size) (a .b) (c .if2 .taken) (omega arith) in
+    let line = kept-byte (a .line .now) (a .place .size) (a .b) (omega arith) (omega arith) in
     ((omega arith, omega arith), (rw (other, line), (rw other (omega arith), rw other)))
 
 returns-3 : tie.Need-returns-3
