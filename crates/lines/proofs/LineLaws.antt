@@ -15,8 +15,8 @@ use Rattle.numbers.specs.Numbers.{put, bytesOf}
 use Rattle.numbers.proofs.NumberLaws.{length-bytesOf, take-put}
 use Rattle.fields.specs.Fields.{fields, later, spaceAt, value, isNumber, isWord, sameBytes}
 use Rattle.fields.proofs.FieldLaws.{first-field}
-use Rattle.lines.specs.Lines.{lineMost, Outcome, badLine, ageLine, getLine, askLine, fewestLine, laterLine, wordLine, fieldsLine, lineOutcome}
-use Rattle.lines.specs.Lines.{ageWord, getWord, askWord, fewestWord}
+use Rattle.lines.specs.Lines.{lineMost, LineResult, badLine, ageLine, getLine, askLine, fewestLine, laterLine, wordLine, fieldsLine, lineResult}
+use Rattle.lines.specs.Lines.{ageCommand, getCommand, askCommand, fewestCommand}
 
 -- ---- the message of a `get` line
 
@@ -35,30 +35,30 @@ message-at-front ns m₀ m h e =
 
 pub ask-state : (ns s : List ℕ) → askLine ns s .state ≡ s
 unfolding askLine badLine
-ask-state ns s = cond-ind (λ (o : Outcome). o .state ≡ s) (eqb (length ns) 1) _ _ (λ _. refl) (λ _. refl)
+ask-state ns s = cond-ind (λ (r : LineResult). r .state ≡ s) (eqb (length ns) 1) _ _ (λ _. refl) (λ _. refl)
 
 pub fewest-state : (ns s : List ℕ) → fewestLine ns s .state ≡ s
 unfolding fewestLine badLine
-fewest-state ns s = cond-ind (λ (o : Outcome). o .state ≡ s) (eqb (length ns) 0) _ _ (λ _. refl) (λ _. refl)
+fewest-state ns s = cond-ind (λ (r : LineResult). r .state ≡ s) (eqb (length ns) 0) _ _ (λ _. refl) (λ _. refl)
 
 -- after a taken `set` every line leaves it taken
 pub later-begun : (word ns s : List ℕ) → laterLine word ns s .begun ≡ true
 unfolding laterLine ageLine getLine askLine fewestLine badLine
 later-begun word ns s =
-    let P : Outcome → Type 0 = (λ o. o .begun ≡ true) in
-    cond-ind P (sameBytes word ageWord) _ _ (λ _. cond-ind P (eqb (length ns) 1) _ _ (λ _. refl) (λ _. refl))
-    (λ _. cond-ind P (sameBytes word getWord) _ _ (λ _. cond-ind P (leb 2 (length ns) && all isWord (drop 2 ns)) _ _ (λ _. refl) (λ _. refl))
-    (λ _. cond-ind P (sameBytes word askWord) _ _ (λ _. cond-ind P (eqb (length ns) 1) _ _ (λ _. refl) (λ _. refl))
-    (λ _. cond-ind P (sameBytes word fewestWord) _ _ (λ _. cond-ind P (eqb (length ns) 0) _ _ (λ _. refl) (λ _. refl)) (λ _. refl))))
+    let P : LineResult → Type 0 = (λ r. r .begun ≡ true) in
+    cond-ind P (sameBytes word ageCommand) _ _ (λ _. cond-ind P (eqb (length ns) 1) _ _ (λ _. refl) (λ _. refl))
+    (λ _. cond-ind P (sameBytes word getCommand) _ _ (λ _. cond-ind P (leb 2 (length ns) && all isWord (drop 2 ns)) _ _ (λ _. refl) (λ _. refl))
+    (λ _. cond-ind P (sameBytes word askCommand) _ _ (λ _. cond-ind P (eqb (length ns) 1) _ _ (λ _. refl) (λ _. refl))
+    (λ _. cond-ind P (sameBytes word fewestCommand) _ _ (λ _. cond-ind P (eqb (length ns) 0) _ _ (λ _. refl) (λ _. refl)) (λ _. refl))))
 
 -- ---- a line: its length, and its fields
 
-pub line-long : (line s : List ℕ) (begun : Bool) → lineMost < length line → lineOutcome line begun s ≡ badLine begun s
-unfolding lineOutcome
+pub line-long : (line s : List ℕ) (begun : Bool) → lineMost < length line → lineResult line begun s ≡ badLine begun s
+unfolding lineResult
 line-long line s begun h = rw (lt-ltb _ _ h)
 
 pub line-fields : (line s : List ℕ) (begun : Bool) → length line ≤ lineMost →
-    lineOutcome line begun s
+    lineResult line begun s
     ≡ cond (all isNumber (later (fields line))) (wordLine (take (spaceAt line) line) (map value (later (fields line))) begun s) (badLine begun s)
-unfolding lineOutcome fieldsLine
+unfolding lineResult fieldsLine
 line-fields line s begun h = rw (le-ltb _ _ h) (ap (λ fs. fieldsLine fs begun s) (first-field line))

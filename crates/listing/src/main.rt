@@ -7,7 +7,7 @@ ghost use Prim.Native.Nat.{_+_, _≤_};
 ghost use lib.ListN.{length, take};
 ghost use Rattle.lines.specs.Text.{answerMost};
 ghost use Rattle.lines.specs.Lines.{lineMost};
-ghost use Rattle.lines.specs.Listing.{Desk, desk, deskAfter};
+ghost use Rattle.lines.specs.Listing.{Kept, kept, keptAfter};
 use lines::ANSWER_MOST;
 use lines::LINE_MOST;
 use lines::stream::Place;
@@ -32,9 +32,9 @@ fn take_piece(
 ) -> Progress
     requires { ⌜ (from .size ≤ lineMost + 1) × (lineMost + 1 ≤ length (now line)) × (answerMost ≤ length (now out)) ⌝ }
     ensures { λ r. ⌜ (r .size ≤ lineMost + 1) × (r .ended ≡ false) ⌝ }
-    ensures { λ r. ⌜ (let old : Desk = desk (from .begun) (now (state .entry)) (take (from .size) (now (line .entry))) in
-        let new : Desk = desk (r .begun) (now (state .exit)) (take (r .size) (now (line .exit))) in
-        new ≡ deskAfter old (now (piece .entry))) ⌝ }
+    ensures { λ r. ⌜ (let old : Kept = kept (from .begun) (now (state .entry)) (take (from .size) (now (line .entry))) in
+        let new : Kept = kept (r .begun) (now (state .exit)) (take (r .size) (now (line .exit))) in
+        new ≡ keptAfter old (now (piece .entry))) ⌝ }
 {
     let mut begun = from.begun;
     let mut size = from.size;

@@ -34,9 +34,9 @@ returns-2 c =
     let at-length = at-numbers .before .before .before in
     let a = at-length .before .before .before .before .args in
     let bad = sym (at-numbers .numbers-behind .ensures .0 .0) ∙ not-true _ (c .before .before .before .before .before .if2 .taken) in
-    let outcome = line-fields (a .line .now) (a .state .now) (a .begun) (at-length .if1 .left) in
+    let result = line-fields (a .line .now) (a .state .now) (a .begun) (at-length .if1 .left) in
     let printed = c .before .before .put-text2 .ensures in
-    (rw (outcome, bad), (rw (outcome, bad) (printed .0), (rw (outcome, bad), rw (outcome, bad) (printed .1))))
+    (rw (result, bad), (rw (result, bad) (printed .0), (rw (result, bad), rw (result, bad) (printed .1))))
 
 -- behind the second test every field behind the first is a number
 good : (c : tie.Else2) → let at-length = c .before .before .before .before .before .before in
@@ -85,9 +85,9 @@ returns-3 c =
     let at-else = c .before .before .before .before .before .before .before .before .before in
     let at-length = at-else .before .before .before .before .before .before in
     let a = at-length .before .before .before .before .args in
-    let outcome = line-fields (a .line .now) (a .state .now) (a .begun) (at-length .if1 .left) in
+    let result = line-fields (a .line .now) (a .state .now) (a .begun) (at-length .if1 .left) in
     let told = rw (numbers at-else, word at-else) at (c .before .before .before .before .word-line .ensures) in
-    rw (outcome, good at-else) told
+    rw (result, good at-else) told
 
 pub answer-spec : {M : Type 1} → statement M
 answer-spec =

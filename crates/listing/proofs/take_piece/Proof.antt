@@ -1,4 +1,4 @@
--- `listing::take_piece` meets its contract: portion after portion. Invariant: what is left of the piece leads from the desk at hand to where the whole
+-- `listing::take_piece` meets its contract: portion after portion. Invariant: what is left of the piece leads from what is kept to where the whole
 -- piece leads. Measure: the bytes still to take; each portion takes one at least. The mathematics is `feed-rest` and `feed-done` of `lines`.
 -- Assumes nothing beyond the contracts of C that `io` cites.
 use Prim.Native.Nat.{_+_, _-_, _≤_, _<_}
@@ -7,7 +7,7 @@ use native.Mathlib.Omega.{arith}
 use lib.ListN.{length, take, drop, length-drop}
 use lib.Seq.{length-take-le}
 use Rattle.lines.specs.Lines.{lineMost}
-use Rattle.lines.specs.Listing.{desk, deskAfter}
+use Rattle.lines.specs.Listing.{kept, keptAfter}
 use Rattle.lines.proofs.StreamLaws.{feed-rest, feed-done}
 use borrow.Author.Needs.{needs}
 use Rattle.listing.proofs.take_piece.Statement.{statement}
@@ -17,7 +17,7 @@ abbrev Inv-loop : tie.InvT-loop
 Inv-loop piece line₀ state₀ out₀ begun₀ size₀ at₀ line state out begun size at =
     ((at ≤ length piece) × (size ≤ lineMost + 1))
     × ((length line ≡ length line₀) × (length state ≡ length state₀) × (length out ≡ length out₀))
-    × (deskAfter (desk begun state (take size line)) (drop at piece) ≡ deskAfter (desk begun₀ state₀ (take size₀ line₀)) piece)
+    × (keptAfter (kept begun state (take size line)) (drop at piece) ≡ keptAfter (kept begun₀ state₀ (take size₀ line₀)) piece)
 
 abbrev μ-loop : tie.MeasureT-loop
 μ-loop piece line₀ state₀ out₀ begun₀ size₀ at₀ line state out begun size at = length piece - at

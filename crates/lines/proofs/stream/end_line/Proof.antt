@@ -1,5 +1,5 @@
 -- `lines::stream::end_line` meets its contract: the answer stands at the front of an array and goes behind the output that waits. It fits, since no
--- answer is longer than 64 bytes (`line-short` of `proofs.OutcomeLaws`). Assumes nothing.
+-- answer is longer than 64 bytes (`line-short` of `proofs.ResultLaws`). Assumes nothing.
 use Prim.Native.Nat.{_≤_}
 use mathlib.Core.Path.{_≡_, refl, sym}
 use native.Mathlib.Omega.{arith}
@@ -7,9 +7,9 @@ use lib.ListN.{length, take, length-take}
 use lib.Seq.{length-take-le}
 use Rattle.numbers.proofs.NumberLaws.{take-put}
 use Rattle.lines.specs.Text.{answerMost}
-use Rattle.lines.specs.Lines.{lineOutcome}
-use Rattle.lines.specs.Listing.{outcome}
-use Rattle.lines.proofs.OutcomeLaws.{line-short}
+use Rattle.lines.specs.Lines.{lineResult}
+use Rattle.lines.specs.Listing.{resultOf}
+use Rattle.lines.proofs.ResultLaws.{line-short}
 use borrow.Author.Needs.{needs}
 use Rattle.lines.proofs.stream.end_line.Statement.{statement}
 use Rattle.lines.proofs.stream.end_line.Tie as tie
@@ -17,26 +17,26 @@ use Rattle.lines.proofs.stream.end_line.Tie as tie
 short : (c : tie.After-answer2) → c .answer2 .result .size ≤ answerMost
 short c = rw (c .answer2 .ensures .1 .0) (line-short _ _ _)
 
-kept : (c : tie.After-answer2) → length (c .answer2 .last .1 .1 .1 .0) ≡ answerMost
-kept c = c .answer2 .kept .1 .1 .1 .0
+whole : (c : tie.After-answer2) → length (c .answer2 .last .1 .1 .1 .0) ≡ answerMost
+whole c = c .answer2 .kept .1 .1 .1 .0
 
 text : (c : tie.After-answer2) → let a = c .before .before .before .before .before .before .args in
-    take (c .answer2 .result .size) (c .answer2 .last .1 .1 .1 .0) ≡ lineOutcome (a .line .now) (a .begun) (a .state .now) .text
+    take (c .answer2 .result .size) (c .answer2 .last .1 .1 .1 .0) ≡ lineResult (a .line .now) (a .begun) (a .state .now) .text
 text c = rw (c .answer2 .ensures .1 .1 .1) (take-put _ _ _ (sym (c .answer2 .ensures .1 .0)) (short c))
 
 array-share-prefix-answer : tie.Need-array-share-prefix-answer
-array-share-prefix-answer c = omega (arith, short (c .before .before .before .before), kept (c .before .before .before .before))
+array-share-prefix-answer c = omega (arith, short (c .before .before .before .before), whole (c .before .before .before .before))
 
 slice-aggregate-put-text : tie.Need-slice-aggregate-put-text
 slice-aggregate-put-text c =
-    sym (length-take-le _ _ (omega (arith, short (c .before .before .before .before .before), kept (c .before .before .before .before .before))))
+    sym (length-take-le _ _ (omega (arith, short (c .before .before .before .before .before), whole (c .before .before .before .before .before))))
 
 put-text-requires : tie.Need-put-text-requires
 put-text-requires c κs =
     omega (arith, short (c .before .before .before .before .before), length-take (c .before .before .before .before .before .answer2 .result .size) (c .before .before .before .before .before .answer2 .last .1 .1 .1 .0))
 
 returns : tie.Need-returns
-unfolding outcome
+unfolding resultOf
 returns c =
     let at-answer = c .before .before .before .before .before .before .before .before in
     let call = at-answer .answer2 .ensures in

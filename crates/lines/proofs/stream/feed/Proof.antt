@@ -1,5 +1,5 @@
 -- `lines::stream::feed` meets its contract: byte after byte, until the piece ends or an answer might not fit.
--- Invariant: the desk, the count and the output are those behind the first i bytes, and an answer fits. Measure: the bytes still to take.
+-- Invariant: what is kept, the count and the output are those behind the first i bytes, and an answer fits. Measure: the bytes still to take.
 -- The mathematics is `feed-next` of `proofs.StreamLaws`. Assumes nothing.
 use Prim.Native.Nat.{_+_, _-_, _≤_}
 use mathlib.Core.Path.{_≡_, refl}
@@ -8,7 +8,7 @@ use lib.ListN.{length, take}
 use Rattle.numbers.specs.Numbers.{put}
 use Rattle.lines.specs.Text.{answerMost}
 use Rattle.lines.specs.Lines.{lineMost}
-use Rattle.lines.specs.Listing.{desk, deskAfter, textAfter}
+use Rattle.lines.specs.Listing.{kept, keptAfter, textAfter}
 use Rattle.lines.proofs.StreamLaws.{feed-next}
 use borrow.Author.Needs.{needs}
 use Rattle.lines.proofs.stream.feed.Statement.{statement}
@@ -18,15 +18,15 @@ abbrev Inv-loop : tie.InvT-loop
 Inv-loop piece line₀ state₀ out₀ place₀ i₀ line state out place i =
     ((i ≤ length piece) × (place .size ≤ lineMost + 1) × (place .filled + answerMost ≤ length out))
     × ((length line ≡ length line₀) × (length state ≡ length state₀) × (length out ≡ length out₀))
-    × (desk (place .begun) state (take (place .size) line) ≡ deskAfter (desk (place₀ .begun) state₀ (take (place₀ .size) line₀)) (take i piece))
-    × (place .filled ≡ place₀ .filled + length (textAfter (desk (place₀ .begun) state₀ (take (place₀ .size) line₀)) (take i piece)))
-    × (out ≡ put (place₀ .filled) (textAfter (desk (place₀ .begun) state₀ (take (place₀ .size) line₀)) (take i piece)) out₀)
+    × (kept (place .begun) state (take (place .size) line) ≡ keptAfter (kept (place₀ .begun) state₀ (take (place₀ .size) line₀)) (take i piece))
+    × (place .filled ≡ place₀ .filled + length (textAfter (kept (place₀ .begun) state₀ (take (place₀ .size) line₀)) (take i piece)))
+    × (out ≡ put (place₀ .filled) (textAfter (kept (place₀ .begun) state₀ (take (place₀ .size) line₀)) (take i piece)) out₀)
 
 abbrev μ-loop : tie.MeasureT-loop
 μ-loop piece line₀ state₀ out₀ place₀ i₀ line state out place i = length piece - i
 
 loop-holds : tie.Need-loop-holds Inv-loop μ-loop
-unfolding deskAfter textAfter put
+unfolding keptAfter textAfter put
 loop-holds c = ((omega arith, omega arith, omega arith), (refl, refl, refl), refl, omega arith, refl)
 
 returns : tie.Need-returns Inv-loop μ-loop
@@ -35,7 +35,7 @@ returns c =
     let head = c .before .before .before .before .before .before .before .before .before .before .before .before .before .before .loop in
     let a = c .before .before .before .before .before .before .before .before .before .before .before .before .before .before .before .before .before .before .before .args in
     let turn =
-    feed-next (desk (a .from .begun) (a .state .now) (take (a .from .size) (a .line .now))) _ _ (a .piece .now) (head .i) _ _ _ _ _ _
+    feed-next (kept (a .from .begun) (a .state .now) (take (a .from .size) (a .line .now))) _ _ (a .piece .now) (head .i) _ _ _ _ _ _
     (c .before .before .before .before .before .before .before .before .before .before .before .before .before .loop-test .taken) (head .inv .2) (head .inv .3) (head .inv .4) (call .1 .0) (call .1 .1 .0) (call .1 .1 .1) in
     ((call .0 .0, omega arith, omega arith, λ h. omega arith), (turn .0, (turn .1, turn .2)))
 
@@ -45,7 +45,7 @@ loop-again c =
     let head = c .before .before .before .before .before .before .before .before .before .before .before .before .before .before .loop in
     let a = c .before .before .before .before .before .before .before .before .before .before .before .before .before .before .before .before .before .before .before .args in
     let turn =
-    feed-next (desk (a .from .begun) (a .state .now) (take (a .from .size) (a .line .now))) _ _ (a .piece .now) (head .i) _ _ _ _ _ _
+    feed-next (kept (a .from .begun) (a .state .now) (take (a .from .size) (a .line .now))) _ _ (a .piece .now) (head .i) _ _ _ _ _ _
     (c .before .before .before .before .before .before .before .before .before .before .before .before .before .loop-test .taken) (head .inv .2) (head .inv .3) (head .inv .4) (call .1 .0) (call .1 .1 .0) (call .1 .1 .1) in
     ((omega arith, call .0 .0, omega arith), (search needs, search needs, search needs), turn .0, turn .1, turn .2)
 

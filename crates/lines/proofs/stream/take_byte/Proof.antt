@@ -5,7 +5,7 @@ use native.Mathlib.Omega.{arith}
 use borrow.Author.Tests.{eq-eqb, ne-eqb}
 use lib.Seq.{length-take-le}
 use Rattle.numbers.specs.Numbers.{put}
-use Rattle.lines.specs.Listing.{deskNext, textNext}
+use Rattle.lines.specs.Listing.{keptNext, textNext}
 use Rattle.lines.proofs.StreamLaws.{kept-byte, kept-full}
 use borrow.Author.Needs.{needs}
 use Rattle.lines.proofs.stream.take_byte.Statement.{statement}
@@ -15,7 +15,7 @@ slice-aggregate-end-line : tie.Need-slice-aggregate-end-line
 slice-aggregate-end-line c = sym (length-take-le _ _ (search needs))
 
 returns : tie.Need-returns
-unfolding deskNext textNext put
+unfolding keptNext textNext put
 returns c =
     let feed = eq-eqb _ _ (c .before .before .before .before .before .before .before .before .if1 .taken) in
     let call = c .before .before .before .before .end-line .ensures in (
@@ -24,7 +24,7 @@ returns c =
     )
 
 returns-2 : tie.Need-returns-2
-unfolding deskNext textNext put
+unfolding keptNext textNext put
 returns-2 c =
     let a = c .before .before .before .before .before .args in
     let other = ne-eqb _ _ (c .before .if1 .left) in
@@ -32,7 +32,7 @@ returns-2 c =
     ((omega arith, omega arith), (rw (other, line), (rw other (omega arith), rw other)))
 
 returns-3 : tie.Need-returns-3
-unfolding deskNext textNext put
+unfolding keptNext textNext put
 returns-3 c =
     let a = c .before .before .before .before .before .args in
     let other = ne-eqb _ _ (c .before .if1 .left) in
