@@ -86,7 +86,8 @@ pub struct Numbers {
 fn numbers_from(line: &[u8], from: usize, values: &mut [u64]) -> Numbers
     requires { ⌜ (from ≤ length (now line)) × (length (now line) < 2 * length (now values)) ⌝ }
     ensures { λ r. ⌜ (let read : List (List ℕ) = fields (drop from (now (line .entry))) in
-        (r .good ≡ all isNumber read) × (r .count ≡ cond (all isNumber read) (length read) 0) × (r .count ≤ length (now (values .entry)))) ⌝ }
+        (r .good ≡ all isNumber read) × (r .count ≡ cond (all isNumber read) (length read) 0)
+        × (r .count ≤ length (now (values .entry)))) ⌝ }
     ensures { λ _. ⌜ (let read : List (List ℕ) = fields (drop from (now (line .entry))) in
         T (all isNumber read) → now (values .exit) ≡ put 0 (map value read) (now (values .entry))) ⌝ }
 {
@@ -117,7 +118,8 @@ fn numbers_from(line: &[u8], from: usize, values: &mut [u64]) -> Numbers
 pub fn numbers_behind(line: &[u8], end: usize, values: &mut [u64]) -> Numbers
     requires { ⌜ (end ≡ spaceAt (now line)) × (end ≤ length (now line)) × (length (now line) < 2 * length (now values)) ⌝ }
     ensures { λ r. ⌜ (let read : List (List ℕ) = later (fields (now (line .entry))) in
-        (r .good ≡ all isNumber read) × (r .count ≡ cond (all isNumber read) (length read) 0) × (r .count ≤ length (now (values .entry)))) ⌝ }
+        (r .good ≡ all isNumber read) × (r .count ≡ cond (all isNumber read) (length read) 0)
+        × (r .count ≤ length (now (values .entry)))) ⌝ }
     ensures { λ _. ⌜ (let read : List (List ℕ) = later (fields (now (line .entry))) in
         T (all isNumber read) → now (values .exit) ≡ put 0 (map value read) (now (values .entry))) ⌝ }
 {

@@ -4,7 +4,7 @@ ghost use Prim.Native.Nat.{_≤_};
 ghost use lib.ListN.{length};
 ghost use Rattle.numbers.specs.Numbers.{put};
 ghost use Rattle.lines.specs.Text.{answerMost};
-ghost use Rattle.lines.specs.Lines.{valuesMost, setLine, ageLine, getLine, askLine, fewestLine, laterLine, wordLine};
+ghost use Rattle.lines.specs.Lines.{valuesMost, LineResult, setLine, ageLine, getLine, askLine, fewestLine, laterLine, wordLine};
 use crate::Answered;
 use crate::VALUES_MOST;
 use crate::text;
@@ -16,19 +16,18 @@ const MESSAGE_MOST: usize = (VALUES_MOST - 2) * 4;
 // `set` own drift reading.
 pub fn set_line(values: &[u64], state: &mut [u8], begun: bool, out: &mut [u8]) -> Answered
     requires { ⌜ answerMost ≤ length (now out) ⌝ }
-    ensures { λ r. ⌜ r .begun ≡ setLine (now (values .entry)) begun (now (state .entry)) .begun ⌝ }
-    ensures { λ r. ⌜ r .size ≡ length (setLine (now (values .entry)) begun (now (state .entry)) .text) ⌝ }
-    ensures { λ _. ⌜ now (state .exit) ≡ setLine (now (values .entry)) begun (now (state .entry)) .state ⌝ }
-    ensures { λ _. ⌜ now (out .exit) ≡ put 0 (setLine (now (values .entry)) begun (now (state .entry)) .text) (now (out .entry)) ⌝ }
+    ensures { λ r. ⌜ (let result : LineResult = setLine (now (values .entry)) begun (now (state .entry)) in
+        (r .begun ≡ result .begun) × (r .size ≡ length (result .text)) × (now (state .exit) ≡ result .state)
+        × (now (out .exit) ≡ put 0 (result .text) (now (out .entry)))) ⌝ }
 {
     if values.len() != 3 {
-        let size = fields::text::put_text(out, 0, b"bad line\n");
+        let size = text::put_bad(out);
         return Answered { begun, size };
     }
     let own = values[0];
     let drift = values[1];
     if !((own < 4_294_967_296) & (drift < 4_294_967_296)) {
-        let size = fields::text::put_text(out, 0, b"bad line\n");
+        let size = text::put_bad(out);
         return Answered { begun, size };
     }
     let number = monitor::calls::monitor_set_up(state, own as u32, drift as u32, values[2]);
@@ -42,12 +41,11 @@ pub fn set_line(values: &[u64], state: &mut [u8], begun: bool, out: &mut [u8]) -
 // `age` reading.
 fn age_line(values: &[u64], state: &mut [u8], out: &mut [u8]) -> usize
     requires { ⌜ answerMost ≤ length (now out) ⌝ }
-    ensures { λ r. ⌜ r ≡ length (ageLine (now (values .entry)) (now (state .entry)) .text) ⌝ }
-    ensures { λ _. ⌜ now (state .exit) ≡ ageLine (now (values .entry)) (now (state .entry)) .state ⌝ }
-    ensures { λ _. ⌜ now (out .exit) ≡ put 0 (ageLine (now (values .entry)) (now (state .entry)) .text) (now (out .entry)) ⌝ }
+    ensures { λ r. ⌜ (let result : LineResult = ageLine (now (values .entry)) (now (state .entry)) in
+        (r ≡ length (result .text)) × (now (state .exit) ≡ result .state) × (now (out .exit) ≡ put 0 (result .text) (now (out .entry)))) ⌝ }
 {
     if values.len() != 1 {
-        return fields::text::put_text(out, 0, b"bad line\n");
+        return text::put_bad(out);
     }
     let number = monitor::calls::monitor_age(state, values[0]);
     text::put_number(out, number)
@@ -56,16 +54,15 @@ fn age_line(values: &[u64], state: &mut [u8], out: &mut [u8]) -> usize
 // `get` least greatest words: the words as bytes are the message.
 fn get_line(values: &[u64], state: &mut [u8], out: &mut [u8]) -> usize
     requires { ⌜ (length (now values) ≤ valuesMost) × (answerMost ≤ length (now out)) ⌝ }
-    ensures { λ r. ⌜ r ≡ length (getLine (now (values .entry)) (now (state .entry)) .text) ⌝ }
-    ensures { λ _. ⌜ now (state .exit) ≡ getLine (now (values .entry)) (now (state .entry)) .state ⌝ }
-    ensures { λ _. ⌜ now (out .exit) ≡ put 0 (getLine (now (values .entry)) (now (state .entry)) .text) (now (out .entry)) ⌝ }
+    ensures { λ r. ⌜ (let result : LineResult = getLine (now (values .entry)) (now (state .entry)) in
+        (r ≡ length (result .text)) × (now (state .exit) ≡ result .state) × (now (out .exit) ≡ put 0 (result .text) (now (out .entry)))) ⌝ }
 {
     if values.len() < 2 {
-        return fields::text::put_text(out, 0, b"bad line\n");
+        return text::put_bad(out);
     }
     let fits = read::words_fit(&values[2..]);
     if !fits {
-        return fields::text::put_text(out, 0, b"bad line\n");
+        return text::put_bad(out);
     }
     let mut message = [0u8; MESSAGE_MOST];
     read::message_bytes(&values[2..], &mut message);
@@ -77,11 +74,11 @@ fn get_line(values: &[u64], state: &mut [u8], out: &mut [u8]) -> usize
 // `ask` limit.
 fn ask_line(values: &[u64], state: &[u8], out: &mut [u8]) -> usize
     requires { ⌜ answerMost ≤ length (now out) ⌝ }
-    ensures { λ r. ⌜ r ≡ length (askLine (now (values .entry)) (now (state .entry)) .text) ⌝ }
-    ensures { λ _. ⌜ now (out .exit) ≡ put 0 (askLine (now (values .entry)) (now (state .entry)) .text) (now (out .entry)) ⌝ }
+    ensures { λ r. ⌜ (let result : LineResult = askLine (now (values .entry)) (now (state .entry)) in
+        (r ≡ length (result .text)) × (now (out .exit) ≡ put 0 (result .text) (now (out .entry)))) ⌝ }
 {
     if values.len() != 1 {
-        return fields::text::put_text(out, 0, b"bad line\n");
+        return text::put_bad(out);
     }
     let mut answer = [0u8; 24];
     let number = monitor::questions::monitor_ask(state, values[0], &mut answer);
@@ -94,11 +91,11 @@ fn ask_line(values: &[u64], state: &[u8], out: &mut [u8]) -> usize
 // `fewest`.
 fn fewest_line(values: &[u64], state: &[u8], out: &mut [u8]) -> usize
     requires { ⌜ answerMost ≤ length (now out) ⌝ }
-    ensures { λ r. ⌜ r ≡ length (fewestLine (now (values .entry)) (now (state .entry)) .text) ⌝ }
-    ensures { λ _. ⌜ now (out .exit) ≡ put 0 (fewestLine (now (values .entry)) (now (state .entry)) .text) (now (out .entry)) ⌝ }
+    ensures { λ r. ⌜ (let result : LineResult = fewestLine (now (values .entry)) (now (state .entry)) in
+        (r ≡ length (result .text)) × (now (out .exit) ≡ put 0 (result .text) (now (out .entry)))) ⌝ }
 {
     if values.len() != 0 {
-        return fields::text::put_text(out, 0, b"bad line\n");
+        return text::put_bad(out);
     }
     let mut answer = [0u8; 16];
     let number = monitor::questions::monitor_fewest(state, &mut answer);
@@ -111,9 +108,8 @@ fn fewest_line(values: &[u64], state: &[u8], out: &mut [u8]) -> usize
 // A command that needs a taken `set` before it.
 pub fn later_line(word: &[u8], values: &[u64], state: &mut [u8], out: &mut [u8]) -> usize
     requires { ⌜ (length (now values) ≤ valuesMost) × (answerMost ≤ length (now out)) ⌝ }
-    ensures { λ r. ⌜ r ≡ length (laterLine (now (word .entry)) (now (values .entry)) (now (state .entry)) .text) ⌝ }
-    ensures { λ _. ⌜ now (state .exit) ≡ laterLine (now (word .entry)) (now (values .entry)) (now (state .entry)) .state ⌝ }
-    ensures { λ _. ⌜ now (out .exit) ≡ put 0 (laterLine (now (word .entry)) (now (values .entry)) (now (state .entry)) .text) (now (out .entry)) ⌝ }
+    ensures { λ r. ⌜ (let result : LineResult = laterLine (now (word .entry)) (now (values .entry)) (now (state .entry)) in
+        (r ≡ length (result .text)) × (now (state .exit) ≡ result .state) × (now (out .exit) ≡ put 0 (result .text) (now (out .entry)))) ⌝ }
 {
     if read::same(word, b"age") {
         return age_line(values, state, out);
@@ -127,7 +123,7 @@ pub fn later_line(word: &[u8], values: &[u64], state: &mut [u8], out: &mut [u8])
     if read::same(word, b"fewest") {
         return fewest_line(values, state, out);
     }
-    fields::text::put_text(out, 0, b"bad line\n")
+    text::put_bad(out)
 }
 
 // A command word with the numbers of its fields.
@@ -139,16 +135,15 @@ pub fn word_line(
     out: &mut [u8],
 ) -> Answered
     requires { ⌜ (length (now values) ≤ valuesMost) × (answerMost ≤ length (now out)) ⌝ }
-    ensures { λ r. ⌜ r .begun ≡ wordLine (now (word .entry)) (now (values .entry)) begun (now (state .entry)) .begun ⌝ }
-    ensures { λ r. ⌜ r .size ≡ length (wordLine (now (word .entry)) (now (values .entry)) begun (now (state .entry)) .text) ⌝ }
-    ensures { λ _. ⌜ now (state .exit) ≡ wordLine (now (word .entry)) (now (values .entry)) begun (now (state .entry)) .state ⌝ }
-    ensures { λ _. ⌜ now (out .exit) ≡ put 0 (wordLine (now (word .entry)) (now (values .entry)) begun (now (state .entry)) .text) (now (out .entry)) ⌝ }
+    ensures { λ r. ⌜ (let result : LineResult = wordLine (now (word .entry)) (now (values .entry)) begun (now (state .entry)) in
+        (r .begun ≡ result .begun) × (r .size ≡ length (result .text)) × (now (state .exit) ≡ result .state)
+        × (now (out .exit) ≡ put 0 (result .text) (now (out .entry)))) ⌝ }
 {
     if read::same(word, b"set") {
         return set_line(values, state, begun, out);
     }
     if !begun {
-        let size = fields::text::put_text(out, 0, b"bad line\n");
+        let size = text::put_bad(out);
         return Answered { begun, size };
     }
     let size = later_line(word, values, state, out);

@@ -5,7 +5,7 @@ ghost use Prim.Native.Nat.{_≤_};
 ghost use lib.ListN.{length};
 ghost use Rattle.numbers.specs.Numbers.{put};
 ghost use Rattle.lines.specs.Text.{answerMost};
-ghost use Rattle.lines.specs.Lines.{lineResult};
+ghost use Rattle.lines.specs.Lines.{LineResult, lineResult};
 
 pub mod commands;
 pub mod stream;
@@ -30,20 +30,19 @@ pub struct Answered {
 // was taken before, and the state is that of the last one.
 pub fn answer(line: &[u8], state: &mut [u8], begun: bool, out: &mut [u8]) -> Answered
     requires { ⌜ answerMost ≤ length (now out) ⌝ }
-    ensures { λ r. ⌜ r .begun ≡ lineResult (now (line .entry)) begun (now (state .entry)) .begun ⌝ }
-    ensures { λ r. ⌜ r .size ≡ length (lineResult (now (line .entry)) begun (now (state .entry)) .text) ⌝ }
-    ensures { λ _. ⌜ now (state .exit) ≡ lineResult (now (line .entry)) begun (now (state .entry)) .state ⌝ }
-    ensures { λ _. ⌜ now (out .exit) ≡ put 0 (lineResult (now (line .entry)) begun (now (state .entry)) .text) (now (out .entry)) ⌝ }
+    ensures { λ r. ⌜ (let result : LineResult = lineResult (now (line .entry)) begun (now (state .entry)) in
+        (r .begun ≡ result .begun) × (r .size ≡ length (result .text)) × (now (state .exit) ≡ result .state)
+        × (now (out .exit) ≡ put 0 (result .text) (now (out .entry)))) ⌝ }
 {
     if LINE_MOST < line.len() {
-        let size = fields::text::put_text(out, 0, b"bad line\n");
+        let size = text::put_bad(out);
         return Answered { begun, size };
     }
     let end = fields::read::field_end(line, 0);
     let mut values = [0u64; VALUES_MOST];
     let got = fields::read::numbers_behind(line, end, &mut values);
     if !got.good {
-        let size = fields::text::put_text(out, 0, b"bad line\n");
+        let size = text::put_bad(out);
         return Answered { begun, size };
     }
     let n = got.count;

@@ -1,11 +1,12 @@
 // The listing over a stream: bytes of input come in pieces, and what they print goes to an output that has room for an answer.
 ghost use mathlib.Core.Path.{_≡_};
-ghost use Prim.Native.Nat.{_+_, _≤_, _<_};
+ghost use mathlib.Core.List.{List};
+ghost use Prim.Native.Nat.{ℕ, _+_, _≤_, _<_};
 ghost use lib.ListN.{length, take};
 ghost use Rattle.numbers.specs.Numbers.{put};
 ghost use Rattle.lines.specs.Text.{answerMost};
-ghost use Rattle.lines.specs.Lines.{lineMost};
-ghost use Rattle.lines.specs.Listing.{kept, resultOf, keptNext, textNext, keptAfter, textAfter};
+ghost use Rattle.lines.specs.Lines.{lineMost, LineResult, lineResult};
+ghost use Rattle.lines.specs.Listing.{Kept, kept, keptNext, textNext, keptAfter, textAfter};
 use crate::ANSWER_MOST;
 use crate::LINE_MOST;
 
@@ -19,10 +20,9 @@ pub struct Place {
 // Ends a line: its answer goes behind the output that waits.
 pub fn end_line(line: &[u8], state: &mut [u8], begun: bool, out: &mut [u8], filled: usize) -> Place
     requires { ⌜ filled + answerMost ≤ length (now out) ⌝ }
-    ensures { λ r. ⌜ (r .begun ≡ resultOf (kept begun (now (state .entry)) (now (line .entry))) .begun) × (r .size ≡ 0) ⌝ }
-    ensures { λ r. ⌜ (r .filled ≡ filled + length (resultOf (kept begun (now (state .entry)) (now (line .entry))) .text)) × (r .filled ≤ filled + answerMost) ⌝ }
-    ensures { λ _. ⌜ now (state .exit) ≡ resultOf (kept begun (now (state .entry)) (now (line .entry))) .state ⌝ }
-    ensures { λ _. ⌜ now (out .exit) ≡ put filled (resultOf (kept begun (now (state .entry)) (now (line .entry))) .text) (now (out .entry)) ⌝ }
+    ensures { λ r. ⌜ (let result : LineResult = lineResult (now (line .entry)) begun (now (state .entry)) in
+        (r .begun ≡ result .begun) × (r .size ≡ 0) × (r .filled ≡ filled + length (result .text)) × (r .filled ≤ filled + answerMost)
+        × (now (state .exit) ≡ result .state) × (now (out .exit) ≡ put filled (result .text) (now (out .entry)))) ⌝ }
 {
     let mut answer = [0u8; ANSWER_MOST];
     let got = crate::answer(line, state, begun, &mut answer);
@@ -39,9 +39,10 @@ pub fn end_line(line: &[u8], state: &mut [u8], begun: bool, out: &mut [u8], fill
 fn take_byte(b: u8, line: &mut [u8], state: &mut [u8], out: &mut [u8], place: Place) -> Place
     requires { ⌜ (place .size ≤ lineMost + 1) × (lineMost + 1 ≤ length (now line)) × (place .filled + answerMost ≤ length (now out)) ⌝ }
     ensures { λ r. ⌜ (r .size ≤ lineMost + 1) × (r .filled ≤ place .filled + answerMost) ⌝ }
-    ensures { λ r. ⌜ kept (r .begun) (now (state .exit)) (take (r .size) (now (line .exit))) ≡ keptNext (kept (place .begun) (now (state .entry)) (take (place .size) (now (line .entry)))) b ⌝ }
-    ensures { λ r. ⌜ r .filled ≡ place .filled + length (textNext (kept (place .begun) (now (state .entry)) (take (place .size) (now (line .entry)))) b) ⌝ }
-    ensures { λ _. ⌜ now (out .exit) ≡ put (place .filled) (textNext (kept (place .begun) (now (state .entry)) (take (place .size) (now (line .entry)))) b) (now (out .entry)) ⌝ }
+    ensures { λ r. ⌜ (let old : Kept = kept (place .begun) (now (state .entry)) (take (place .size) (now (line .entry))) in
+        let new : Kept = kept (r .begun) (now (state .exit)) (take (r .size) (now (line .exit))) in
+        (new ≡ keptNext old b) × (r .filled ≡ place .filled + length (textNext old b))
+        × (now (out .exit) ≡ put (place .filled) (textNext old b) (now (out .entry)))) ⌝ }
 {
     let size = place.size;
     let filled = place.filled;
@@ -70,10 +71,13 @@ pub struct Fed {
 // Takes bytes of a piece of input as long as an answer fits behind the output that waits.
 pub fn feed(piece: &[u8], line: &mut [u8], state: &mut [u8], out: &mut [u8], from: Place) -> Fed
     requires { ⌜ (from .size ≤ lineMost + 1) × (lineMost + 1 ≤ length (now line)) × (from .filled + answerMost ≤ length (now out)) ⌝ }
-    ensures { λ r. ⌜ (r .size ≤ lineMost + 1) × (r .filled ≤ length (now (out .entry))) × (r .taken ≤ length (now (piece .entry))) × (0 < length (now (piece .entry)) → 0 < r .taken) ⌝ }
-    ensures { λ r. ⌜ kept (r .begun) (now (state .exit)) (take (r .size) (now (line .exit))) ≡ keptAfter (kept (from .begun) (now (state .entry)) (take (from .size) (now (line .entry)))) (take (r .taken) (now (piece .entry))) ⌝ }
-    ensures { λ r. ⌜ r .filled ≡ from .filled + length (textAfter (kept (from .begun) (now (state .entry)) (take (from .size) (now (line .entry)))) (take (r .taken) (now (piece .entry)))) ⌝ }
-    ensures { λ r. ⌜ now (out .exit) ≡ put (from .filled) (textAfter (kept (from .begun) (now (state .entry)) (take (from .size) (now (line .entry)))) (take (r .taken) (now (piece .entry)))) (now (out .entry)) ⌝ }
+    ensures { λ r. ⌜ (r .size ≤ lineMost + 1) × (r .filled ≤ length (now (out .entry))) × (r .taken ≤ length (now (piece .entry)))
+        × (0 < length (now (piece .entry)) → 0 < r .taken) ⌝ }
+    ensures { λ r. ⌜ (let old : Kept = kept (from .begun) (now (state .entry)) (take (from .size) (now (line .entry))) in
+        let new : Kept = kept (r .begun) (now (state .exit)) (take (r .size) (now (line .exit))) in
+        let taken : List ℕ = take (r .taken) (now (piece .entry)) in
+        (new ≡ keptAfter old taken) × (r .filled ≡ from .filled + length (textAfter old taken))
+        × (now (out .exit) ≡ put (from .filled) (textAfter old taken) (now (out .entry)))) ⌝ }
 {
     let mut place = from;
     let mut i: usize = 0;

@@ -4,7 +4,7 @@ ghost use Prim.Native.Nat.{_≤_};
 ghost use lib.ListN.{length};
 ghost use Rattle.numbers.specs.Numbers.{put};
 ghost use Rattle.monitor.specs.Ask.{answerIn, fewestIn};
-ghost use Rattle.lines.specs.Text.{answerMost, withOne, withTwo, numberText, answerText, fewestText};
+ghost use Rattle.lines.specs.Text.{answerMost, badText, withOne, withTwo, numberText, answerText, fewestText};
 use fields::text;
 
 // The line of a word and a number at the front of the output; answers how many bytes it has.
@@ -29,6 +29,15 @@ pub fn put_two(out: &mut [u8], word: &[u8], a: u64, b: u64) -> usize
     let third = text::put_text(out, second, b" ");
     let last = text::put_decimal(out, third, b);
     text::put_text(out, last, b"\n")
+}
+
+// The line for a line that is no command.
+pub fn put_bad(out: &mut [u8]) -> usize
+    requires { ⌜ answerMost ≤ length (now out) ⌝ }
+    ensures { λ r. ⌜ r ≡ length badText ⌝ }
+    ensures { λ _. ⌜ now (out .exit) ≡ put 0 badText (now (out .entry)) ⌝ }
+{
+    text::put_text(out, 0, b"bad line\n")
 }
 
 // The line for the number of a call: `ok`, or `refused` and the number.

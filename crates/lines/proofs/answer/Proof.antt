@@ -23,20 +23,22 @@ use Rattle.lines.proofs.answer.Tie as tie
 returns : tie.Need-returns
 unfolding badLine
 returns c =
-    let a = c .before .before .before .before .before .before .before .before .before .args in
-    let long = line-long (a .line .now) (a .state .now) (a .begun) (c .before .before .before .before .before .if1 .taken) in
-    (rw long, (rw long (c .before .before .put-text .ensures .0), (rw long, rw long (c .before .before .put-text .ensures .1))))
+    let at-length = c .before .before .before .before in
+    let a = at-length .before .before .before .before .args in
+    let long = line-long (a .line .now) (a .state .now) (a .begun) (at-length .if1 .taken) in
+    let printed = c .before .before .put-bad .ensures in
+    (rw long, rw long (printed .0), rw long, rw long (printed .1))
 
 returns-2 : tie.Need-returns-2
 unfolding badLine
 returns-2 c =
-    let at-numbers = c .before .before .before .before .before .before .before .before in
+    let at-numbers = c .before .before .before .before .before .before .before in
     let at-length = at-numbers .before .before .before in
     let a = at-length .before .before .before .before .args in
-    let bad = sym (at-numbers .numbers-behind .ensures .0 .0) ∙ not-true _ (c .before .before .before .before .before .if2 .taken) in
+    let bad = sym (at-numbers .numbers-behind .ensures .0 .0) ∙ not-true _ (c .before .before .before .before .if2 .taken) in
     let result = line-fields (a .line .now) (a .state .now) (a .begun) (at-length .if1 .left) in
-    let printed = c .before .before .put-text2 .ensures in
-    (rw (result, bad), (rw (result, bad) (printed .0), (rw (result, bad), rw (result, bad) (printed .1))))
+    let printed = c .before .before .put-bad2 .ensures in
+    (rw (result, bad), rw (result, bad) (printed .0), rw (result, bad), rw (result, bad) (printed .1))
 
 -- behind the second test every field behind the first is a number
 good : (c : tie.Else2) → let at-length = c .before .before .before .before .before .before in
@@ -93,14 +95,12 @@ pub answer-spec : {M : Type 1} → statement M
 answer-spec =
     tie.close
     (tie.spec
-    (λ c. search needs)
     (λ c κs. search needs)
     (λ c. search needs)
     returns
     (λ c κs. search needs)
     (λ c. search needs)
     (λ c κs. search needs)
-    (λ c. search needs)
     (λ c κs. search needs)
     (λ c. search needs)
     returns-2

@@ -31,28 +31,32 @@ loop-holds c = ((omega arith, omega arith, omega arith), (refl, refl, refl), ref
 
 returns : tie.Need-returns Inv-loop μ-loop
 returns c =
-    let call = c .before .before .before .before .before .before .before .before .take-byte .ensures in
-    let head = c .before .before .before .before .before .before .before .before .before .before .before .before .before .before .loop in
-    let a = c .before .before .before .before .before .before .before .before .before .before .before .before .before .before .before .before .before .before .before .args in
+    let at-take = c .before .before .before .before .before .before .before .before in
+    let call = at-take .take-byte .ensures in
+    let at-head = at-take .before .before .before .before .before .before in
+    let head = at-head .loop in
+    let a = at-head .before .before .before .before .before .args in
     let turn =
     feed-next (kept (a .from .begun) (a .state .now) (take (a .from .size) (a .line .now))) _ _ (a .piece .now) (head .i) _ _ _ _ _ _
-    (c .before .before .before .before .before .before .before .before .before .before .before .before .before .loop-test .taken) (head .inv .2) (head .inv .3) (head .inv .4) (call .1 .0) (call .1 .1 .0) (call .1 .1 .1) in
-    ((call .0 .0, omega arith, omega arith, λ h. omega arith), (turn .0, (turn .1, turn .2)))
+    (at-take .before .before .before .before .before .loop-test .taken) (head .inv .2) (head .inv .3) (head .inv .4) (call .1 .0) (call .1 .1) (call .1 .2) in
+    ((call .0 .0, omega arith, omega arith, λ h. omega arith), turn)
 
 loop-again : tie.Need-loop-again Inv-loop μ-loop
 loop-again c =
-    let call = c .before .before .before .before .before .before .before .before .take-byte .ensures in
-    let head = c .before .before .before .before .before .before .before .before .before .before .before .before .before .before .loop in
-    let a = c .before .before .before .before .before .before .before .before .before .before .before .before .before .before .before .before .before .before .before .args in
+    let at-take = c .before .before .before .before .before .before .before .before in
+    let call = at-take .take-byte .ensures in
+    let at-head = at-take .before .before .before .before .before .before in
+    let head = at-head .loop in
+    let a = at-head .before .before .before .before .before .args in
     let turn =
     feed-next (kept (a .from .begun) (a .state .now) (take (a .from .size) (a .line .now))) _ _ (a .piece .now) (head .i) _ _ _ _ _ _
-    (c .before .before .before .before .before .before .before .before .before .before .before .before .before .loop-test .taken) (head .inv .2) (head .inv .3) (head .inv .4) (call .1 .0) (call .1 .1 .0) (call .1 .1 .1) in
+    (at-take .before .before .before .before .before .loop-test .taken) (head .inv .2) (head .inv .3) (head .inv .4) (call .1 .0) (call .1 .1) (call .1 .2) in
     ((omega arith, call .0 .0, omega arith), (search needs, search needs, search needs), turn .0, turn .1, turn .2)
 
 returns-2 : tie.Need-returns-2 Inv-loop μ-loop
 returns-2 c =
     let head = c .before .loop in
-    ((omega arith, omega arith, omega arith, λ h. omega arith), (head .inv .2, (head .inv .3, head .inv .4)))
+    ((omega arith, omega arith, omega arith, λ h. omega arith), (head .inv .2, head .inv .3, head .inv .4))
 
 pub feed-spec : {M : Type 1} → statement M
 feed-spec =
