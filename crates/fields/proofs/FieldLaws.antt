@@ -15,7 +15,8 @@ use Rattle.predicates.specs.Lists.{all}
 use Rattle.predicates.proofs.ListLaws.{true-T, T-true, both-l}
 use Rattle.predicates.proofs.LoopLaws.{drop-next}
 use Rattle.numbers.specs.Numbers.{put}
-use Rattle.fields.specs.Fields.{onto, fields, later, spaceAt, sameBytes, isDigit, valueFrom, value, isNumber}
+use Rattle.fields.specs.Fields.{onto, fields, sameBytes, isDigit, valueFrom, value, isNumber}
+use Rattle.fields.specs.code.Scan.{later, spaceAt}
 
 -- ---- spaceAt: the first space
 

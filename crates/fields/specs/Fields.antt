@@ -1,6 +1,6 @@
 -- The fields of a line and the numbers that they write (document 01, "A listing, complete"). A line is its bytes without the line feed.
 -- Assumes nothing: these are definitions.
-use Prim.Native.Nat.{ℕ, suc, _+_, _*_, _-_, _^_}
+use Prim.Native.Nat.{ℕ, _+_, _*_, _-_, _^_}
 use mathlib.Core.Bool.{Bool, true, false, _&&_, cond}
 use mathlib.Core.List.{List, [], _∷_}
 use lib.Dec.{ltb, leb, eqb}
@@ -18,16 +18,6 @@ onto b (f ∷ fs) = (b ∷ f) ∷ fs
 unfoldable pub fields : List ℕ → List (List ℕ)
 fields [] = [] ∷ []
 fields (b ∷ bs) = cond (eqb b 32) ([] ∷ fields bs) (onto b (fields bs))
-
--- the fields behind the first
-unfoldable pub later : List (List ℕ) → List (List ℕ)
-later [] = []
-later (f ∷ fs) = fs
-
--- how many bytes stand before the first space
-unfoldable pub spaceAt : List ℕ → ℕ
-spaceAt [] = 0
-spaceAt (b ∷ bs) = cond (eqb b 32) 0 (suc (spaceAt bs))
 
 -- two lists of bytes are the same
 unfoldable pub sameBytes : List ℕ → List ℕ → Bool

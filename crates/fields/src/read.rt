@@ -7,7 +7,8 @@ ghost use lib.Dec.{T};
 ghost use lib.ListN.{length, drop};
 ghost use Rattle.predicates.specs.Lists.{all};
 ghost use Rattle.numbers.specs.Numbers.{put, bytesOf};
-ghost use Rattle.fields.specs.Fields.{fields, later, spaceAt, value, isNumber, isWord, sameBytes};
+ghost use Rattle.fields.specs.Fields.{fields, value, isNumber, isWord, sameBytes};
+ghost use Rattle.fields.specs.code.Scan.{later, spaceAt};
 
 // Whether a field is a number, and the number; 0 where it is none.
 struct Field {

@@ -13,7 +13,8 @@ use Rattle.predicates.specs.Lists.{all}
 use Rattle.predicates.proofs.ListLaws.{cond-ind}
 use Rattle.numbers.specs.Numbers.{put, bytesOf}
 use Rattle.numbers.proofs.NumberLaws.{length-bytesOf, take-put}
-use Rattle.fields.specs.Fields.{fields, later, spaceAt, value, isNumber, isWord, sameBytes}
+use Rattle.fields.specs.Fields.{fields, value, isNumber, isWord, sameBytes}
+use Rattle.fields.specs.code.Scan.{later, spaceAt}
 use Rattle.fields.proofs.FieldLaws.{first-field}
 use Rattle.lines.specs.Lines.{lineMost, LineResult, badLine, ageLine, getLine, askLine, fewestLine, laterLine, wordLine, fieldsLine, lineResult}
 use Rattle.lines.specs.Lines.{ageCommand, getCommand, askCommand, fewestCommand}

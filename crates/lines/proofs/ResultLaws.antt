@@ -10,7 +10,7 @@ use Rattle.predicates.specs.Lists.{all}
 use Rattle.predicates.proofs.ListLaws.{cond-ind}
 use Rattle.fields.specs.Fields.{fields, value, isNumber, isWord, sameBytes}
 use Rattle.lines.specs.Lines.{setCommand, ageCommand, getCommand, askCommand, fewestCommand}
-use Rattle.lines.specs.Text.{answerMost}
+use Rattle.lines.specs.code.Sizes.{answerMost}
 use Rattle.lines.specs.Lines.{lineMost, LineResult, badLine, setLine, ageLine, getLine, answeredText, askText, askLine, fewestAnswer, fewestLine}
 use Rattle.lines.specs.Lines.{laterLine, wordLine, fieldsLine, lineResult}
 use Rattle.lines.proofs.TextLaws.{number-length, answer-length, fewest-length}

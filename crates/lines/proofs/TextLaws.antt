@@ -14,7 +14,8 @@ use Rattle.asking.specs.declared.Answer.{Answer}
 use Rattle.asking.specs.declared.Answer.the-variants.{Contradicted, Open, Between}
 use Rattle.asking.specs.declared.Fewest.{Fewest}
 use Rattle.asking.specs.declared.Fewest.the-variants.{Over, Few}
-use Rattle.lines.specs.Text.{answerMost, withOne, withTwo, numberText, answerText, fewestText, refusedWord, betweenWord, fewestWord}
+use Rattle.lines.specs.Text.{withOne, withTwo, numberText, answerText, fewestText, refusedWord, betweenWord, fewestWord}
+use Rattle.lines.specs.code.Sizes.{answerMost}
 
 -- ---- lines put together
 

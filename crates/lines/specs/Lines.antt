@@ -1,6 +1,6 @@
 -- A line of the listing (document 01, "A listing, complete"): what it leaves and prints. A line is its bytes without the line feed.
 -- Assumes nothing: these are definitions.
-use Prim.Native.Nat.{ℕ, _+_, _/_}
+use Prim.Native.Nat.{ℕ}
 use mathlib.Core.Bool.{Bool, true, _&&_, _||_, cond}
 use mathlib.Core.List.{List, [], _∷_, map}
 use lib.Dec.{ltb, leb, eqb}
@@ -18,10 +18,6 @@ use Rattle.lines.specs.Text.{badText, numberText, answerText, fewestText
 -- "A line above 200 bytes"
 abbrev pub lineMost : ℕ
 lineMost = 200
-
--- so many fields have room in it: each has a byte, and a space before the next
-abbrev pub valuesMost : ℕ
-valuesMost = lineMost / 2 + 1
 
 -- ---- what a line leaves
 

@@ -46,10 +46,6 @@ badText = 98 ∷ 97 ∷ 100 ∷ 32 ∷ 108 ∷ 105 ∷ 110 ∷ 101 ∷ 10 ∷ []
 
 -- ---- the answer lines
 
--- none is longer, with its line feed
-abbrev pub answerMost : ℕ
-answerMost = 64
-
 -- a word and a number
 unfoldable pub withOne : List ℕ → ℕ → List ℕ
 withOne word a = word ++ (decimal a ++ (10 ∷ []))

@@ -4,7 +4,7 @@ ghost use mathlib.Core.Path.{_≡_};
 ghost use Prim.Native.Nat.{_≤_};
 ghost use lib.ListN.{length};
 ghost use Rattle.numbers.specs.Numbers.{put};
-ghost use Rattle.lines.specs.Text.{answerMost};
+ghost use Rattle.lines.specs.code.Sizes.{answerMost};
 ghost use Rattle.lines.specs.Lines.{LineResult, lineResult};
 
 pub mod commands;

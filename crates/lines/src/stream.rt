@@ -4,7 +4,7 @@ ghost use mathlib.Core.List.{List};
 ghost use Prim.Native.Nat.{ℕ, _+_, _≤_, _<_};
 ghost use lib.ListN.{length, take};
 ghost use Rattle.numbers.specs.Numbers.{put};
-ghost use Rattle.lines.specs.Text.{answerMost};
+ghost use Rattle.lines.specs.code.Sizes.{answerMost};
 ghost use Rattle.lines.specs.Lines.{lineMost, LineResult, lineResult};
 ghost use Rattle.lines.specs.Listing.{Kept, kept, keptNext, textNext, keptAfter, textAfter};
 use crate::ANSWER_MOST;

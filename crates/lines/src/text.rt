@@ -4,7 +4,8 @@ ghost use Prim.Native.Nat.{_≤_};
 ghost use lib.ListN.{length};
 ghost use Rattle.numbers.specs.Numbers.{put};
 ghost use Rattle.monitor.specs.Ask.{answerIn, fewestIn};
-ghost use Rattle.lines.specs.Text.{answerMost, badText, withOne, withTwo, numberText, answerText, fewestText};
+ghost use Rattle.lines.specs.Text.{badText, withOne, withTwo, numberText, answerText, fewestText};
+ghost use Rattle.lines.specs.code.Sizes.{answerMost};
 use fields::text;
 
 // The line of a word and a number at the front of the output; answers how many bytes it has.

@@ -5,7 +5,7 @@ ghost use mathlib.Core.Path.{_≡_};
 ghost use mathlib.Core.Bool.{false};
 ghost use Prim.Native.Nat.{_+_, _≤_};
 ghost use lib.ListN.{length, take};
-ghost use Rattle.lines.specs.Text.{answerMost};
+ghost use Rattle.lines.specs.code.Sizes.{answerMost};
 ghost use Rattle.lines.specs.Lines.{lineMost};
 ghost use Rattle.lines.specs.Listing.{Kept, kept, keptAfter};
 use lines::ANSWER_MOST;

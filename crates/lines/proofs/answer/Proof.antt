@@ -13,8 +13,10 @@ use lib.Seq.{length-take-le}
 use Rattle.predicates.specs.Lists.{all}
 use Rattle.predicates.proofs.ListLaws.{true-T}
 use Rattle.numbers.proofs.NumberLaws.{take-put}
-use Rattle.fields.specs.Fields.{fields, later, spaceAt, value, isNumber}
-use Rattle.lines.specs.Lines.{valuesMost, badLine}
+use Rattle.fields.specs.Fields.{fields, value, isNumber}
+use Rattle.fields.specs.code.Scan.{later, spaceAt}
+use Rattle.lines.specs.Lines.{badLine}
+use Rattle.lines.specs.code.Sizes.{valuesMost}
 use Rattle.lines.proofs.LineLaws.{line-long, line-fields}
 use borrow.Author.Needs.{needs}
 use Rattle.lines.proofs.answer.Statement.{statement}

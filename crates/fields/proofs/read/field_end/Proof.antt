@@ -5,7 +5,7 @@ use Prim.Native.Nat.{_+_, _-_, _≤_}
 use mathlib.Core.Path.{_≡_, refl}
 use native.Mathlib.Omega.{arith}
 use lib.ListN.{length, drop}
-use Rattle.fields.specs.Fields.{spaceAt}
+use Rattle.fields.specs.code.Scan.{spaceAt}
 use Rattle.fields.proofs.FieldLaws.{space-here, space-next, space-done}
 use borrow.Author.Needs.{needs}
 use Rattle.fields.proofs.read.field_end.Statement.{statement}

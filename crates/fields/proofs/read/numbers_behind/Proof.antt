@@ -4,7 +4,7 @@ use mathlib.Core.Path.{_≡_, sym, _∙_}
 use native.Mathlib.Omega.{arith}
 use lib.ListN.{length}
 use Rattle.numbers.specs.Numbers.{put}
-use Rattle.fields.specs.Fields.{spaceAt}
+use Rattle.fields.specs.code.Scan.{spaceAt}
 use Rattle.fields.proofs.FieldLaws.{later-none, later-some}
 use borrow.Author.Needs.{needs}
 use Rattle.fields.proofs.read.numbers_behind.Statement.{statement}

@@ -6,7 +6,7 @@ use native.Mathlib.Omega.{arith}
 use lib.ListN.{length, take, length-take}
 use lib.Seq.{length-take-le}
 use Rattle.numbers.proofs.NumberLaws.{take-put}
-use Rattle.lines.specs.Text.{answerMost}
+use Rattle.lines.specs.code.Sizes.{answerMost}
 use Rattle.lines.specs.Lines.{lineResult}
 use Rattle.lines.proofs.ResultLaws.{line-short}
 use borrow.Author.Needs.{needs}

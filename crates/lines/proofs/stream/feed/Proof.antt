@@ -6,7 +6,7 @@ use mathlib.Core.Path.{_≡_, refl}
 use native.Mathlib.Omega.{arith}
 use lib.ListN.{length, take}
 use Rattle.numbers.specs.Numbers.{put}
-use Rattle.lines.specs.Text.{answerMost}
+use Rattle.lines.specs.code.Sizes.{answerMost}
 use Rattle.lines.specs.Lines.{lineMost}
 use Rattle.lines.specs.Listing.{kept, keptAfter, textAfter}
 use Rattle.lines.proofs.StreamLaws.{feed-next}
