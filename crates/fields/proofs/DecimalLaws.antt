@@ -1,5 +1,5 @@
--- Laws of `specs.Decimal`: copying a text, the digits of a number, and a text behind another.
--- The idea: `digits` goes by the number of places. No contract cites this file. Assumes nothing.
+-- Laws of `specs.Decimal`: copying a text, the digits of a number, and lines put together from their parts.
+-- The idea: `digits` goes by the number of places, and a line is one store behind the other. No contract cites this file. Assumes nothing.
 use Prim.Native.Nat.{ℕ, zero, suc, _+_, _-_, _/_, _%_, _^_, _≤_, _<_}
 use mathlib.Core.Path.{_≡_, refl}
 use mathlib.Core.List.{List, [], _∷_, _++_}
@@ -13,7 +13,7 @@ use lib.Seq.{drop-cons}
 use Rattle.predicates.proofs.ListLaws.{cond-ind}
 use Rattle.numbers.specs.Numbers.{put}
 use Rattle.numbers.proofs.NumberLaws.{put-then}
-use Rattle.fields.specs.Decimal.{digits}
+use Rattle.fields.specs.Decimal.{digits, decimal, withOne, withTwo}
 
 -- ---- texts
 
@@ -26,7 +26,7 @@ copy-next at i ts s h =
     rw (e, add-one, drop-cons ts i 0 h)
 
 -- two texts, the second stored behind the first: their place behind, and both at once
-pub text-then : (at next end : ℕ) (a b s t u : List ℕ) → next ≡ at + length a → t ≡ put at a s → end ≡ next + length b → u ≡ put next b t →
+text-then : (at next end : ℕ) (a b s t u : List ℕ) → next ≡ at + length a → t ≡ put at a s → end ≡ next + length b → u ≡ put next b t →
     (end ≡ at + length (a ++ b)) × (u ≡ put at (a ++ b) s)
 text-then at next end a b s t u e p f q = (rw length-append (omega arith), put-then (length a) at next a b s t u refl e p q)
 
@@ -68,3 +68,37 @@ digits-length zero n = omega arith
 digits-length (suc k) n =
     cond-ind (λ (l : List ℕ). length l ≤ suc k) (ltb n 10) _ _ (λ _. omega arith)
     (λ _. rw length-append (omega (arith, digits-length k (n / 10))))
+
+-- ---- lines
+
+-- a word and a number
+pub with-one : (word : List ℕ) (a i j end : ℕ) (s t u v : List ℕ) → i ≡ 0 + length word → t ≡ put 0 word s
+    → j ≡ i + length (decimal a) → u ≡ put i (decimal a) t → end ≡ j + 1 → v ≡ put j (10 ∷ []) u
+    → (end ≡ length (withOne word a)) × (v ≡ put 0 (withOne word a) s)
+unfolding withOne
+with-one word a i j end s t u v e₁ p₁ e₂ p₂ e₃ p₃ =
+    let tail = text-then i j end (decimal a) (10 ∷ []) t u v e₂ p₂ e₃ p₃ in
+    let all = text-then 0 i end word _ s t v e₁ p₁ (tail .0) (tail .1) in
+    (omega arith, all .1)
+
+-- a word and two numbers
+pub with-two : (word : List ℕ) (a b i j k l end : ℕ) (s t u v w x : List ℕ) → i ≡ 0 + length word → t ≡ put 0 word s
+    → j ≡ i + length (decimal a) → u ≡ put i (decimal a) t → k ≡ j + 1 → v ≡ put j (32 ∷ []) u
+    → l ≡ k + length (decimal b) → w ≡ put k (decimal b) v → end ≡ l + 1 → x ≡ put l (10 ∷ []) w
+    → (end ≡ length (withTwo word a b)) × (x ≡ put 0 (withTwo word a b) s)
+unfolding withTwo
+with-two word a b i j k l end s t u v w x e₁ p₁ e₂ p₂ e₃ p₃ e₄ p₄ e₅ p₅ =
+    let last = text-then k l end (decimal b) (10 ∷ []) v w x e₄ p₄ e₅ p₅ in
+    let third = text-then j k end (32 ∷ []) _ u v x e₃ p₃ (last .0) (last .1) in
+    let second = text-then i j end (decimal a) _ t u x e₂ p₂ (third .0) (third .1) in
+    let all = text-then 0 i end word _ s t x e₁ p₁ (second .0) (second .1) in
+    (omega arith, all .1)
+
+-- how long they can be
+pub with-one-length : (word : List ℕ) (a : ℕ) → length (withOne word a) ≤ length word + 21
+unfolding withOne
+with-one-length word a = simp length-append (omega (arith, digits-length 20 a))
+
+pub with-two-length : (word : List ℕ) (a b : ℕ) → length (withTwo word a b) ≤ length word + 42
+unfolding withTwo
+with-two-length word a b = simp length-append (omega (arith, digits-length 20 a, digits-length 20 b))

@@ -1,9 +1,9 @@
-// Texts and decimal numbers, as bytes at a place of the output. Each function answers the place behind what it stored.
+// Texts and decimal numbers, as bytes at a place of the output, and lines that they make. Each function answers the place behind what it stored.
 ghost use mathlib.Core.Path.{_≡_};
 ghost use Prim.Native.Nat.{_+_, _^_, _≤_, _<_};
 ghost use lib.ListN.{length};
 ghost use Rattle.numbers.specs.Numbers.{put};
-ghost use Rattle.fields.specs.Decimal.{digits, decimal};
+ghost use Rattle.fields.specs.Decimal.{digits, decimal, withOne, withTwo};
 
 // Stores the bytes of `text` in `out` from index `at` on, and answers the place behind them.
 pub fn put_text(out: &mut [u8], at: usize, text: &[u8]) -> usize
@@ -52,4 +52,28 @@ pub fn put_decimal(out: &mut [u8], at: usize, n: u64) -> usize
     ensures { λ _. ⌜ now (out .exit) ≡ put at (decimal n) (now (out .entry)) ⌝ }
 {
     put_digits(out, at, 20, n)
+}
+
+// The line of a word and a number at the front of the output; answers how many bytes it has, with the line feed.
+pub fn put_one(out: &mut [u8], word: &[u8], a: u64) -> usize
+    requires { ⌜ length (now word) + 21 ≤ length (now out) ⌝ }
+    ensures { λ r. ⌜ r ≡ length (withOne (now (word .entry)) a) ⌝ }
+    ensures { λ _. ⌜ now (out .exit) ≡ put 0 (withOne (now (word .entry)) a) (now (out .entry)) ⌝ }
+{
+    let first = put_text(out, 0, word);
+    let second = put_decimal(out, first, a);
+    put_text(out, second, b"\n")
+}
+
+// The line of a word and two numbers at the front of the output.
+pub fn put_two(out: &mut [u8], word: &[u8], a: u64, b: u64) -> usize
+    requires { ⌜ length (now word) + 42 ≤ length (now out) ⌝ }
+    ensures { λ r. ⌜ r ≡ length (withTwo (now (word .entry)) a b) ⌝ }
+    ensures { λ _. ⌜ now (out .exit) ≡ put 0 (withTwo (now (word .entry)) a b) (now (out .entry)) ⌝ }
+{
+    let first = put_text(out, 0, word);
+    let second = put_decimal(out, first, a);
+    let third = put_text(out, second, b" ");
+    let last = put_decimal(out, third, b);
+    put_text(out, last, b"\n")
 }

@@ -8,8 +8,8 @@ use Rattle.monitor.specs.Calls.{setUpNumber, setUpState, ageNumber, ageState}
 use Rattle.monitor.specs.Receive.{receiveNumber, receiveState}
 use Rattle.monitor.specs.Ask.{askNumber, fewestNumber}
 use Rattle.fields.specs.Fields.{onto, fields, valueFrom, value, isNumber, sameBytes}
-use Rattle.fields.specs.Decimal.{digits}
-use Rattle.lines.specs.Text.{withOne, withTwo, numberText, answerText, fewestText}
+use Rattle.fields.specs.Decimal.{digits, withOne, withTwo}
+use Rattle.lines.specs.Text.{numberText, answerText, fewestText}
 use Rattle.lines.specs.Lines.{badLine, setLine, ageLine, getLine, answeredText, askText, askLine}
 use Rattle.lines.specs.Lines.{fewestAnswer, fewestLine, laterLine, wordLine, fieldsLine, lineResult}
 use Rattle.lines.specs.Cases.{ascii, printsThen, eachPrints, earlyLines, laterLines, asPrinted, answers}

@@ -2,9 +2,9 @@
 -- Assumes nothing: these are definitions.
 use Prim.Native.Nat.{ℕ}
 use mathlib.Core.Bool.{cond}
-use mathlib.Core.List.{List, [], _∷_, _++_}
+use mathlib.Core.List.{List, [], _∷_}
 use lib.Dec.{eqb}
-use Rattle.fields.specs.Decimal.{decimal}
+use Rattle.fields.specs.Decimal.{withOne, withTwo}
 use Rattle.asking.specs.declared.Answer.{Answer}
 use Rattle.asking.specs.declared.Answer.the-variants.{Contradicted, Open, Between}
 use Rattle.asking.specs.declared.Fewest.{Fewest}
@@ -45,14 +45,6 @@ abbrev pub badText : List ℕ
 badText = 98 ∷ 97 ∷ 100 ∷ 32 ∷ 108 ∷ 105 ∷ 110 ∷ 101 ∷ 10 ∷ []
 
 -- ---- the answer lines
-
--- a word and a number
-unfoldable pub withOne : List ℕ → ℕ → List ℕ
-withOne word a = word ++ (decimal a ++ (10 ∷ []))
-
--- a word and two numbers
-unfoldable pub withTwo : List ℕ → ℕ → ℕ → List ℕ
-withTwo word a b = word ++ (decimal a ++ ((32 ∷ []) ++ (decimal b ++ (10 ∷ []))))
 
 -- "`ok`, `refused` number"
 unfoldable pub numberText : ℕ → List ℕ

@@ -26,11 +26,12 @@ loop-holds : tie.Need-loop-holds Inv-loop μ-loop
 loop-holds c = ((omega arith, search needs), (refl, refl, refl), refl)
 
 -- each portion takes a byte at least, and stays within the piece
-moved : (c : tie.After-feed Inv-loop μ-loop) → let piece = c .before .before .before .before .before .before .before .before .before .before .before .args .piece .now in let at = c .before .before .before .before .before .before .loop .at in
-    (0 < c .feed .result .taken) × (at + c .feed .result .taken ≤ length piece)
+moved : (c : tie.After-feed Inv-loop μ-loop) → let at-loop = c .before .before .before .before .before .before in
+    let piece = at-loop .before .before .before .before .before .args .piece .now in (0 < c .feed .result .taken) × (at-loop .loop .at + c .feed .result .taken ≤ length piece)
 moved c =
-    let piece = c .before .before .before .before .before .before .before .before .before .before .before .args .piece .now in
-    let at = c .before .before .before .before .before .before .loop .at in
+    let at-loop = c .before .before .before .before .before .before in
+    let piece = at-loop .before .before .before .before .before .args .piece .now in
+    let at = at-loop .loop .at in
     let long : length (take (length piece - at) (drop at piece)) ≡ length piece - at =
     length-take-le _ _ (omega (arith, length-drop at piece)) in
     let some : 0 < length (take (length piece - at) (drop at piece)) = omega arith in
@@ -40,18 +41,24 @@ slice-aggregate-write-all : tie.Need-slice-aggregate-write-all Inv-loop μ-loop
 slice-aggregate-write-all c = sym (length-take-le _ _ (search needs))
 
 add-at : tie.Need-add-at Inv-loop μ-loop
-add-at c = omega (arith, moved (c .before .before .before .before .before .before .before .before .before))
+add-at c =
+    let at-feed = c .before .before .before .before .before .before .before .before .before in
+    omega (arith, moved at-feed)
 
 loop-less : tie.Need-loop-less Inv-loop μ-loop
-loop-less c = omega (arith, moved (c .before .before .before .before .before .before .before .before .before))
+loop-less c =
+    let at-feed = c .before .before .before .before .before .before .before .before .before in
+    omega (arith, moved at-feed)
 
 loop-again : tie.Need-loop-again Inv-loop μ-loop
 loop-again c =
-    let head = c .before .before .before .before .before .before .before .before .before .before .before .before .before .before .before .loop in
-    let call = c .before .before .before .before .before .before .before .before .before .feed .ensures in
-    let some = moved (c .before .before .before .before .before .before .before .before .before) in
-    let rest = feed-rest _ _ (c .before .before .before .before .before .before .before .before .before .before .before .before .before .before .before .before .before .before .before .before .args .piece .now) (head .at) (c .before .before .before .before .before .before .before .before .before .feed .result .taken) (call .1 .0) in
-    ((some .1, call .0 .0), (search needs, search needs, search needs), rest ∙ head .inv .2)
+    let at-feed = c .before .before .before .before .before .before .before .before .before in
+    let at-loop = at-feed .before .before .before .before .before .before in
+    let head = at-loop .loop in
+    let call = at-feed .feed .ensures in
+    let piece = at-loop .before .before .before .before .before .args .piece .now in
+    let rest = feed-rest (kept (head .begun) (head .state) (take (head .size) (head .line))) _ piece (head .at) (at-feed .feed .result .taken) (call .1 .0) in
+    ((moved at-feed .1, call .0 .0), (search needs, search needs, search needs), rest ∙ head .inv .2)
 
 returns : tie.Need-returns Inv-loop μ-loop
 returns c =
