@@ -1,4 +1,4 @@
-// Texts and decimal numbers, as bytes at a place of the output, and lines that they make. Each function answers the place behind what it stored.
+// Texts and decimal numbers, as bytes at a place of the output, and the lines that they make. Each function answers the place behind what it stored.
 ghost use mathlib.Core.Path.{_≡_};
 ghost use Prim.Native.Nat.{_+_, _^_, _≤_, _<_};
 ghost use lib.ListN.{length};
@@ -54,7 +54,8 @@ pub fn put_decimal(out: &mut [u8], at: usize, n: u64) -> usize
     put_digits(out, at, 20, n)
 }
 
-// The line of a word and a number at the front of the output; answers how many bytes it has, with the line feed.
+// The line of a word and a number at the front of the output; answers how many bytes it has. A number has at most 20 digits, and a line feed or a
+// space behind it.
 pub fn put_one(out: &mut [u8], word: &[u8], a: u64) -> usize
     requires { ⌜ length (now word) + 21 ≤ length (now out) ⌝ }
     ensures { λ r. ⌜ r ≡ length (withOne (now (word .entry)) a) ⌝ }

@@ -75,9 +75,9 @@ pub fn feed(piece: &[u8], line: &mut [u8], state: &mut [u8], out: &mut [u8], fro
         × (0 < length (now (piece .entry)) → 0 < r .taken) ⌝ }
     ensures { λ r. ⌜ (let old : Kept = kept (from .begun) (now (state .entry)) (take (from .size) (now (line .entry))) in
         let new : Kept = kept (r .begun) (now (state .exit)) (take (r .size) (now (line .exit))) in
-        let taken : List ℕ = take (r .taken) (now (piece .entry)) in
-        (new ≡ keptAfter old taken) × (r .filled ≡ from .filled + length (textAfter old taken))
-        × (now (out .exit) ≡ put (from .filled) (textAfter old taken) (now (out .entry)))) ⌝ }
+        let bytes : List ℕ = take (r .taken) (now (piece .entry)) in
+        (new ≡ keptAfter old bytes) × (r .filled ≡ from .filled + length (textAfter old bytes))
+        × (now (out .exit) ≡ put (from .filled) (textAfter old bytes) (now (out .entry)))) ⌝ }
 {
     let mut place = from;
     let mut i: usize = 0;
