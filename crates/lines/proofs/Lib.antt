@@ -1,6 +1,6 @@
 -- The laws of texts and of lines.
 pub mod TextLaws
 pub mod LineLaws
-pub mod OutcomeLaws
+pub mod ResultLaws
 pub mod WorkedCases
 pub mod StreamLaws

@@ -1,174 +1,23 @@
--- Laws of `specs.Lines`: a turn of each loop that reads a line, on plain values. `-here` is a loop's early exit, `-next` a turn, `-done` its end.
--- The idea: each loop answers for the elements from its place on, so a turn takes one element off. No contract cites this file. Assumes nothing.
-use Prim.Native.Nat.{ℕ, suc, _+_, _*_, _-_, _^_, _≤_, _<_}
-use mathlib.Core.Path.{_≡_, refl, sym, ap, _∙_}
-use mathlib.Core.Bool.{Bool, true, false, not, _&&_, cond, and-false}
-use mathlib.Core.Logic.{⊎-elim}
-use mathlib.Core.List.{List, [], _∷_, map}
-use native.Mathlib.Nat.{le-refl}
-use native.Mathlib.Numerals.{add-one}
+-- Laws of `specs.Lines`: the message of a `get` line, what a line leaves as it was, and a line by its fields.
+-- No contract cites this file. Assumes nothing.
+use Prim.Native.Nat.{ℕ, _*_, _-_, _≤_, _<_}
+use mathlib.Core.Path.{_≡_, refl, ap, _∙_}
+use mathlib.Core.Bool.{Bool, true, _&&_, cond}
+use mathlib.Core.List.{List, map}
 use native.Mathlib.Omega.{arith}
-use borrow.Author.Tests.{lt-ltb, le-ltb, eq-eqb, ne-eqb, eqb-true, eqb-false, leb-true, ltb-true, ltb-false}
-use lib.Dec.{T, ltb, leb, eqb}
-use lib.ListN.{length, getD, take, drop, set, drop-of-length-le, length-take, length-drop}
-use lib.Seq.{drop-drop, take-all}
+use borrow.Author.Tests.{lt-ltb, le-ltb}
+use lib.Dec.{leb, eqb}
+use lib.ListN.{length, take, drop, length-drop}
+use lib.Seq.{take-all}
 use Rattle.predicates.specs.Lists.{all}
-use Rattle.predicates.proofs.ListLaws.{true-T, T-true, T-false, both-l, cond-ind, split}
-use Rattle.predicates.proofs.LoopLaws.{drop-next}
+use Rattle.predicates.proofs.ListLaws.{cond-ind}
 use Rattle.numbers.specs.Numbers.{put, bytesOf}
 use Rattle.numbers.proofs.NumberLaws.{length-bytesOf, take-put}
-use Rattle.lines.specs.Lines.{onto, fields, later, spaceAt, isDigit, valueFrom, value, isNumber, isWord, sameBytes}
-use Rattle.lines.specs.Lines.{Outcome, badLine, ageLine, getLine, askLine, fewestLine, laterLine, wordLine, fieldsLine, lineOutcome}
-use Rattle.lines.specs.Lines.{ageWord, getWord, askWord, fewestWord}
-
--- ---- spaceAt: the first space
-
-pub space-here : (l : List ℕ) (i : ℕ) → i < length l → getD l i 0 ≡ 32 → spaceAt (drop i l) ≡ 0
-unfolding spaceAt
-space-here l i h e = rw (drop-next l i h, eq-eqb _ _ e)
-
-pub space-next : (l : List ℕ) (i : ℕ) → i < length l → (getD l i 0 ≡ 32 → ⊥) → spaceAt (drop i l) ≡ suc (spaceAt (drop (i + 1) l))
-unfolding spaceAt
-space-next l i h e = rw (drop-next l i h, ne-eqb _ _ e)
-
-pub space-done : (l : List ℕ) (i : ℕ) → length l ≤ i → spaceAt (drop i l) ≡ 0
-unfolding spaceAt
-space-done l i h = rw (drop-of-length-le l {i = i} h)
-
--- ---- fields: a line's fields are the one before the first space and those behind it
-
--- a field and what stands behind it
-abbrev cut : ℕ → List ℕ → List (List ℕ)
-cut n xs = take n xs ∷ cond (eqb n (length xs)) [] (fields (drop (suc n) xs))
-
-eqb-suc : (a b : ℕ) (t : Bool) → eqb a b ≡ t → eqb (suc a) (suc b) ≡ t
-eqb-suc a b true e = eq-eqb _ _ (ap suc (eqb-true a b e))
-eqb-suc a b false e = ne-eqb _ _ (λ (f : suc a ≡ suc b). eqb-false a b e (omega arith))
-
-cut-next : (b : ℕ) (bs : List ℕ) (n : ℕ) (t : Bool) → fields bs ≡ cut n bs →
-    cond t ([] ∷ fields bs) (onto b (fields bs)) ≡ cut (cond t 0 (suc n)) (b ∷ bs)
-unfolding onto
-cut-next b bs n true h = rw (ne-eqb 0 (suc (length bs)) (λ (e : 0 ≡ suc (length bs)). omega arith))
-cut-next b bs n false h = rw (h, eqb-suc n (length bs) _ refl)
-
-fields-split : (xs : List ℕ) → fields xs ≡ cut (spaceAt xs) xs
-unfolding fields spaceAt
-fields-split [] = refl
-fields-split (b ∷ bs) = cut-next b bs (spaceAt bs) (eqb b 32) (fields-split bs)
-
-module _ (l : List ℕ) (at end : ℕ) (inside : at ≤ length l) (e : end ≡ at + spaceAt (drop at l)) where
-  size : spaceAt (drop at l) ≡ end - at
-  size = omega arith
-
-  pub fields-last : end ≡ length l → fields (drop at l) ≡ take (end - at) (drop at l) ∷ []
-  fields-last f =
-      let whole : end - at ≡ length (drop at l) = omega (arith, length-drop at l) in
-      let same = eq-eqb _ _ whole in
-      fields-split (drop at l) ∙ rw (size, same)
-
-  pub fields-more : (end ≡ length l → ⊥) → fields (drop at l) ≡ take (end - at) (drop at l) ∷ fields (drop (end + 1) l)
-  fields-more f =
-      let other : eqb (end - at) (length (drop at l)) ≡ false = ne-eqb _ _ (λ (g : end - at ≡ length (drop at l)). f (omega (arith, length-drop at l))) in
-      let place : at + suc (end - at) ≡ end + 1 = omega arith in
-      fields-split (drop at l) ∙ rw (size, other, drop-drop, place)
-
--- ---- a turn of the loop that reads the fields' numbers
-
-module _ (l : List ℕ) (at end n : ℕ) (vs : List ℕ) (inside : at ≤ length l) (e : end ≡ at + spaceAt (drop at l)) where
-  -- the field at hand
-  abbrev field : List ℕ
-  field = take (end - at) (drop at l)
-
-  pub numbers-bad : isNumber field ≡ false → all isNumber (fields (drop at l)) ≡ false
-  numbers-bad h =
-      let bad : isNumber (take (spaceAt (drop at l)) (drop at l)) ≡ false = rw (size l at end inside e) h in
-      rw (fields-split (drop at l), bad)
-
-  pub numbers-last : isNumber field ≡ true → end ≡ length l →
-      (all isNumber (fields (drop at l)) ≡ true) × (length (fields (drop at l)) ≡ 1)
-      × (put n (map value (fields (drop at l))) vs ≡ set vs n (value field))
-  unfolding put
-  numbers-last h f =
-      let one = fields-last l at end inside e f in
-      (rw (one, h), rw one, rw one)
-
-  pub numbers-more : isNumber field ≡ true → (end ≡ length l → ⊥) →
-      (all isNumber (fields (drop at l)) ≡ all isNumber (fields (drop (end + 1) l)))
-      × (length (fields (drop at l)) ≡ suc (length (fields (drop (end + 1) l))))
-      × (put n (map value (fields (drop at l))) vs ≡ put (n + 1) (map value (fields (drop (end + 1) l))) (set vs n (value field)))
-  unfolding put
-  numbers-more h f =
-      let more = fields-more l at end inside e f in
-      (rw (more, h), rw more, rw (more, add-one n))
-
--- ---- value: what digits write
-
--- digits behind a number never make it smaller
-pub value-ge : (v : ℕ) (ds : List ℕ) → v ≤ valueFrom v ds
-unfolding valueFrom
-value-ge v [] = le-refl v
-value-ge v (d ∷ ds) = omega (arith, value-ge (v * 10 + (d - 48)) ds)
-
-pub value-next : (v : ℕ) (l : List ℕ) (i : ℕ) → i < length l → valueFrom v (drop i l) ≡ valueFrom (v * 10 + (getD l i 0 - 48)) (drop (i + 1) l)
-unfolding valueFrom
-value-next v l i h = rw (drop-next l i h)
-
-pub value-done : (v : ℕ) (l : List ℕ) (i : ℕ) → length l ≤ i → valueFrom v (drop i l) ≡ v
-unfolding valueFrom
-value-done v l i h = rw (drop-of-length-le l {i = i} h)
-
--- ---- isNumber
-
-module _ (f : List ℕ) where
-  pub number-size : leb 1 (length f) && leb (length f) 20 ≡ false → isNumber f ≡ false
-  unfolding isNumber
-  number-size e = rw e
-
-  pub number-digits : all isDigit f ≡ false → isNumber f ≡ false
-  unfolding isNumber
-  number-digits e = rw (e, and-false)
-
-  pub number-large : 2 ^ 64 ≤ value f → isNumber f ≡ false
-  unfolding isNumber
-  number-large h = rw (le-ltb _ _ h, and-false, and-false)
-
-  pub number-good : leb 1 (length f) && leb (length f) 20 ≡ true → all isDigit f ≡ true → value f < 2 ^ 64 → isNumber f ≡ true
-  unfolding isNumber
-  number-good e d h = rw (e, d, lt-ltb _ _ h)
-
-  -- a number has a digit
-  pub number-some : isNumber f ≡ true → 1 ≤ length f
-  unfolding isNumber
-  number-some e =
-      let sized : T (leb 1 (length f) && leb (length f) 20) =
-      both-l (leb 1 (length f) && leb (length f) 20) (all isDigit f && ltb (value f) (2 ^ 64)) (true-T _ e) in
-      leb-true _ _ (T-true _ (both-l (leb 1 (length f)) (leb (length f) 20) sized))
-
--- and so a part of a line that is a number
-pub field-some : (k : ℕ) (xs : List ℕ) → isNumber (take k xs) ≡ true → 1 ≤ k
-field-some k xs e = omega (arith, number-some (take k xs) e, length-take k xs)
-
--- ---- sameBytes
-
-pub same-length : (a b : List ℕ) → (length a ≡ length b → ⊥) → sameBytes a b ≡ false
-unfolding sameBytes
-same-length [] [] h = absurd (h refl)
-same-length [] (y ∷ ys) h = refl
-same-length (x ∷ xs) [] h = refl
-same-length (x ∷ xs) (y ∷ ys) h = rw (same-length xs ys (λ e. h (ap suc e)), and-false)
-
-module _ (a b : List ℕ) (i : ℕ) (p : i < length a) (q : i < length b) where
-  pub same-here : (getD a i 0 ≡ getD b i 0 → ⊥) → sameBytes (drop i a) (drop i b) ≡ false
-  unfolding sameBytes
-  same-here e = rw (drop-next a i p, drop-next b i q, ne-eqb _ _ e)
-
-  pub same-next : getD a i 0 ≡ getD b i 0 → sameBytes (drop i a) (drop i b) ≡ sameBytes (drop (i + 1) a) (drop (i + 1) b)
-  unfolding sameBytes
-  same-next e = rw (drop-next a i p, drop-next b i q, eq-eqb _ _ e)
-
-pub same-done : (a b : List ℕ) (i : ℕ) → length a ≤ i → length b ≤ i → sameBytes (drop i a) (drop i b) ≡ true
-unfolding sameBytes
-same-done a b i p q = rw (drop-of-length-le a {i = i} p, drop-of-length-le b {i = i} q)
+use Rattle.fields.specs.Fields.{fields, value, isNumber, isWord, sameBytes}
+use Rattle.fields.specs.code.Scan.{later, spaceAt}
+use Rattle.fields.proofs.FieldLaws.{first-field}
+use Rattle.lines.specs.Lines.{lineMost, LineResult, badLine, ageLine, getLine, askLine, fewestLine, laterLine, wordLine, fieldsLine, lineResult}
+use Rattle.lines.specs.Lines.{ageCommand, getCommand, askCommand, fewestCommand}
 
 -- ---- the message of a `get` line
 
@@ -187,64 +36,30 @@ message-at-front ns m₀ m h e =
 
 pub ask-state : (ns s : List ℕ) → askLine ns s .state ≡ s
 unfolding askLine badLine
-ask-state ns s = cond-ind (λ (o : Outcome). o .state ≡ s) (eqb (length ns) 1) _ _ (λ _. refl) (λ _. refl)
+ask-state ns s = cond-ind (λ (r : LineResult). r .state ≡ s) (eqb (length ns) 1) _ _ (λ _. refl) (λ _. refl)
 
 pub fewest-state : (ns s : List ℕ) → fewestLine ns s .state ≡ s
 unfolding fewestLine badLine
-fewest-state ns s = cond-ind (λ (o : Outcome). o .state ≡ s) (eqb (length ns) 0) _ _ (λ _. refl) (λ _. refl)
+fewest-state ns s = cond-ind (λ (r : LineResult). r .state ≡ s) (eqb (length ns) 0) _ _ (λ _. refl) (λ _. refl)
 
 -- after a taken `set` every line leaves it taken
 pub later-begun : (word ns s : List ℕ) → laterLine word ns s .begun ≡ true
 unfolding laterLine ageLine getLine askLine fewestLine badLine
 later-begun word ns s =
-    let P : Outcome → Type 0 = (λ o. o .begun ≡ true) in
-    cond-ind P (sameBytes word ageWord) _ _ (λ _. cond-ind P (eqb (length ns) 1) _ _ (λ _. refl) (λ _. refl))
-    (λ _. cond-ind P (sameBytes word getWord) _ _ (λ _. cond-ind P (leb 2 (length ns) && all isWord (drop 2 ns)) _ _ (λ _. refl) (λ _. refl))
-    (λ _. cond-ind P (sameBytes word askWord) _ _ (λ _. cond-ind P (eqb (length ns) 1) _ _ (λ _. refl) (λ _. refl))
-    (λ _. cond-ind P (sameBytes word fewestWord) _ _ (λ _. cond-ind P (eqb (length ns) 0) _ _ (λ _. refl) (λ _. refl)) (λ _. refl))))
+    let P : LineResult → Type 0 = (λ r. r .begun ≡ true) in
+    cond-ind P (sameBytes word ageCommand) _ _ (λ _. cond-ind P (eqb (length ns) 1) _ _ (λ _. refl) (λ _. refl))
+    (λ _. cond-ind P (sameBytes word getCommand) _ _ (λ _. cond-ind P (leb 2 (length ns) && all isWord (drop 2 ns)) _ _ (λ _. refl) (λ _. refl))
+    (λ _. cond-ind P (sameBytes word askCommand) _ _ (λ _. cond-ind P (eqb (length ns) 1) _ _ (λ _. refl) (λ _. refl))
+    (λ _. cond-ind P (sameBytes word fewestCommand) _ _ (λ _. cond-ind P (eqb (length ns) 0) _ _ (λ _. refl) (λ _. refl)) (λ _. refl))))
 
--- ---- a line: its first field, and those behind it
+-- ---- a line: its length, and its fields
 
--- the first field is what stands before the first space
-pub first-field : (line : List ℕ) → fields line ≡ take (spaceAt line) line ∷ later (fields line)
-unfolding later
-first-field line = rw (fields-split line)
-
-pub later-none : (line : List ℕ) → spaceAt line ≡ length line → later (fields line) ≡ []
-unfolding later
-later-none line e = rw (fields-split line, eq-eqb _ _ e)
-
-pub later-some : (line : List ℕ) → (spaceAt line ≡ length line → ⊥) → later (fields line) ≡ fields (drop (spaceAt line + 1) line)
-unfolding later
-later-some line e = rw (fields-split line, ne-eqb _ _ e, add-one)
-
-pub line-long : (line s : List ℕ) (begun : Bool) → 200 < length line → lineOutcome line begun s ≡ badLine begun s
-unfolding lineOutcome
+pub line-long : (line s : List ℕ) (begun : Bool) → lineMost < length line → lineResult line begun s ≡ badLine begun s
+unfolding lineResult
 line-long line s begun h = rw (lt-ltb _ _ h)
 
-pub line-fields : (line s : List ℕ) (begun : Bool) → length line ≤ 200 →
-    lineOutcome line begun s
+pub line-fields : (line s : List ℕ) (begun : Bool) → length line ≤ lineMost →
+    lineResult line begun s
     ≡ cond (all isNumber (later (fields line))) (wordLine (take (spaceAt line) line) (map value (later (fields line))) begun s) (badLine begun s)
-unfolding lineOutcome fieldsLine
+unfolding lineResult fieldsLine
 line-fields line s begun h = rw (le-ltb _ _ h) (ap (λ fs. fieldsLine fs begun s) (first-field line))
-
--- the count of the fields tells whether all are numbers
-pub count-bad : (b : Bool) (n k : ℕ) → n ≡ cond b k 255 → (T b → n ≤ 101) → n ≡ 255 → b ≡ false
-count-bad true n k e h f = absurd (omega (arith, h tt))
-count-bad false n k e h f = refl
-
-pub count-good : (b : Bool) (n k : ℕ) → n ≡ cond b k 255 → (n ≡ 255 → ⊥) → (b ≡ true) × (n ≡ k)
-count-good true n k e h = (refl, e)
-count-good false n k e h = absurd (h e)
-
--- the first 201 bytes of a line decide
-pub line-cut : (line s : List ℕ) (begun : Bool) → lineOutcome (take 201 line) begun s ≡ lineOutcome line begun s
-line-cut line s begun =
-    ⊎-elim
-    (λ (h : T (ltb 200 (length line))).
-    let long : 200 < length line = ltb-true _ _ (T-true _ h) in
-    line-long (take 201 line) s begun (rw length-take (omega arith)) ∙ sym (line-long line s begun long))
-    (λ (h : T (not (ltb 200 (length line)))).
-    let short : length line ≤ 200 = ltb-false _ _ (T-false _ h) in
-    rw (take-all 201 line (omega arith)))
-    (split (ltb 200 (length line)))

@@ -6,73 +6,74 @@ use Prim.Native.String.{String, len, charAt}
 use mathlib.Core.Bool.{Bool, true, _&&_}
 use mathlib.Core.List.{List, [], _∷_, _++_}
 use Rattle.numbers.specs.Numbers.{tab}
+use Rattle.fields.specs.Fields.{sameBytes}
 use Rattle.asking.specs.declared.Answer.{Answer}
 use Rattle.asking.specs.declared.Answer.the-variants.{Contradicted, Open, Between}
 use Rattle.asking.specs.declared.Fewest.{Fewest}
 use Rattle.asking.specs.declared.Fewest.the-variants.{Over, Few}
 use Rattle.lines.specs.Text.{badText, numberText, answerText, fewestText}
-use Rattle.lines.specs.Lines.{Outcome, sameBytes, lineOutcome}
+use Rattle.lines.specs.Lines.{LineResult, lineResult}
 
--- ---- a row
+-- ---- a case
 
 -- a text as its bytes
 unfoldable pub ascii : String → List ℕ
 ascii s = tab (len s) (λ i. code (charAt s i))
 
 -- a line, and the line that it must print
-pub record Row : Type 0 where
+pub record LineCase : Type 0 where
   pub line : String
   pub prints : String
 
-abbrev pub row : String → String → Row
-row line prints = record { line = line; prints = prints }
+abbrev pub lineCase : String → String → LineCase
+lineCase line prints = record { line = line; prints = prints }
 
--- the outcome prints what it must, and the next rows go on from it
-unfoldable pub printsThen : (Bool → List ℕ → Bool) → Row → Outcome → Bool
-printsThen next r o = sameBytes (o .text) (ascii (r .prints) ++ (10 ∷ [])) && next (o .begun) (o .state)
+-- the line prints what it must, and the next cases go on from what it left
+unfoldable pub printsThen : (Bool → List ℕ → Bool) → LineCase → LineResult → Bool
+printsThen next l r = sameBytes (r .text) (ascii (l .prints) ++ (10 ∷ [])) && next (r .begun) (r .state)
 
--- the rows one after the other, each on what the last one left
-unfoldable pub eachPrints : List Row → Bool → List ℕ → Bool
+-- the cases one after the other, each on what the last one left
+unfoldable pub eachPrints : List LineCase → Bool → List ℕ → Bool
 eachPrints [] begun s = true
-eachPrints (r ∷ rs) begun s = printsThen (eachPrints rs) r (lineOutcome (ascii (r .line)) begun s)
+eachPrints (l ∷ ls) begun s = printsThen (eachPrints ls) l (lineResult (ascii (l .line)) begun s)
 
 -- ---- good and bad lines
 
 -- before a taken `set`; the buffer is too short, so a good `set` line is refused with 24
-unfoldable pub early : List Row
-early =
-    row "set 5 100 0" "refused 24"
-    ∷ row "ask 0" "bad line"
-    ∷ row "fewest" "bad line"
+unfoldable pub earlyLines : List LineCase
+earlyLines =
+    lineCase "set 5 100 0" "refused 24"
+    ∷ lineCase "ask 0" "bad line"
+    ∷ lineCase "fewest" "bad line"
     ∷ []
 
 -- after one: on a buffer that is too short every good line is refused with 24
-unfoldable pub lines : List Row
-lines =
-    row "set 05 00000000000000000100 18446744073709551615" "refused 24"
-    ∷ row "set 4294967295 4294967295 0" "refused 24"
-    ∷ row "set 4294967296 0 0" "bad line"
-    ∷ row "set 0 4294967296 0" "bad line"
-    ∷ row "set 0 0 18446744073709551616" "bad line"
-    ∷ row "set 5 100" "bad line"
-    ∷ row "set 5 100 0 0" "bad line"
-    ∷ row "age 2000000" "refused 24"
-    ∷ row "age 000000000000000000001" "bad line"
-    ∷ row "get 0 0" "refused 24"
-    ∷ row "get 0 0 4294967295" "refused 24"
-    ∷ row "get 0 0 4294967296" "bad line"
-    ∷ row "get 0" "bad line"
-    ∷ row "ask 0" "refused 24"
-    ∷ row "ask  0" "bad line"
-    ∷ row "ask 0 " "bad line"
-    ∷ row " ask 0" "bad line"
-    ∷ row "ask 0\r" "bad line"
-    ∷ row "ask +0" "bad line"
-    ∷ row "ask" "bad line"
-    ∷ row "fewest" "refused 24"
-    ∷ row "fewest 0" "bad line"
-    ∷ row "fewer" "bad line"
-    ∷ row "" "bad line"
+unfoldable pub laterLines : List LineCase
+laterLines =
+    lineCase "set 05 00000000000000000100 18446744073709551615" "refused 24"
+    ∷ lineCase "set 4294967295 4294967295 0" "refused 24"
+    ∷ lineCase "set 4294967296 0 0" "bad line"
+    ∷ lineCase "set 0 4294967296 0" "bad line"
+    ∷ lineCase "set 0 0 18446744073709551616" "bad line"
+    ∷ lineCase "set 5 100" "bad line"
+    ∷ lineCase "set 5 100 0 0" "bad line"
+    ∷ lineCase "age 2000000" "refused 24"
+    ∷ lineCase "age 000000000000000000001" "bad line"
+    ∷ lineCase "get 0 0" "refused 24"
+    ∷ lineCase "get 0 0 4294967295" "refused 24"
+    ∷ lineCase "get 0 0 4294967296" "bad line"
+    ∷ lineCase "get 0" "bad line"
+    ∷ lineCase "ask 0" "refused 24"
+    ∷ lineCase "ask  0" "bad line"
+    ∷ lineCase "ask 0 " "bad line"
+    ∷ lineCase " ask 0" "bad line"
+    ∷ lineCase "ask 0\r" "bad line"
+    ∷ lineCase "ask +0" "bad line"
+    ∷ lineCase "ask" "bad line"
+    ∷ lineCase "fewest" "refused 24"
+    ∷ lineCase "fewest 0" "bad line"
+    ∷ lineCase "fewer" "bad line"
+    ∷ lineCase "" "bad line"
     ∷ []
 
 -- ---- the lines that are printed

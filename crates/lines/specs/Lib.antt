@@ -2,3 +2,4 @@ pub mod Text
 pub mod Lines
 pub mod Cases
 pub mod Listing
+pub mod code

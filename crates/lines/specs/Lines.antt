@@ -1,77 +1,40 @@
--- A line of the listing (document 01, "A listing, complete"): its fields, and what it leaves and prints. A line is its bytes without the line feed.
+-- A line of the listing (document 01, "A listing, complete"): what it leaves and prints. A line is its bytes without the line feed.
 -- Assumes nothing: these are definitions.
-use Prim.Native.Nat.{ℕ, suc, _+_, _*_, _-_, _^_}
-use mathlib.Core.Bool.{Bool, true, false, _&&_, _||_, cond}
+use Prim.Native.Nat.{ℕ}
+use mathlib.Core.Bool.{Bool, true, _&&_, _||_, cond}
 use mathlib.Core.List.{List, [], _∷_, map}
 use lib.Dec.{ltb, leb, eqb}
 use lib.ListN.{length, getD, drop, replicate}
 use Rattle.predicates.specs.Lists.{all}
 use Rattle.numbers.specs.Numbers.{bytesOf}
+use Rattle.fields.specs.Fields.{fields, value, isNumber, isWord, sameBytes}
 use Rattle.monitor.specs.Calls.{setUpNumber, setUpState, ageNumber, ageState}
 use Rattle.monitor.specs.Receive.{receiveNumber, receiveState}
-use Rattle.monitor.specs.Ask.{askNumber, askOutput, fewestNumber, fewestOutput}
-use Rattle.monitor.specs.Ask.{answerIn, fewestIn}
+use Rattle.monitor.specs.Ask.{askNumber, askOutput, fewestNumber, fewestOutput, answerIn, fewestIn}
 use Rattle.lines.specs.Text.{badText, numberText, answerText, fewestText}
 
--- ---- fields: "with single spaces"
+-- ---- how long a line is
 
--- b in front of the first field
-unfoldable pub onto : ℕ → List (List ℕ) → List (List ℕ)
-onto b [] = (b ∷ []) ∷ []
-onto b (f ∷ fs) = (b ∷ f) ∷ fs
-
--- a line's fields: what stands between its spaces, so that two spaces have an empty field between them
-unfoldable pub fields : List ℕ → List (List ℕ)
-fields [] = [] ∷ []
-fields (b ∷ bs) = cond (eqb b 32) ([] ∷ fields bs) (onto b (fields bs))
-
--- the fields behind the first
-unfoldable pub later : List (List ℕ) → List (List ℕ)
-later [] = []
-later (f ∷ fs) = fs
-
--- how many bytes stand before the first space
-unfoldable pub spaceAt : List ℕ → ℕ
-spaceAt [] = 0
-spaceAt (b ∷ bs) = cond (eqb b 32) 0 (suc (spaceAt bs))
-
--- ---- numbers: "All fields are decimal, 1 to 20 digits"
-
-abbrev pub isDigit : ℕ → Bool
-isDigit b = leb 48 b && leb b 57
-
--- the number that digits write behind the number v
-unfoldable pub valueFrom : ℕ → List ℕ → ℕ
-valueFrom v [] = v
-valueFrom v (d ∷ ds) = valueFrom (v * 10 + (d - 48)) ds
-
-unfoldable pub value : List ℕ → ℕ
-value field = valueFrom 0 field
-
--- a field that is a number of 64 bits
-unfoldable pub isNumber : List ℕ → Bool
-isNumber field = (leb 1 (length field) && leb (length field) 20) && (all isDigit field && ltb (value field) (2 ^ 64))
-
--- "words, own and drift 32"
-abbrev pub isWord : ℕ → Bool
-isWord n = ltb n (2 ^ 32)
+-- "A line above 200 bytes"
+abbrev pub lineMost : ℕ
+lineMost = 200
 
 -- ---- what a line leaves
 
 -- whether a `set` was taken by now, the state, and the line that is printed
-pub record Outcome : Type 0 where
+pub record LineResult : Type 0 where
   pub begun : Bool
   pub state : List ℕ
   pub text : List ℕ
 
 -- "otherwise, or before a taken `set`, `bad line`": nothing changes
-unfoldable pub badLine : Bool → List ℕ → Outcome
+unfoldable pub badLine : Bool → List ℕ → LineResult
 badLine begun s = record { begun = begun; state = s; text = badText }
 
 -- ---- the commands, over their fields' numbers
 
 -- "`set` own drift reading"; "A further taken `set` starts afresh"
-unfoldable pub setLine : List ℕ → Bool → List ℕ → Outcome
+unfoldable pub setLine : List ℕ → Bool → List ℕ → LineResult
 setLine ns begun s =
     cond (eqb (length ns) 3 && (isWord (getD ns 0 0) && isWord (getD ns 1 0)))
     (record {
@@ -82,14 +45,14 @@ setLine ns begun s =
     (badLine begun s)
 
 -- "`age` reading"
-unfoldable pub ageLine : List ℕ → List ℕ → Outcome
+unfoldable pub ageLine : List ℕ → List ℕ → LineResult
 ageLine ns s =
     cond (eqb (length ns) 1)
     (record { begun = true; state = ageState s (getD ns 0 0); text = numberText (ageNumber s (getD ns 0 0)) })
     (badLine true s)
 
 -- "`get` least greatest words"; "`get` may have no words (10)"
-unfoldable pub getLine : List ℕ → List ℕ → Outcome
+unfoldable pub getLine : List ℕ → List ℕ → LineResult
 getLine ns s =
     cond (leb 2 (length ns) && all isWord (drop 2 ns))
     (record {
@@ -108,65 +71,58 @@ unfoldable pub askText : ℕ → List ℕ → List ℕ
 askText limit s =
     answeredText (askNumber s limit (replicate 24 0)) (answerText (answerIn (askOutput s limit (replicate 24 0))))
 
-unfoldable pub askLine : List ℕ → List ℕ → Outcome
+unfoldable pub askLine : List ℕ → List ℕ → LineResult
 askLine ns s = cond (eqb (length ns) 1) (record { begun = true; state = s; text = askText (getD ns 0 0) s }) (badLine true s)
 
 -- "`fewest`"
 unfoldable pub fewestAnswer : List ℕ → List ℕ
 fewestAnswer s = answeredText (fewestNumber s (replicate 16 0)) (fewestText (fewestIn (fewestOutput s (replicate 16 0))))
 
-unfoldable pub fewestLine : List ℕ → List ℕ → Outcome
+unfoldable pub fewestLine : List ℕ → List ℕ → LineResult
 fewestLine ns s = cond (eqb (length ns) 0) (record { begun = true; state = s; text = fewestAnswer s }) (badLine true s)
 
 -- ---- the command words
 
--- two lists of bytes are the same
-unfoldable pub sameBytes : List ℕ → List ℕ → Bool
-sameBytes [] [] = true
-sameBytes [] (y ∷ ys) = false
-sameBytes (x ∷ xs) [] = false
-sameBytes (x ∷ xs) (y ∷ ys) = eqb x y && sameBytes xs ys
-
 -- `set`
-abbrev pub setWord : List ℕ
-setWord = 115 ∷ 101 ∷ 116 ∷ []
+abbrev pub setCommand : List ℕ
+setCommand = 115 ∷ 101 ∷ 116 ∷ []
 
 -- `age`
-abbrev pub ageWord : List ℕ
-ageWord = 97 ∷ 103 ∷ 101 ∷ []
+abbrev pub ageCommand : List ℕ
+ageCommand = 97 ∷ 103 ∷ 101 ∷ []
 
 -- `get`
-abbrev pub getWord : List ℕ
-getWord = 103 ∷ 101 ∷ 116 ∷ []
+abbrev pub getCommand : List ℕ
+getCommand = 103 ∷ 101 ∷ 116 ∷ []
 
 -- `ask`
-abbrev pub askWord : List ℕ
-askWord = 97 ∷ 115 ∷ 107 ∷ []
+abbrev pub askCommand : List ℕ
+askCommand = 97 ∷ 115 ∷ 107 ∷ []
 
 -- `fewest`
-abbrev pub fewestWord : List ℕ
-fewestWord = 102 ∷ 101 ∷ 119 ∷ 101 ∷ 115 ∷ 116 ∷ []
+abbrev pub fewestCommand : List ℕ
+fewestCommand = 102 ∷ 101 ∷ 119 ∷ 101 ∷ 115 ∷ 116 ∷ []
 
 -- a command that needs a taken `set` before it
-unfoldable pub laterLine : List ℕ → List ℕ → List ℕ → Outcome
+unfoldable pub laterLine : List ℕ → List ℕ → List ℕ → LineResult
 laterLine word ns s =
-    cond (sameBytes word ageWord) (ageLine ns s)
-    (cond (sameBytes word getWord) (getLine ns s)
-    (cond (sameBytes word askWord) (askLine ns s)
-    (cond (sameBytes word fewestWord) (fewestLine ns s)
+    cond (sameBytes word ageCommand) (ageLine ns s)
+    (cond (sameBytes word getCommand) (getLine ns s)
+    (cond (sameBytes word askCommand) (askLine ns s)
+    (cond (sameBytes word fewestCommand) (fewestLine ns s)
     (badLine true s))))
 
-unfoldable pub wordLine : List ℕ → List ℕ → Bool → List ℕ → Outcome
+unfoldable pub wordLine : List ℕ → List ℕ → Bool → List ℕ → LineResult
 wordLine word ns begun s =
-    cond (sameBytes word setWord) (setLine ns begun s) (cond begun (laterLine word ns s) (badLine begun s))
+    cond (sameBytes word setCommand) (setLine ns begun s) (cond begun (laterLine word ns s) (badLine begun s))
 
 -- ---- a line
 
 -- the first field is the command word, and the others are numbers
-unfoldable pub fieldsLine : List (List ℕ) → Bool → List ℕ → Outcome
+unfoldable pub fieldsLine : List (List ℕ) → Bool → List ℕ → LineResult
 fieldsLine [] begun s = badLine begun s
 fieldsLine (word ∷ fs) begun s = cond (all isNumber fs) (wordLine word (map value fs) begun s) (badLine begun s)
 
 -- "A line above 200 bytes or empty is a `bad line`": an empty line's one field is no command word
-unfoldable pub lineOutcome : List ℕ → Bool → List ℕ → Outcome
-lineOutcome line begun s = cond (ltb 200 (length line)) (badLine begun s) (fieldsLine (fields line) begun s)
+unfoldable pub lineResult : List ℕ → Bool → List ℕ → LineResult
+lineResult line begun s = cond (ltb lineMost (length line)) (badLine begun s) (fieldsLine (fields line) begun s)

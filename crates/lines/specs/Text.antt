@@ -1,24 +1,14 @@
--- What the listing prints, as bytes (document 01, "A listing, complete"): decimal numbers and the answer lines, each with its line feed.
+-- What the listing prints, as bytes (document 01, "A listing, complete"): the answer lines, each with its line feed.
 -- Assumes nothing: these are definitions.
-use Prim.Native.Nat.{ℕ, zero, suc, _+_, _/_, _%_}
+use Prim.Native.Nat.{ℕ}
 use mathlib.Core.Bool.{cond}
-use mathlib.Core.List.{List, [], _∷_, _++_}
-use lib.Dec.{ltb, eqb}
+use mathlib.Core.List.{List, [], _∷_}
+use lib.Dec.{eqb}
+use Rattle.fields.specs.Decimal.{withOne, withTwo}
 use Rattle.asking.specs.declared.Answer.{Answer}
 use Rattle.asking.specs.declared.Answer.the-variants.{Contradicted, Open, Between}
 use Rattle.asking.specs.declared.Fewest.{Fewest}
 use Rattle.asking.specs.declared.Fewest.the-variants.{Over, Few}
-
--- ---- numbers
-
--- the decimal digits of n, where it has at most k of them
-unfoldable pub digits : ℕ → ℕ → List ℕ
-digits zero n = []
-digits (suc k) n = cond (ltb n 10) ((48 + n) ∷ []) (digits k (n / 10) ++ ((48 + n % 10) ∷ []))
-
--- a number of 64 bits has at most 20 digits
-abbrev pub decimal : ℕ → List ℕ
-decimal n = digits 20 n
 
 -- ---- the words, with the space or the line feed behind them
 
@@ -55,14 +45,6 @@ abbrev pub badText : List ℕ
 badText = 98 ∷ 97 ∷ 100 ∷ 32 ∷ 108 ∷ 105 ∷ 110 ∷ 101 ∷ 10 ∷ []
 
 -- ---- the answer lines
-
--- a word and a number
-unfoldable pub withOne : List ℕ → ℕ → List ℕ
-withOne word a = word ++ (decimal a ++ (10 ∷ []))
-
--- a word and two numbers
-unfoldable pub withTwo : List ℕ → ℕ → ℕ → List ℕ
-withTwo word a b = word ++ (decimal a ++ ((32 ∷ []) ++ (decimal b ++ (10 ∷ []))))
 
 -- "`ok`, `refused` number"
 unfoldable pub numberText : ℕ → List ℕ

@@ -3,30 +3,34 @@ ghost use mathlib.Core.Path.{_≡_};
 ghost use Prim.Native.Nat.{_≤_};
 ghost use lib.ListN.{length};
 ghost use Rattle.numbers.specs.Numbers.{put};
-ghost use Rattle.lines.specs.Lines.{setLine, ageLine, getLine, askLine, fewestLine, laterLine, wordLine};
+ghost use Rattle.lines.specs.Lines.{LineResult, setLine, ageLine, getLine, askLine, fewestLine, laterLine, wordLine};
+ghost use Rattle.lines.specs.code.Sizes.{valuesMost, answerMost};
 use crate::Answered;
-use crate::read;
+use crate::VALUES_MOST;
 use crate::text;
+use fields::read;
+
+// The message of a `get` line has at most these bytes: four for each field behind the two delays.
+const MESSAGE_MOST: usize = (VALUES_MOST - 2) * 4;
 
 // `set` own drift reading.
-pub fn set_line(fields: &[u64], state: &mut [u8], begun: bool, out: &mut [u8]) -> Answered
-    requires { ⌜ 64 ≤ length (now out) ⌝ }
-    ensures { λ r. ⌜ r .begun ≡ setLine (now (fields .entry)) begun (now (state .entry)) .begun ⌝ }
-    ensures { λ r. ⌜ r .size ≡ length (setLine (now (fields .entry)) begun (now (state .entry)) .text) ⌝ }
-    ensures { λ _. ⌜ now (state .exit) ≡ setLine (now (fields .entry)) begun (now (state .entry)) .state ⌝ }
-    ensures { λ _. ⌜ now (out .exit) ≡ put 0 (setLine (now (fields .entry)) begun (now (state .entry)) .text) (now (out .entry)) ⌝ }
+pub fn set_line(values: &[u64], state: &mut [u8], begun: bool, out: &mut [u8]) -> Answered
+    requires { ⌜ answerMost ≤ length (now out) ⌝ }
+    ensures { λ r. ⌜ (let result : LineResult = setLine (now (values .entry)) begun (now (state .entry)) in
+        (r .begun ≡ result .begun) × (r .size ≡ length (result .text)) × (now (state .exit) ≡ result .state)
+        × (now (out .exit) ≡ put 0 (result .text) (now (out .entry)))) ⌝ }
 {
-    if fields.len() != 3 {
-        let size = text::put_text(out, 0, b"bad line\n");
+    if values.len() != 3 {
+        let size = text::put_bad(out);
         return Answered { begun, size };
     }
-    let own = fields[0];
-    let drift = fields[1];
+    let own = values[0];
+    let drift = values[1];
     if !((own < 4_294_967_296) & (drift < 4_294_967_296)) {
-        let size = text::put_text(out, 0, b"bad line\n");
+        let size = text::put_bad(out);
         return Answered { begun, size };
     }
-    let number = monitor::calls::monitor_set_up(state, own as u32, drift as u32, fields[2]);
+    let number = monitor::calls::monitor_set_up(state, own as u32, drift as u32, values[2]);
     let size = text::put_number(out, number);
     Answered {
         begun: begun | (number == 0),
@@ -35,51 +39,49 @@ pub fn set_line(fields: &[u64], state: &mut [u8], begun: bool, out: &mut [u8]) -
 }
 
 // `age` reading.
-fn age_line(fields: &[u64], state: &mut [u8], out: &mut [u8]) -> usize
-    requires { ⌜ 64 ≤ length (now out) ⌝ }
-    ensures { λ r. ⌜ r ≡ length (ageLine (now (fields .entry)) (now (state .entry)) .text) ⌝ }
-    ensures { λ _. ⌜ now (state .exit) ≡ ageLine (now (fields .entry)) (now (state .entry)) .state ⌝ }
-    ensures { λ _. ⌜ now (out .exit) ≡ put 0 (ageLine (now (fields .entry)) (now (state .entry)) .text) (now (out .entry)) ⌝ }
+fn age_line(values: &[u64], state: &mut [u8], out: &mut [u8]) -> usize
+    requires { ⌜ answerMost ≤ length (now out) ⌝ }
+    ensures { λ r. ⌜ (let result : LineResult = ageLine (now (values .entry)) (now (state .entry)) in
+        (r ≡ length (result .text)) × (now (state .exit) ≡ result .state) × (now (out .exit) ≡ put 0 (result .text) (now (out .entry)))) ⌝ }
 {
-    if fields.len() != 1 {
-        return text::put_text(out, 0, b"bad line\n");
+    if values.len() != 1 {
+        return text::put_bad(out);
     }
-    let number = monitor::calls::monitor_age(state, fields[0]);
+    let number = monitor::calls::monitor_age(state, values[0]);
     text::put_number(out, number)
 }
 
 // `get` least greatest words: the words as bytes are the message.
-fn get_line(fields: &[u64], state: &mut [u8], out: &mut [u8]) -> usize
-    requires { ⌜ (length (now fields) ≤ 101) × (64 ≤ length (now out)) ⌝ }
-    ensures { λ r. ⌜ r ≡ length (getLine (now (fields .entry)) (now (state .entry)) .text) ⌝ }
-    ensures { λ _. ⌜ now (state .exit) ≡ getLine (now (fields .entry)) (now (state .entry)) .state ⌝ }
-    ensures { λ _. ⌜ now (out .exit) ≡ put 0 (getLine (now (fields .entry)) (now (state .entry)) .text) (now (out .entry)) ⌝ }
+fn get_line(values: &[u64], state: &mut [u8], out: &mut [u8]) -> usize
+    requires { ⌜ (length (now values) ≤ valuesMost) × (answerMost ≤ length (now out)) ⌝ }
+    ensures { λ r. ⌜ (let result : LineResult = getLine (now (values .entry)) (now (state .entry)) in
+        (r ≡ length (result .text)) × (now (state .exit) ≡ result .state) × (now (out .exit) ≡ put 0 (result .text) (now (out .entry)))) ⌝ }
 {
-    if fields.len() < 2 {
-        return text::put_text(out, 0, b"bad line\n");
+    if values.len() < 2 {
+        return text::put_bad(out);
     }
-    let fits = read::words_fit(&fields[2..]);
+    let fits = read::words_fit(&values[2..]);
     if !fits {
-        return text::put_text(out, 0, b"bad line\n");
+        return text::put_bad(out);
     }
-    let mut message = [0u8; 400];
-    read::message_bytes(&fields[2..], &mut message);
-    let size = (fields.len() - 2) * 4;
-    let number = monitor::receive::monitor_receive(state, fields[0], fields[1], &message[..size]);
+    let mut message = [0u8; MESSAGE_MOST];
+    read::message_bytes(&values[2..], &mut message);
+    let size = (values.len() - 2) * 4;
+    let number = monitor::receive::monitor_receive(state, values[0], values[1], &message[..size]);
     text::put_number(out, number)
 }
 
 // `ask` limit.
-fn ask_line(fields: &[u64], state: &[u8], out: &mut [u8]) -> usize
-    requires { ⌜ 64 ≤ length (now out) ⌝ }
-    ensures { λ r. ⌜ r ≡ length (askLine (now (fields .entry)) (now (state .entry)) .text) ⌝ }
-    ensures { λ _. ⌜ now (out .exit) ≡ put 0 (askLine (now (fields .entry)) (now (state .entry)) .text) (now (out .entry)) ⌝ }
+fn ask_line(values: &[u64], state: &[u8], out: &mut [u8]) -> usize
+    requires { ⌜ answerMost ≤ length (now out) ⌝ }
+    ensures { λ r. ⌜ (let result : LineResult = askLine (now (values .entry)) (now (state .entry)) in
+        (r ≡ length (result .text)) × (now (out .exit) ≡ put 0 (result .text) (now (out .entry)))) ⌝ }
 {
-    if fields.len() != 1 {
-        return text::put_text(out, 0, b"bad line\n");
+    if values.len() != 1 {
+        return text::put_bad(out);
     }
     let mut answer = [0u8; 24];
-    let number = monitor::questions::monitor_ask(state, fields[0], &mut answer);
+    let number = monitor::questions::monitor_ask(state, values[0], &mut answer);
     if number != 0 {
         return text::put_number(out, number);
     }
@@ -87,13 +89,13 @@ fn ask_line(fields: &[u64], state: &[u8], out: &mut [u8]) -> usize
 }
 
 // `fewest`.
-fn fewest_line(fields: &[u64], state: &[u8], out: &mut [u8]) -> usize
-    requires { ⌜ 64 ≤ length (now out) ⌝ }
-    ensures { λ r. ⌜ r ≡ length (fewestLine (now (fields .entry)) (now (state .entry)) .text) ⌝ }
-    ensures { λ _. ⌜ now (out .exit) ≡ put 0 (fewestLine (now (fields .entry)) (now (state .entry)) .text) (now (out .entry)) ⌝ }
+fn fewest_line(values: &[u64], state: &[u8], out: &mut [u8]) -> usize
+    requires { ⌜ answerMost ≤ length (now out) ⌝ }
+    ensures { λ r. ⌜ (let result : LineResult = fewestLine (now (values .entry)) (now (state .entry)) in
+        (r ≡ length (result .text)) × (now (out .exit) ≡ put 0 (result .text) (now (out .entry)))) ⌝ }
 {
-    if fields.len() != 0 {
-        return text::put_text(out, 0, b"bad line\n");
+    if values.len() != 0 {
+        return text::put_bad(out);
     }
     let mut answer = [0u8; 16];
     let number = monitor::questions::monitor_fewest(state, &mut answer);
@@ -104,48 +106,46 @@ fn fewest_line(fields: &[u64], state: &[u8], out: &mut [u8]) -> usize
 }
 
 // A command that needs a taken `set` before it.
-pub fn later_line(word: &[u8], fields: &[u64], state: &mut [u8], out: &mut [u8]) -> usize
-    requires { ⌜ (length (now fields) ≤ 101) × (64 ≤ length (now out)) ⌝ }
-    ensures { λ r. ⌜ r ≡ length (laterLine (now (word .entry)) (now (fields .entry)) (now (state .entry)) .text) ⌝ }
-    ensures { λ _. ⌜ now (state .exit) ≡ laterLine (now (word .entry)) (now (fields .entry)) (now (state .entry)) .state ⌝ }
-    ensures { λ _. ⌜ now (out .exit) ≡ put 0 (laterLine (now (word .entry)) (now (fields .entry)) (now (state .entry)) .text) (now (out .entry)) ⌝ }
+pub fn later_line(word: &[u8], values: &[u64], state: &mut [u8], out: &mut [u8]) -> usize
+    requires { ⌜ (length (now values) ≤ valuesMost) × (answerMost ≤ length (now out)) ⌝ }
+    ensures { λ r. ⌜ (let result : LineResult = laterLine (now (word .entry)) (now (values .entry)) (now (state .entry)) in
+        (r ≡ length (result .text)) × (now (state .exit) ≡ result .state) × (now (out .exit) ≡ put 0 (result .text) (now (out .entry)))) ⌝ }
 {
     if read::same(word, b"age") {
-        return age_line(fields, state, out);
+        return age_line(values, state, out);
     }
     if read::same(word, b"get") {
-        return get_line(fields, state, out);
+        return get_line(values, state, out);
     }
     if read::same(word, b"ask") {
-        return ask_line(fields, state, out);
+        return ask_line(values, state, out);
     }
     if read::same(word, b"fewest") {
-        return fewest_line(fields, state, out);
+        return fewest_line(values, state, out);
     }
-    text::put_text(out, 0, b"bad line\n")
+    text::put_bad(out)
 }
 
 // A command word with the numbers of its fields.
 pub fn word_line(
     word: &[u8],
-    fields: &[u64],
+    values: &[u64],
     state: &mut [u8],
     begun: bool,
     out: &mut [u8],
 ) -> Answered
-    requires { ⌜ (length (now fields) ≤ 101) × (64 ≤ length (now out)) ⌝ }
-    ensures { λ r. ⌜ r .begun ≡ wordLine (now (word .entry)) (now (fields .entry)) begun (now (state .entry)) .begun ⌝ }
-    ensures { λ r. ⌜ r .size ≡ length (wordLine (now (word .entry)) (now (fields .entry)) begun (now (state .entry)) .text) ⌝ }
-    ensures { λ _. ⌜ now (state .exit) ≡ wordLine (now (word .entry)) (now (fields .entry)) begun (now (state .entry)) .state ⌝ }
-    ensures { λ _. ⌜ now (out .exit) ≡ put 0 (wordLine (now (word .entry)) (now (fields .entry)) begun (now (state .entry)) .text) (now (out .entry)) ⌝ }
+    requires { ⌜ (length (now values) ≤ valuesMost) × (answerMost ≤ length (now out)) ⌝ }
+    ensures { λ r. ⌜ (let result : LineResult = wordLine (now (word .entry)) (now (values .entry)) begun (now (state .entry)) in
+        (r .begun ≡ result .begun) × (r .size ≡ length (result .text)) × (now (state .exit) ≡ result .state)
+        × (now (out .exit) ≡ put 0 (result .text) (now (out .entry)))) ⌝ }
 {
     if read::same(word, b"set") {
-        return set_line(fields, state, begun, out);
+        return set_line(values, state, begun, out);
     }
     if !begun {
-        let size = text::put_text(out, 0, b"bad line\n");
+        let size = text::put_bad(out);
         return Answered { begun, size };
     }
-    let size = later_line(word, fields, state, out);
+    let size = later_line(word, values, state, out);
     Answered { begun, size }
 }

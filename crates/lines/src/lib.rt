@@ -4,12 +4,21 @@ ghost use mathlib.Core.Path.{_≡_};
 ghost use Prim.Native.Nat.{_≤_};
 ghost use lib.ListN.{length};
 ghost use Rattle.numbers.specs.Numbers.{put};
-ghost use Rattle.lines.specs.Lines.{lineOutcome};
+ghost use Rattle.lines.specs.code.Sizes.{answerMost};
+ghost use Rattle.lines.specs.Lines.{LineResult, lineResult};
 
 pub mod commands;
-pub mod read;
 pub mod stream;
 pub mod text;
+
+// A line has at most these bytes, without its line feed.
+pub const LINE_MOST: usize = 200;
+
+// So many fields have room in a line: each has a byte, and a space before the next.
+const VALUES_MOST: usize = LINE_MOST / 2 + 1;
+
+// No answer is longer, with its line feed.
+pub const ANSWER_MOST: usize = 64;
 
 // Whether a `set` was taken by now, and how many bytes were printed.
 pub struct Answered {
@@ -20,22 +29,22 @@ pub struct Answered {
 // Carries a line out, its bytes without the line feed, and writes the answer with its line feed at the front of `out`. `begun` says whether a `set`
 // was taken before, and the state is that of the last one.
 pub fn answer(line: &[u8], state: &mut [u8], begun: bool, out: &mut [u8]) -> Answered
-    requires { ⌜ 64 ≤ length (now out) ⌝ }
-    ensures { λ r. ⌜ r .begun ≡ lineOutcome (now (line .entry)) begun (now (state .entry)) .begun ⌝ }
-    ensures { λ r. ⌜ r .size ≡ length (lineOutcome (now (line .entry)) begun (now (state .entry)) .text) ⌝ }
-    ensures { λ _. ⌜ now (state .exit) ≡ lineOutcome (now (line .entry)) begun (now (state .entry)) .state ⌝ }
-    ensures { λ _. ⌜ now (out .exit) ≡ put 0 (lineOutcome (now (line .entry)) begun (now (state .entry)) .text) (now (out .entry)) ⌝ }
+    requires { ⌜ answerMost ≤ length (now out) ⌝ }
+    ensures { λ r. ⌜ (let result : LineResult = lineResult (now (line .entry)) begun (now (state .entry)) in
+        (r .begun ≡ result .begun) × (r .size ≡ length (result .text)) × (now (state .exit) ≡ result .state)
+        × (now (out .exit) ≡ put 0 (result .text) (now (out .entry)))) ⌝ }
 {
-    if 200 < line.len() {
-        let size = text::put_text(out, 0, b"bad line\n");
+    if LINE_MOST < line.len() {
+        let size = text::put_bad(out);
         return Answered { begun, size };
     }
-    let end = read::field_end(line, 0);
-    let mut values = [0u64; 101];
-    let n = read::numbers_behind(line, end, &mut values);
-    if n == 255 {
-        let size = text::put_text(out, 0, b"bad line\n");
+    let end = fields::read::field_end(line, 0);
+    let mut values = [0u64; VALUES_MOST];
+    let got = fields::read::numbers_behind(line, end, &mut values);
+    if !got.good {
+        let size = text::put_bad(out);
         return Answered { begun, size };
     }
+    let n = got.count;
     commands::word_line(&line[..end], &values[..n], state, begun, out)
 }

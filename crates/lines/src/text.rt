@@ -1,124 +1,62 @@
-// The lines that the listing prints, as bytes at a place of the output.
+// The lines that the listing prints, as bytes at the front of the output.
 ghost use mathlib.Core.Path.{_≡_};
-ghost use Prim.Native.Nat.{_+_, _^_, _≤_, _<_};
+ghost use Prim.Native.Nat.{_≤_};
 ghost use lib.ListN.{length};
 ghost use Rattle.numbers.specs.Numbers.{put};
 ghost use Rattle.monitor.specs.Ask.{answerIn, fewestIn};
-ghost use Rattle.lines.specs.Text.{digits, decimal, withOne, withTwo, numberText, answerText, fewestText};
+ghost use Rattle.lines.specs.Text.{badText, numberText, answerText, fewestText};
+ghost use Rattle.lines.specs.code.Sizes.{answerMost};
+use fields::text;
 
-// Stores the bytes of `text` in `out` from index `at` on, and answers the place behind them.
-pub fn put_text(out: &mut [u8], at: usize, text: &[u8]) -> usize
-    requires { ⌜ at + length (now text) ≤ length (now out) ⌝ }
-    ensures { λ r. ⌜ r ≡ at + length (now (text .entry)) ⌝ }
-    ensures { λ _. ⌜ now (out .exit) ≡ put at (now (text .entry)) (now (out .entry)) ⌝ }
+// The line for a line that is no command.
+pub fn put_bad(out: &mut [u8]) -> usize
+    requires { ⌜ answerMost ≤ length (now out) ⌝ }
+    ensures { λ r. ⌜ r ≡ length badText ⌝ }
+    ensures { λ _. ⌜ now (out .exit) ≡ put 0 badText (now (out .entry)) ⌝ }
 {
-    let mut i: usize = 0;
-    while i < text.len() {
-        out[at + i] = text[i];
-        i += 1;
-    }
-    at + i
-}
-
-// The digit d as a byte.
-fn glyph(d: u64) -> u8
-    requires { ⌜ d < 10 ⌝ }
-    ensures { λ r. ⌜ r ≡ 48 + d ⌝ }
-{
-    48 + d as u8
-}
-
-// Stores the decimal digits of n, at most k, from index `at` on, and answers the place behind them: those of n / 10, then the last one.
-fn put_digits(out: &mut [u8], at: usize, k: usize, n: u64) -> usize
-    requires { ⌜ (at + k ≤ length (now out)) × (n < 10 ^ k) ⌝ }
-    ensures { λ r. ⌜ (r ≡ at + length (digits k n)) × (r ≤ at + k) ⌝ }
-    ensures { λ _. ⌜ now (out .exit) ≡ put at (digits k n) (now (out .entry)) ⌝ }
-{
-    if k == 0 {
-        return at;
-    }
-    if n < 10 {
-        out[at] = glyph(n);
-        return at + 1;
-    }
-    let end = put_digits(out, at, k - 1, n / 10);
-    out[end] = glyph(n % 10);
-    end + 1
-}
-
-// Stores a number in decimal.
-fn put_decimal(out: &mut [u8], at: usize, n: u64) -> usize
-    requires { ⌜ at + 20 ≤ length (now out) ⌝ }
-    ensures { λ r. ⌜ (r ≡ at + length (decimal n)) × (r ≤ at + 20) ⌝ }
-    ensures { λ _. ⌜ now (out .exit) ≡ put at (decimal n) (now (out .entry)) ⌝ }
-{
-    put_digits(out, at, 20, n)
-}
-
-// The line of a word and a number at the front of the output; answers how many bytes it has.
-fn put_one(out: &mut [u8], word: &[u8], a: u64) -> usize
-    requires { ⌜ (length (now word) ≤ 8) × (64 ≤ length (now out)) ⌝ }
-    ensures { λ r. ⌜ r ≡ length (withOne (now (word .entry)) a) ⌝ }
-    ensures { λ _. ⌜ now (out .exit) ≡ put 0 (withOne (now (word .entry)) a) (now (out .entry)) ⌝ }
-{
-    let first = put_text(out, 0, word);
-    let second = put_decimal(out, first, a);
-    put_text(out, second, b"\n")
-}
-
-// The line of a word and two numbers at the front of the output.
-pub fn put_two(out: &mut [u8], word: &[u8], a: u64, b: u64) -> usize
-    requires { ⌜ (length (now word) ≤ 8) × (64 ≤ length (now out)) ⌝ }
-    ensures { λ r. ⌜ r ≡ length (withTwo (now (word .entry)) a b) ⌝ }
-    ensures { λ _. ⌜ now (out .exit) ≡ put 0 (withTwo (now (word .entry)) a b) (now (out .entry)) ⌝ }
-{
-    let first = put_text(out, 0, word);
-    let second = put_decimal(out, first, a);
-    let third = put_text(out, second, b" ");
-    let last = put_decimal(out, third, b);
-    put_text(out, last, b"\n")
+    text::put_text(out, 0, b"bad line\n")
 }
 
 // The line for the number of a call: `ok`, or `refused` and the number.
 pub fn put_number(out: &mut [u8], number: u32) -> usize
-    requires { ⌜ 64 ≤ length (now out) ⌝ }
+    requires { ⌜ answerMost ≤ length (now out) ⌝ }
     ensures { λ r. ⌜ r ≡ length (numberText number) ⌝ }
     ensures { λ _. ⌜ now (out .exit) ≡ put 0 (numberText number) (now (out .entry)) ⌝ }
 {
     if number == 0 {
-        return put_text(out, 0, b"ok\n");
+        return text::put_text(out, 0, b"ok\n");
     }
-    put_one(out, b"refused ", number as u64)
+    text::put_one(out, b"refused ", number as u64)
 }
 
 // The line for the 24 bytes that asking gives: `contradicted`, `open`, or `between` and both ends.
 pub fn put_answer(out: &mut [u8], answer: &[u8]) -> usize
-    requires { ⌜ (24 ≤ length (now answer)) × (64 ≤ length (now out)) ⌝ }
+    requires { ⌜ (24 ≤ length (now answer)) × (answerMost ≤ length (now out)) ⌝ }
     ensures { λ r. ⌜ r ≡ length (answerText (answerIn (now (answer .entry)))) ⌝ }
     ensures { λ _. ⌜ now (out .exit) ≡ put 0 (answerText (answerIn (now (answer .entry)))) (now (out .entry)) ⌝ }
 {
     let kind = numbers::get64(answer, 0);
     if kind == 0 {
-        return put_text(out, 0, b"contradicted\n");
+        return text::put_text(out, 0, b"contradicted\n");
     }
     if kind == 1 {
-        return put_text(out, 0, b"open\n");
+        return text::put_text(out, 0, b"open\n");
     }
     let left = numbers::get64(answer, 8);
     let right = numbers::get64(answer, 16);
-    put_two(out, b"between ", left, right)
+    text::put_two(out, b"between ", left, right)
 }
 
 // The line for the 16 bytes that the fewest failures give: `fewest over 4`, or `fewest` with count and mask.
 pub fn put_fewest(out: &mut [u8], answer: &[u8]) -> usize
-    requires { ⌜ (16 ≤ length (now answer)) × (64 ≤ length (now out)) ⌝ }
+    requires { ⌜ (16 ≤ length (now answer)) × (answerMost ≤ length (now out)) ⌝ }
     ensures { λ r. ⌜ r ≡ length (fewestText (fewestIn (now (answer .entry)))) ⌝ }
     ensures { λ _. ⌜ now (out .exit) ≡ put 0 (fewestText (fewestIn (now (answer .entry)))) (now (out .entry)) ⌝ }
 {
     let count = numbers::get64(answer, 0);
     if count == 5 {
-        return put_text(out, 0, b"fewest over 4\n");
+        return text::put_text(out, 0, b"fewest over 4\n");
     }
     let mask = numbers::get64(answer, 8);
-    put_two(out, b"fewest ", count, mask)
+    text::put_two(out, b"fewest ", count, mask)
 }

@@ -13,16 +13,20 @@ use Rattle.lines.proofs.commands.get_line.Tie as tie
 returns : tie.Need-returns
 unfolding getLine badLine
 returns c =
-    let few = lt-leb _ _ (c .before .before .before .before .before .if1 .taken) in
-    (rw few (c .before .before .put-text .ensures .0), (rw few, rw few (c .before .before .put-text .ensures .1)))
+    let few = lt-leb _ _ (c .before .before .before .before .if1 .taken) in
+    let printed = c .before .before .put-bad .ensures in
+    (rw few (printed .0), rw few, rw few (printed .1))
 
 returns-2 : tie.Need-returns-2
 unfolding getLine badLine
 returns-2 c =
-    let ns = c .before .before .before .before .before .before .before .before .before .before .before .before .args .fields .now in
-    let many = le-leb _ _ (c .before .before .before .before .before .before .before .before .if1 .left) in
-    let wide = rw (behind-two ns) at (sym (c .before .before .before .before .before .before .words-fit .ensures) ∙ not-true _ (c .before .before .before .before .before .if2 .taken)) in
-    (rw (many, wide) (c .before .before .put-text2 .ensures .0), (rw (many, wide), rw (many, wide) (c .before .before .put-text2 .ensures .1)))
+    let at-fit = c .before .before .before .before .before in
+    let at-two = at-fit .before .before in
+    let ns = at-two .before .before .before .before .args .values .now in
+    let many = le-leb _ _ (at-two .if1 .left) in
+    let wide = rw (behind-two ns) at (sym (at-fit .words-fit .ensures) ∙ not-true _ (c .before .before .before .before .if2 .taken)) in
+    let printed = c .before .before .put-bad2 .ensures in
+    (rw (many, wide) (printed .0), rw (many, wide), rw (many, wide) (printed .1))
 
 slice-aggregate-monitor-receive : tie.Need-slice-aggregate-monitor-receive
 slice-aggregate-monitor-receive c = sym (length-take-le _ _ (omega arith))
@@ -30,21 +34,23 @@ slice-aggregate-monitor-receive c = sym (length-take-le _ _ (omega arith))
 returns-3 : tie.Need-returns-3
 unfolding getLine badLine
 returns-3 c =
-    let ns = c .before .before .before .before .before .before .before .before .before .before .before .before .before .before .before .before .before .before .before .before .before .before .args .fields .now in
-    let many = le-leb _ _ (c .before .before .before .before .before .before .before .before .before .before .before .before .before .before .before .before .before .before .if1 .left) in
-    let fit = rw (behind-two ns) at (sym (c .before .before .before .before .before .before .before .before .before .before .before .before .before .before .before .before .words-fit .ensures) ∙ not-false _ (c .before .before .before .before .before .before .before .before .before .before .before .before .before .before .before .if2 .left)) in
-    let message = message-at-front ns _ _ (omega arith) (c .before .before .before .before .before .before .before .before .before .before .before .before .message-bytes .ensures) in
-    let number = rw message at (c .before .before .before .before .before .before .monitor-receive .ensures .0) in
-    let state = rw message at (c .before .before .before .before .before .before .monitor-receive .ensures .1) in (
-      rw (many, fit, ← number) (c .before .before .put-number .ensures .0),
-      (rw (many, fit) state, rw (many, fit, ← number) (c .before .before .put-number .ensures .1)),
-    )
+    let at-receive = c .before .before .before .before .before .before in
+    let at-bytes = at-receive .before .before .before .before .before .before in
+    let at-words = at-bytes .before .before .before in
+    let at-two = at-words .before .before .before in
+    let ns = at-two .before .before .before .before .args .values .now in
+    let many = le-leb _ _ (at-two .if1 .left) in
+    let fit = rw (behind-two ns) at (sym (at-words .before .words-fit .ensures) ∙ not-false _ (at-words .if2 .left)) in
+    let message = message-at-front ns _ _ (omega arith) (at-bytes .message-bytes .ensures) in
+    let number = rw message at (at-receive .monitor-receive .ensures .0) in
+    let state = rw message at (at-receive .monitor-receive .ensures .1) in
+    let printed = c .before .before .put-number .ensures in
+    (rw (many, fit, ← number) (printed .0), rw (many, fit) state, rw (many, fit, ← number) (printed .1))
 
 pub get-line-spec : {M : Type 1} → statement M
 get-line-spec =
     tie.close
     (tie.spec
-    (λ c. search needs)
     (λ c κs. search needs)
     (λ c. search needs)
     returns
@@ -52,7 +58,6 @@ get-line-spec =
     (λ c. search needs)
     (λ c. search needs)
     (λ c κs. search needs)
-    (λ c. search needs)
     (λ c κs. search needs)
     (λ c. search needs)
     returns-2

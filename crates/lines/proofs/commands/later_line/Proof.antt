@@ -7,53 +7,62 @@ use Rattle.lines.proofs.commands.later_line.Statement.{statement}
 use Rattle.lines.proofs.commands.later_line.Tie as tie
 
 returns : tie.Need-returns
-unfolding laterLine badLine
+unfolding laterLine
 returns c =
-    let age = sym (c .before .before .before .before .before .before .before .before .same .ensures) ∙ c .before .before .before .before .before .before .before .if1 .taken in (
-      rw (age) (c .before .before .before .before .age-line .ensures .0),
-      (rw (age) (c .before .before .before .before .age-line .ensures .1 .0), rw (age) (c .before .before .before .before .age-line .ensures .1 .1)),
-    )
+    let at-age = c .before .before .before .before .before .before .before in
+    let age = sym (at-age .before .same .ensures) ∙ at-age .if1 .taken in
+    let told = c .before .before .before .before .age-line .ensures in
+    (rw age (told .0), rw age (told .1), rw age (told .2))
 
 returns-2 : tie.Need-returns-2
-unfolding laterLine badLine
+unfolding laterLine
 returns-2 c =
-    let age = sym (c .before .before .before .before .before .before .before .before .before .before .before .same .ensures) ∙ c .before .before .before .before .before .before .before .before .before .before .if1 .left in
-    let get = sym (c .before .before .before .before .before .before .before .before .same2 .ensures) ∙ c .before .before .before .before .before .before .before .if2 .taken in (
-      rw (age, get) (c .before .before .before .before .get-line .ensures .0),
-      (rw (age, get) (c .before .before .before .before .get-line .ensures .1 .0), rw (age, get) (c .before .before .before .before .get-line .ensures .1 .1)),
-    )
+    let at-get = c .before .before .before .before .before .before .before in
+    let at-age = at-get .before .before .before in
+    let age = sym (at-age .before .same .ensures) ∙ at-age .if1 .left in
+    let get = sym (at-get .before .same2 .ensures) ∙ at-get .if2 .taken in
+    let told = c .before .before .before .before .get-line .ensures in
+    (rw (age, get) (told .0), rw (age, get) (told .1), rw (age, get) (told .2))
 
 returns-3 : tie.Need-returns-3
-unfolding laterLine badLine
+unfolding laterLine
 returns-3 c =
-    let age = sym (c .before .before .before .before .before .before .before .before .before .before .before .before .same .ensures) ∙ c .before .before .before .before .before .before .before .before .before .before .before .if1 .left in
-    let get = sym (c .before .before .before .before .before .before .before .before .before .same2 .ensures) ∙ c .before .before .before .before .before .before .before .before .if2 .left in
-    let ask = sym (c .before .before .before .before .before .before .same3 .ensures) ∙ c .before .before .before .before .before .if3 .taken in (
-      rw (age, get, ask) (c .before .before .ask-line .ensures .0),
-      (rw (age, get, ask) (sym (ask-state _ _)), rw (age, get, ask) (c .before .before .ask-line .ensures .1)),
-    )
+    let at-ask = c .before .before .before .before .before in
+    let at-get = at-ask .before .before .before in
+    let at-age = at-get .before .before .before in
+    let age = sym (at-age .before .same .ensures) ∙ at-age .if1 .left in
+    let get = sym (at-get .before .same2 .ensures) ∙ at-get .if2 .left in
+    let ask = sym (at-ask .before .same3 .ensures) ∙ at-ask .if3 .taken in
+    let told = c .before .before .ask-line .ensures in
+    (rw (age, get, ask) (told .0), rw (age, get, ask) (sym (ask-state _ _)), rw (age, get, ask) (told .1))
 
 returns-4 : tie.Need-returns-4
-unfolding laterLine badLine
+unfolding laterLine
 returns-4 c =
-    let age = sym (c .before .before .before .before .before .before .before .before .before .before .before .before .before .before .before .same .ensures) ∙ c .before .before .before .before .before .before .before .before .before .before .before .before .before .before .if1 .left in
-    let get = sym (c .before .before .before .before .before .before .before .before .before .before .before .before .same2 .ensures) ∙ c .before .before .before .before .before .before .before .before .before .before .before .if2 .left in
-    let ask = sym (c .before .before .before .before .before .before .before .before .before .same3 .ensures) ∙ c .before .before .before .before .before .before .before .before .if3 .left in
-    let few = sym (c .before .before .before .before .before .before .same4 .ensures) ∙ c .before .before .before .before .before .if4 .taken in (
-      rw (age, get, ask, few) (c .before .before .fewest-line .ensures .0),
-      (rw (age, get, ask, few) (sym (fewest-state _ _)), rw (age, get, ask, few) (c .before .before .fewest-line .ensures .1)),
-    )
+    let at-fewest = c .before .before .before .before .before in
+    let at-ask = at-fewest .before .before .before in
+    let at-get = at-ask .before .before .before in
+    let at-age = at-get .before .before .before in
+    let age = sym (at-age .before .same .ensures) ∙ at-age .if1 .left in
+    let get = sym (at-get .before .same2 .ensures) ∙ at-get .if2 .left in
+    let ask = sym (at-ask .before .same3 .ensures) ∙ at-ask .if3 .left in
+    let few = sym (at-fewest .before .same4 .ensures) ∙ at-fewest .if4 .taken in
+    let told = c .before .before .fewest-line .ensures in
+    (rw (age, get, ask, few) (told .0), rw (age, get, ask, few) (sym (fewest-state _ _)), rw (age, get, ask, few) (told .1))
 
 returns-5 : tie.Need-returns-5
 unfolding laterLine badLine
 returns-5 c =
-    let age = sym (c .before .before .before .before .before .before .before .before .before .before .before .before .before .before .before .same .ensures) ∙ c .before .before .before .before .before .before .before .before .before .before .before .before .before .before .if1 .left in
-    let get = sym (c .before .before .before .before .before .before .before .before .before .before .before .before .same2 .ensures) ∙ c .before .before .before .before .before .before .before .before .before .before .before .if2 .left in
-    let ask = sym (c .before .before .before .before .before .before .before .before .before .same3 .ensures) ∙ c .before .before .before .before .before .before .before .before .if3 .left in
-    let few = sym (c .before .before .before .before .before .before .same4 .ensures) ∙ c .before .before .before .before .before .if4 .left in (
-      rw (age, get, ask, few) (c .before .before .put-text .ensures .0),
-      (rw (age, get, ask, few), rw (age, get, ask, few) (c .before .before .put-text .ensures .1)),
-    )
+    let at-fewest = c .before .before .before .before in
+    let at-ask = at-fewest .before .before .before in
+    let at-get = at-ask .before .before .before in
+    let at-age = at-get .before .before .before in
+    let age = sym (at-age .before .same .ensures) ∙ at-age .if1 .left in
+    let get = sym (at-get .before .same2 .ensures) ∙ at-get .if2 .left in
+    let ask = sym (at-ask .before .same3 .ensures) ∙ at-ask .if3 .left in
+    let few = sym (at-fewest .before .same4 .ensures) ∙ at-fewest .if4 .left in
+    let printed = c .before .before .put-bad .ensures in
+    (rw (age, get, ask, few) (printed .0), rw (age, get, ask, few), rw (age, get, ask, few) (printed .1))
 
 pub later-line-spec : {M : Type 1} → statement M
 later-line-spec =
@@ -83,7 +92,6 @@ later-line-spec =
     (λ c. search needs)
     (λ c. search needs)
     returns-4
-    (λ c. search needs)
     (λ c κs. search needs)
     (λ c. search needs)
     returns-5)

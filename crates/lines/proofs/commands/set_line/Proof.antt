@@ -7,7 +7,8 @@ use native.Mathlib.Omega.{arith}
 use lib.ListN.{getD}
 use Rattle.predicates.proofs.ListLaws.{true-T, T-true, both-l, both-r}
 use borrow.Author.Tests.{eq-eqb, ne-eqb, not-true, not-false, ltb-true}
-use Rattle.lines.specs.Lines.{setLine, badLine, isWord}
+use Rattle.fields.specs.Fields.{isWord}
+use Rattle.lines.specs.Lines.{setLine, badLine}
 use borrow.Author.Needs.{needs}
 use Rattle.lines.proofs.commands.set_line.Statement.{statement}
 use Rattle.lines.proofs.commands.set_line.Tie as tie
@@ -15,21 +16,24 @@ use Rattle.lines.proofs.commands.set_line.Tie as tie
 returns : tie.Need-returns
 unfolding setLine badLine
 returns c =
-    let none = ne-eqb _ _ (c .before .before .before .before .before .if1 .taken) in
-    (rw none, (rw none (c .before .before .put-text .ensures .0), (rw none, rw none (c .before .before .put-text .ensures .1))))
+    let none = ne-eqb _ _ (c .before .before .before .before .if1 .taken) in
+    let printed = c .before .before .put-bad .ensures in
+    (rw none, rw none (printed .0), rw none, rw none (printed .1))
 
 returns-2 : tie.Need-returns-2
 unfolding setLine badLine
 returns-2 c =
-    let three = eq-eqb _ _ (c .before .before .before .before .before .before .before .before .if1 .left) in
-    let ns = c .before .before .before .before .before .before .before .before .before .before .before .before .args .fields .now in
-    let wide : isWord (getD ns 0 0) && isWord (getD ns 1 0) ≡ false = not-true _ (c .before .before .before .before .before .if2 .taken) in
-    (rw (three, wide), (rw (three, wide) (c .before .before .put-text2 .ensures .0), (rw (three, wide), rw (three, wide) (c .before .before .put-text2 .ensures .1))))
+    let at-three = c .before .before .before .before .before .before .before in
+    let three = eq-eqb _ _ (at-three .if1 .left) in
+    let ns = at-three .before .before .before .before .args .values .now in
+    let wide : isWord (getD ns 0 0) && isWord (getD ns 1 0) ≡ false = not-true _ (c .before .before .before .before .if2 .taken) in
+    let printed = c .before .before .put-bad2 .ensures in
+    (rw (three, wide), rw (three, wide) (printed .0), rw (three, wide), rw (three, wide) (printed .1))
 
 -- own and drift are words
-fits : (c : tie.Else2) → let ns = c .before .before .before .before .before .before .before .args .fields .now in (getD ns 0 0 < 2 ^ 32) × (getD ns 1 0 < 2 ^ 32)
+fits : (c : tie.Else2) → let ns = c .before .before .before .before .before .before .before .args .values .now in (getD ns 0 0 < 2 ^ 32) × (getD ns 1 0 < 2 ^ 32)
 fits c =
-    let ns = c .before .before .before .before .before .before .before .args .fields .now in
+    let ns = c .before .before .before .before .before .before .before .args .values .now in
     let both = true-T (isWord (getD ns 0 0) && isWord (getD ns 1 0)) (not-false _ (c .if2 .left)) in (
       ltb-true _ _ (T-true _ (both-l (isWord (getD ns 0 0)) (isWord (getD ns 1 0)) both)),
       ltb-true _ _ (T-true _ (both-r (isWord (getD ns 0 0)) (isWord (getD ns 1 0)) both)),
@@ -44,29 +48,26 @@ cast-monitor-set-up-2 c = omega (arith, fits (c .before))
 returns-3 : tie.Need-returns-3
 unfolding setLine badLine
 returns-3 c =
-    let three = eq-eqb _ _ (c .before .before .before .before .before .before .before .before .before .before .before .before .if1 .left) in
-    let ns = c .before .before .before .before .before .before .before .before .before .before .before .before .before .before .before .before .args .fields .now in
-    let fit : isWord (getD ns 0 0) && isWord (getD ns 1 0) ≡ true = not-false _ (c .before .before .before .before .before .before .before .before .before .if2 .left) in
-    let number = c .before .before .before .before .before .before .monitor-set-up .ensures .0 in (
-      rw (three, fit, ← number),
-      (
-        rw (three, fit, ← number) (c .before .before .put-number .ensures .0),
-        (
-          rw (three, fit) (c .before .before .before .before .before .before .monitor-set-up .ensures .1),
-          rw (three, fit, ← number) (c .before .before .put-number .ensures .1),
-        ),
-      ),
+    let at-words = c .before .before .before .before .before .before .before .before .before in
+    let at-three = at-words .before .before .before in
+    let three = eq-eqb _ _ (at-three .if1 .left) in
+    let ns = at-three .before .before .before .before .args .values .now in
+    let fit : isWord (getD ns 0 0) && isWord (getD ns 1 0) ≡ true = not-false _ (at-words .if2 .left) in
+    let set = c .before .before .before .before .before .before .monitor-set-up .ensures in
+    let printed = c .before .before .put-number .ensures in (
+      rw (three, fit, ← (set .0)),
+      rw (three, fit, ← (set .0)) (printed .0),
+      rw (three, fit) (set .1),
+      rw (three, fit, ← (set .0)) (printed .1),
     )
 
 pub set-line-spec : {M : Type 1} → statement M
 set-line-spec =
     tie.close
     (tie.spec
-    (λ c. search needs)
     (λ c κs. search needs)
     (λ c. search needs)
     returns
-    (λ c. search needs)
     (λ c. search needs)
     (λ c. search needs)
     (λ c κs. search needs)

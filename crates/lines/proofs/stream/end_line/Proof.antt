@@ -1,47 +1,50 @@
 -- `lines::stream::end_line` meets its contract: the answer stands at the front of an array and goes behind the output that waits. It fits, since no
--- answer is longer than 64 bytes (`line-short` of `proofs.OutcomeLaws`). Assumes nothing.
+-- answer is longer than 64 bytes (`line-short` of `proofs.ResultLaws`). Assumes nothing.
 use Prim.Native.Nat.{_≤_}
 use mathlib.Core.Path.{_≡_, refl, sym}
 use native.Mathlib.Omega.{arith}
 use lib.ListN.{length, take, length-take}
 use lib.Seq.{length-take-le}
 use Rattle.numbers.proofs.NumberLaws.{take-put}
-use Rattle.lines.specs.Lines.{lineOutcome}
-use Rattle.lines.specs.Listing.{outcome}
-use Rattle.lines.proofs.OutcomeLaws.{line-short}
+use Rattle.lines.specs.code.Sizes.{answerMost}
+use Rattle.lines.specs.Lines.{lineResult}
+use Rattle.lines.proofs.ResultLaws.{line-short}
 use borrow.Author.Needs.{needs}
 use Rattle.lines.proofs.stream.end_line.Statement.{statement}
 use Rattle.lines.proofs.stream.end_line.Tie as tie
 
-short : (c : tie.After-answer2) → c .answer2 .result .size ≤ 64
-short c = rw (c .answer2 .ensures .1 .0) (line-short _ _ _)
+short : (c : tie.After-answer2) → c .answer2 .result .size ≤ answerMost
+short c = rw (c .answer2 .ensures .1) (line-short _ _ _)
 
-kept : (c : tie.After-answer2) → length (c .answer2 .last .1 .1 .1 .0) ≡ 64
-kept c = c .answer2 .kept .1 .1 .1 .0
+whole : (c : tie.After-answer2) → length (c .answer2 .last .1 .1 .1 .0) ≡ answerMost
+whole c = c .answer2 .kept .1 .1 .1 .0
 
 text : (c : tie.After-answer2) → let a = c .before .before .before .before .before .before .args in
-    take (c .answer2 .result .size) (c .answer2 .last .1 .1 .1 .0) ≡ lineOutcome (a .line .now) (a .begun) (a .state .now) .text
-text c = rw (c .answer2 .ensures .1 .1 .1) (take-put _ _ _ (sym (c .answer2 .ensures .1 .0)) (short c))
+    take (c .answer2 .result .size) (c .answer2 .last .1 .1 .1 .0) ≡ lineResult (a .line .now) (a .begun) (a .state .now) .text
+text c = rw (c .answer2 .ensures .3) (take-put _ _ _ (sym (c .answer2 .ensures .1)) (short c))
 
 array-share-prefix-answer : tie.Need-array-share-prefix-answer
-array-share-prefix-answer c = omega (arith, short (c .before .before .before .before), kept (c .before .before .before .before))
+array-share-prefix-answer c =
+    let at-answer = c .before .before .before .before in
+    omega (arith, short at-answer, whole at-answer)
 
 slice-aggregate-put-text : tie.Need-slice-aggregate-put-text
 slice-aggregate-put-text c =
-    sym (length-take-le _ _ (omega (arith, short (c .before .before .before .before .before), kept (c .before .before .before .before .before))))
+    let at-answer = c .before .before .before .before .before in
+    sym (length-take-le _ _ (omega (arith, short at-answer, whole at-answer)))
 
 put-text-requires : tie.Need-put-text-requires
 put-text-requires c κs =
-    omega (arith, short (c .before .before .before .before .before), length-take (c .before .before .before .before .before .answer2 .result .size) (c .before .before .before .before .before .answer2 .last .1 .1 .1 .0))
+    let at-answer = c .before .before .before .before .before in
+    omega (arith, short at-answer, length-take (at-answer .answer2 .result .size) (at-answer .answer2 .last .1 .1 .1 .0))
 
 returns : tie.Need-returns
-unfolding outcome
 returns c =
     let at-answer = c .before .before .before .before .before .before .before .before in
     let call = at-answer .answer2 .ensures in
     let put = rw (text at-answer) at (c .before .before .put-text .ensures) in
-    let most = rw (call .1 .0) at (short at-answer) in
-    ((call .0, refl), ((put .0, omega arith), (call .1 .1 .0, put .1)))
+    let most = rw (call .1) at (short at-answer) in
+    (call .0, refl, put .0, omega arith, call .2, put .1)
 
 pub end-line-spec : {M : Type 1} → statement M
 end-line-spec =

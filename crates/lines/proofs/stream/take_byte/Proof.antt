@@ -5,7 +5,7 @@ use native.Mathlib.Omega.{arith}
 use borrow.Author.Tests.{eq-eqb, ne-eqb}
 use lib.Seq.{length-take-le}
 use Rattle.numbers.specs.Numbers.{put}
-use Rattle.lines.specs.Listing.{deskNext, textNext}
+use Rattle.lines.specs.Listing.{resultOf, keptNext, textNext}
 use Rattle.lines.proofs.StreamLaws.{kept-byte, kept-full}
 use borrow.Author.Needs.{needs}
 use Rattle.lines.proofs.stream.take_byte.Statement.{statement}
@@ -15,29 +15,29 @@ slice-aggregate-end-line : tie.Need-slice-aggregate-end-line
 slice-aggregate-end-line c = sym (length-take-le _ _ (search needs))
 
 returns : tie.Need-returns
-unfolding deskNext textNext put
+unfolding keptNext textNext resultOf
 returns c =
     let feed = eq-eqb _ _ (c .before .before .before .before .before .before .before .before .if1 .taken) in
     let call = c .before .before .before .before .end-line .ensures in (
-      (omega arith, call .1 .0 .1),
-      (rw (feed, call .0 .0, call .0 .1, call .1 .1 .0), (rw feed (call .1 .0 .0), rw feed (call .1 .1 .1))),
+      (omega arith, call .3),
+      (rw (feed, call .0, call .1, call .4), rw feed (call .2), rw feed (call .5)),
     )
 
 returns-2 : tie.Need-returns-2
-unfolding deskNext textNext put
+unfolding keptNext textNext put
 returns-2 c =
     let a = c .before .before .before .before .before .args in
     let other = ne-eqb _ _ (c .before .if1 .left) in
-    let line = kept-byte (a .line .now) (a .place .size) (a .b) (c .if2 .taken) (omega arith) in
-    ((omega arith, omega arith), (rw (other, line), (rw other (omega arith), rw other)))
+    let line = kept-byte (a .line .now) (a .place .size) (a .b) (omega arith) (omega arith) in
+    ((omega arith, omega arith), (rw (other, line), rw other (omega arith), rw other))
 
 returns-3 : tie.Need-returns-3
-unfolding deskNext textNext put
+unfolding keptNext textNext put
 returns-3 c =
     let a = c .before .before .before .before .before .args in
     let other = ne-eqb _ _ (c .before .if1 .left) in
     let line = kept-full (a .line .now) (a .place .size) (a .b) (omega arith) (c .if2 .left) (omega arith) in
-    ((omega arith, omega arith), (rw (other, ← line), (rw other (omega arith), rw other)))
+    ((omega arith, omega arith), (rw (other, ← line), rw other (omega arith), rw other))
 
 pub take-byte-spec : {M : Type 1} → statement M
 take-byte-spec =

@@ -9,16 +9,20 @@ use Rattle.lines.proofs.text.put_fewest.Tie as tie
 returns : tie.Need-returns
 unfolding fewestText fewestIn
 returns c =
-    let over = eq-eqb _ _ (rw (c .before .before .before .before .before .before .get64 .ensures .0) at (c .before .before .before .before .before .if1 .taken)) in
-    (rw over (c .before .before .put-text .ensures .0), rw over (c .before .before .put-text .ensures .1))
+    let at-count = c .before .before .before .before .before in
+    let over = eq-eqb _ _ (rw (at-count .before .get64 .ensures .0) at (at-count .if1 .taken)) in
+    let printed = c .before .before .put-text .ensures in
+    (rw over (printed .0), rw over (printed .1))
 
 returns-2 : tie.Need-returns-2
 unfolding fewestText fewestIn
 returns-2 c =
-    let few = ne-eqb _ _ (rw (c .before .before .before .before .before .before .before .get64 .ensures .0) at (c .before .before .before .before .before .before .if1 .left)) in
-    let count = c .before .before .before .before .before .before .before .get64 .ensures .0 in
+    let at-count = c .before .before .before .before .before .before in
+    let count = at-count .before .get64 .ensures .0 in
+    let few = ne-eqb _ _ (rw count at (at-count .if1 .left)) in
     let mask = c .before .before .before .before .before .get642 .ensures .0 in
-    (rw (few, ← count, ← mask) (c .before .before .put-two .ensures .0), rw (few, ← count, ← mask) (c .before .before .put-two .ensures .1))
+    let printed = c .before .before .put-two .ensures in
+    (rw (few, ← count, ← mask) (printed .0), rw (few, ← count, ← mask) (printed .1))
 
 pub put-fewest-spec : {M : Type 1} → statement M
 put-fewest-spec =

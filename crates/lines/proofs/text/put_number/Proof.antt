@@ -9,13 +9,15 @@ returns : tie.Need-returns
 unfolding numberText
 returns c =
     let taken = eq-eqb _ _ (c .before .before .before .before .before .if1 .taken) in
-    (rw taken (c .before .before .put-text .ensures .0), rw taken (c .before .before .put-text .ensures .1))
+    let printed = c .before .before .put-text .ensures in
+    (rw taken (printed .0), rw taken (printed .1))
 
 returns-2 : tie.Need-returns-2
 unfolding numberText
 returns-2 c =
     let refused = ne-eqb _ _ (c .before .before .before .before .before .if1 .left) in
-    (rw refused (c .before .before .put-one .ensures .0), rw refused (c .before .before .put-one .ensures .1))
+    let printed = c .before .before .put-one .ensures in
+    (rw refused (printed .0), rw refused (printed .1))
 
 pub put-number-spec : {M : Type 1} → statement M
 put-number-spec =

@@ -1,0 +1,3 @@
+-- The laws of fields and of decimal digits.
+pub mod FieldLaws
+pub mod DecimalLaws
