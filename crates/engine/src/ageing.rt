@@ -67,7 +67,7 @@ pub fn age(state: &mut [u8], reading: u64) -> u32
     requires { ⌜ (stateSize ≤ length (now state)) × T (inForm (now state)) ⌝ }
     ensures { λ r. ⌜ r ≡ ageRefusal (stateOf (now (state .entry))) reading ⌝ }
     ensures { λ r. ⌜ (let st : State = done (stateOf (now (state .entry))) (Calls·age reading) in
-      now (state .exit) ≡ after r (stateBytes st) (now (state .entry))) ⌝ }
+        now (state .exit) ≡ after r (stateBytes st) (now (state .entry))) ⌝ }
 {
     if state::READING_LIMIT <= reading {
         return 3;

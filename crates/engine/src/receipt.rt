@@ -40,9 +40,9 @@ pub fn deliver(
     requires { ⌜ (least ≤ greatest) × (greatest ≤ delayMost) × (sender ≤ nameMost) ⌝ }
     requires { ⌜ (left ≤ right) × (right < endLimit) × (length (now words) ≤ datumTerms) ⌝ }
     ensures { λ r. ⌜ (let g : Delivery = delivery least greatest sender left right (masks (now (words .entry))) in
-      r ≡ receiptRefusal (stateOf (now (state .entry))) g) ⌝ }
+        r ≡ receiptRefusal (stateOf (now (state .entry))) g) ⌝ }
     ensures { λ r. ⌜ (let g : Delivery = delivery least greatest sender left right (masks (now (words .entry))) in
-      now (state .exit) ≡ after r (stateBytes (done (stateOf (now (state .entry))) (Calls·receive g))) (now (state .entry))) ⌝ }
+        now (state .exit) ≡ after r (stateBytes (done (stateOf (now (state .entry))) (Calls·receive g))) (now (state .entry))) ⌝ }
 {
     let own = numbers::get32(state, state::OWN_AT);
     if sender == own {

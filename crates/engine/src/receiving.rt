@@ -16,6 +16,7 @@ use steps::Rows;
 
 // A row more than there are places for data, since a receipt counts at its end; and its masks.
 const DATA_ROWS: usize = state::DATA_MOST + 1;
+
 const DATA_MASKS: usize = DATA_ROWS * state::DATUM_TERMS;
 
 // The masks of all rows that entries can have within a receipt.
@@ -27,7 +28,7 @@ pub fn take_datum(state: &mut [u8], new: Ends, p: &[u32]) -> u32
     requires { ⌜ (0 < length (now p)) × (length (now p) ≤ datumTerms) ⌝ }
     ensures { λ r. ⌜ r ≡ cond (tooMany (settled (datumOf new (now (p .entry))) (storeOf (now (state .entry))))) 32 0 ⌝ }
     ensures { λ r. ⌜ (let k : Store = settled (datumOf new (now (p .entry))) (storeOf (now (state .entry))) in
-      now (state .exit) ≡ after r (stateBytes (record { head = headOf (now (state .entry)); store = k })) (now (state .entry))) ⌝ }
+        now (state .exit) ≡ after r (stateBytes (record { head = headOf (now (state .entry)); store = k })) (now (state .entry))) ⌝ }
 {
     let h = numbers::get32(state, state::HELD_AT) as usize;
     let n = numbers::get32(state, state::KNOWN_AT) as usize;

@@ -4,6 +4,7 @@ use mathlib.Core.List.{[]}
 use lib.Dec.{T}
 use Rattle.predicates.specs.Lists.{all}
 use Rattle.numbers.specs.Numbers.{tab}
+use Rattle.state.specs.Refusal.{lent, after}
 use Rattle.monitor.specs.Calls.{setUpNumber, setUpState, ageNumber, ageState}
 use Rattle.monitor.specs.Receive.{receiveNumber, receiveState}
 use Rattle.monitor.specs.Ask.{askNumber, fewestNumber}
@@ -15,7 +16,7 @@ use Rattle.lines.specs.Lines.{fewestAnswer, fewestLine, laterLine, wordL
 use Rattle.lines.specs.Cases.{ascii, printsThen, eachPrints, earlyLines, laterLines, asPrinted, answers}
 
 pub good-and-bad : T (eachPrints earlyLines false [] && eachPrints laterLines true [])
-unfolding tab setUpNumber setUpState ageNumber ageState receiveNumber receiveState askNumber fewestNumber digits withOne numberText
+unfolding tab lent after setUpNumber setUpState ageNumber ageState receiveNumber receiveState askNumber fewestNumber digits withOne numberText
     onto fields valueFrom value isNumber badLine setLine ageLine getLine answeredText askText askLine
     fewestAnswer fewestLine sameBytes laterLine wordLine fieldsLine lineResult
     ascii printsThen eachPrints earlyLines laterLines

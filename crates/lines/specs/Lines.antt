@@ -8,9 +8,10 @@ use lib.ListN.{length, getD, drop, replicate}
 use Rattle.predicates.specs.Lists.{all}
 use Rattle.numbers.specs.Numbers.{bytesOf}
 use Rattle.fields.specs.Fields.{fields, value, isNumber, isWord, sameBytes}
+use Rattle.engine.specs.Calls.{setup}
 use Rattle.monitor.specs.Calls.{setUpNumber, setUpState, ageNumber, ageState}
-use Rattle.monitor.specs.Receive.{receiveNumber, receiveState}
-use Rattle.monitor.specs.Ask.{askNumber, askOutput, fewestNumber, fewestOutput, answerIn, fewestIn}
+use Rattle.monitor.specs.Receive.{receiptOf, receiveNumber, receiveState}
+use Rattle.monitor.specs.Ask.{answerSize, fewestSize, askNumber, askOutput, fewestNumber, fewestOutput, answerIn, fewestIn}
 use Rattle.lines.specs.Text.{badText, numberText, answerText, fewestText}
 
 -- ---- how long a line is
@@ -38,9 +39,9 @@ unfoldable pub setLine : List ℕ → Bool → List ℕ → LineResult
 setLine ns begun s =
     cond (eqb (length ns) 3 && (isWord (getD ns 0 0) && isWord (getD ns 1 0)))
     (record {
-      begun = begun || eqb (setUpNumber s (getD ns 0 0) (getD ns 1 0) (getD ns 2 0)) 0;
-      state = setUpState s (getD ns 0 0) (getD ns 1 0) (getD ns 2 0);
-      text = numberText (setUpNumber s (getD ns 0 0) (getD ns 1 0) (getD ns 2 0));
+      begun = begun || eqb (setUpNumber s (setup (getD ns 0 0) (getD ns 1 0) (getD ns 2 0))) 0;
+      state = setUpState s (setup (getD ns 0 0) (getD ns 1 0) (getD ns 2 0));
+      text = numberText (setUpNumber s (setup (getD ns 0 0) (getD ns 1 0) (getD ns 2 0)));
     })
     (badLine begun s)
 
@@ -57,8 +58,8 @@ getLine ns s =
     cond (leb 2 (length ns) && all isWord (drop 2 ns))
     (record {
       begun = true;
-      state = receiveState s (getD ns 0 0) (getD ns 1 0) (bytesOf (drop 2 ns));
-      text = numberText (receiveNumber s (getD ns 0 0) (getD ns 1 0) (bytesOf (drop 2 ns)));
+      state = receiveState s (receiptOf (getD ns 0 0) (getD ns 1 0) (bytesOf (drop 2 ns)));
+      text = numberText (receiveNumber s (receiptOf (getD ns 0 0) (getD ns 1 0) (bytesOf (drop 2 ns))));
     })
     (badLine true s)
 
@@ -69,14 +70,14 @@ answeredText number text = cond (eqb number 0) text (numberText number)
 -- "`ask` limit"
 unfoldable pub askText : ℕ → List ℕ → List ℕ
 askText limit s =
-    answeredText (askNumber s limit (replicate 24 0)) (answerText (answerIn (askOutput s limit (replicate 24 0))))
+    answeredText (askNumber s limit (replicate answerSize 0)) (answerText (answerIn (askOutput s limit (replicate answerSize 0))))
 
 unfoldable pub askLine : List ℕ → List ℕ → LineResult
 askLine ns s = cond (eqb (length ns) 1) (record { begun = true; state = s; text = askText (getD ns 0 0) s }) (badLine true s)
 
 -- "`fewest`"
 unfoldable pub fewestAnswer : List ℕ → List ℕ
-fewestAnswer s = answeredText (fewestNumber s (replicate 16 0)) (fewestText (fewestIn (fewestOutput s (replicate 16 0))))
+fewestAnswer s = answeredText (fewestNumber s (replicate fewestSize 0)) (fewestText (fewestIn (fewestOutput s (replicate fewestSize 0))))
 
 unfoldable pub fewestLine : List ℕ → List ℕ → LineResult
 fewestLine ns s = cond (eqb (length ns) 0) (record { begun = true; state = s; text = fewestAnswer s }) (badLine true s)

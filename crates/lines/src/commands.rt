@@ -80,7 +80,7 @@ fn ask_line(values: &[u64], state: &[u8], out: &mut [u8]) -> usize
     if values.len() != 1 {
         return text::put_bad(out);
     }
-    let mut answer = [0u8; 24];
+    let mut answer = [0u8; monitor::questions::ANSWER_SIZE];
     let number = monitor::questions::monitor_ask(state, values[0], &mut answer);
     if number != 0 {
         return text::put_number(out, number);
@@ -97,7 +97,7 @@ fn fewest_line(values: &[u64], state: &[u8], out: &mut [u8]) -> usize
     if values.len() != 0 {
         return text::put_bad(out);
     }
-    let mut answer = [0u8; 16];
+    let mut answer = [0u8; monitor::questions::FEWEST_SIZE];
     let number = monitor::questions::monitor_fewest(state, &mut answer);
     if number != 0 {
         return text::put_number(out, number);

@@ -12,9 +12,6 @@ use lines::ANSWER_MOST;
 use lines::LINE_MOST;
 use lines::stream::Place;
 
-// The bytes of a state.
-const STATE_SIZE: usize = 3032;
-
 // How far the input was taken: whether a `set` was taken, how many bytes of the line have come, and whether the input has ended.
 struct Progress {
     begun: bool,
@@ -100,7 +97,7 @@ fn read_all(line: &mut [u8], state: &mut [u8]) -> Progress
 // A last line without a line feed counts if it has bytes.
 fn main() {
     let mut line = [0u8; LINE_MOST + 1];
-    let mut state = [0u8; STATE_SIZE];
+    let mut state = [0u8; state::STATE_SIZE];
     let progress = read_all(&mut line, &mut state);
     let size = progress.size;
     if 0 < size {

@@ -12,7 +12,9 @@ use asking::Fewest;
 
 // The greatest limit, and the bytes that an answer and the fewest failures take.
 pub const LIMIT_MOST: u64 = 4;
+
 pub const ANSWER_SIZE: usize = 24;
+
 pub const FEWEST_SIZE: usize = 16;
 
 // Writes three numbers of 8 bytes at the front.

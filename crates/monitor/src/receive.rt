@@ -15,9 +15,9 @@ fn receive_message(state: &mut [u8], least: u64, greatest: u64, message: &[u8]) 
     requires { ⌜ (stateSize ≤ length (now state)) × T (inForm (now state)) ⌝ }
     requires { ⌜ (least ≤ greatest) × (greatest ≤ delayMost) ⌝ }
     ensures { λ r. ⌜ (let got : Delivered = delivered (receiptOf least greatest (now (message .entry))) in
-      r ≡ deliveredNumber (stateOf (now (state .entry))) got) ⌝ }
+        r ≡ deliveredNumber (stateOf (now (state .entry))) got) ⌝ }
     ensures { λ r. ⌜ (let got : Delivered = delivered (receiptOf least greatest (now (message .entry))) in
-      now (state .exit) ≡ after r (stateBytes (deliveredState (stateOf (now (state .entry))) got)) (now (state .entry))) ⌝ }
+        now (state .exit) ≡ after r (stateBytes (deliveredState (stateOf (now (state .entry))) got)) (now (state .entry))) ⌝ }
 {
     let mut words = [0u32; message::WORDS_MOST];
     let n = super::take_words(message, &mut words);

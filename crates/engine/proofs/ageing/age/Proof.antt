@@ -65,8 +65,7 @@ returns-4 c =
     let a = at-start .before in
     let s = a .args .state .now in
     let same = aged-code s (a .pre .1) (a .args .reading) _ _ _ (at-if2 .before .get64 .ensures .0) (at-drift .before .get32 .ensures .0)
-    (at-drift .drift-over .ensures .0) (storeOf s) in
-    (
+    (at-drift .drift-over .ensures .0) (storeOf s) in (
       sym (tested (at-if3 .before) ∙ ap (λ b. cond b 0 30) (not-false (at-if3 .before .stays-below .result) (at-if3 .if3 .left))),
       age-put s (a .pre .1) (λ i. at-start .slice-known .given i .fits) (a .pre .0) (a .args .reading) (at-widen .widen .last .0) _
           (at-widen .widen .ensures ∙ ap (λ (k : Store). put dataAt (joined datumBytes (k .held)) s) same) (c .before .before .put64 .ensures),
