@@ -5,16 +5,21 @@ ghost use Prim.Native.Nat.{ℕ, _+_, _-_, _≤_, _<_, min, max};
 ghost use lib.Dec.{T};
 ghost use lib.ListN.{length, getD, drop};
 ghost use Rattle.numbers.specs.Numbers.{tab};
-ghost use Rattle.state.specs.Layout.{heldCount, storeOf, stateOf, stateSize, dataMost, entriesMost};
+ghost use Rattle.state.specs.Layout.{heldCount, entryCount, storeOf, stateOf, stateSize, dataMost, entriesMost};
 ghost use Rattle.state.specs.Form.{inForm};
 ghost use Rattle.asking.specs.Asking.{greatestLeft, leastRight, answer};
 ghost use Rattle.asking.specs.Fewest.{notContradicted};
 ghost use Rattle.asking.specs.code.Claims.{everything, Explained};
-ghost use Rattle.asking.specs.code.Tables.{Loaded, lastEnd};
+ghost use Rattle.asking.specs.code.Tables.{Loaded, Room, fewRows, lastEnd};
 ghost use Rattle.search.specs.code.LeftEnds.{Complete};
-use super::Answer;
 ghost use Rattle.state.specs.Model.{endLimit};
 ghost use Rattle.search.specs.code.Search.{Rows, rowsOf};
+use super::Answer;
+
+// So many rows are few, and their masks.
+const FEW_ROWS: usize = 12;
+
+const FEW_MASKS: usize = FEW_ROWS * search::ROW_WIDTH;
 
 // The last end that can be stored.
 const LAST_END: u64 = state::END_LIMIT - 1;
@@ -172,43 +177,32 @@ fn between(
     Answer::Between(left.end, LAST_END - right.end)
 }
 
-// The answer over a state in form.
-pub fn ask(s: &[u8], limit: u32) -> Answer
-    requires { ⌜ (stateSize ≤ length (now s)) × T (inForm (now s)) ⌝ }
+// The answer over a state in form, with the arrays that its claims are read into.
+fn ask_in(
+    s: &[u8],
+    limit: u32,
+    n: usize,
+    rows: usize,
+    counts: &mut [u32],
+    masks: &mut [u32],
+    several: &mut [u32],
+    rests: &mut [u32],
+    singles: &mut [u32],
+    order: &mut [u32],
+) -> Answer
+    requires { ⌜ (stateSize ≤ length (now s)) × T (inForm (now s)) × (n ≡ entryCount (now s)) × (rows ≡ n + heldCount (now s)) ⌝ }
+    requires { ⌜ Room rows (rowsOf (now counts) (now masks) (now several) (now rests) (now singles)) × (rows ≤ length (now order)) ⌝ }
     ensures { λ r. ⌜ r ≡ answer limit (stateOf (now (s .entry))) ⌝ }
 {
-    if limit == 0 {
-        return plain(s);
-    }
-    let own = numbers::get32(s, state::OWN_AT);
-    let h = numbers::get32(s, state::HELD_AT) as usize;
-    let n = numbers::get32(s, state::KNOWN_AT) as usize;
-    let rows = n + h;
-    let mut counts = [0u32; search::ROWS_MOST];
-    let mut masks = [0u32; search::MASKS_MOST];
-    let mut several = [0u32; search::ROWS_MOST];
-    let mut rests = [0u32; search::MASKS_MOST];
-    let mut singles = [0u32; search::ROWS_MOST];
-    let mut order = [0u32; search::ROWS_MOST];
-    super::claims::load(
-        s,
-        n,
-        rows,
-        &mut counts,
-        &mut masks,
-        &mut several,
-        &mut rests,
-        &mut singles,
-        &mut order,
-    );
-    let free = names::others(own);
+    super::claims::load(s, n, rows, counts, masks, several, rests, singles, order);
+    let free = names::others(numbers::get32(s, state::OWN_AT));
     let set = search::search::predicate_step(
-        &order,
-        &counts,
-        &masks,
-        &several,
-        &rests,
-        &singles,
+        order,
+        counts,
+        masks,
+        several,
+        rests,
+        singles,
         rows,
         limit,
         names::NO_SET,
@@ -224,12 +218,80 @@ pub fn ask(s: &[u8], limit: u32) -> Answer
         s,
         n,
         rows,
-        &counts,
-        &masks,
-        &several,
-        &rests,
-        &singles,
-        &order,
+        counts,
+        masks,
+        several,
+        rests,
+        singles,
+        order,
         limit,
     )
+}
+
+// The same where the rows are few, as they mostly are: clearing arrays for all rows would take longer than the rest.
+fn ask_few(s: &[u8], limit: u32, n: usize, rows: usize) -> Answer
+    requires { ⌜ (stateSize ≤ length (now s)) × T (inForm (now s)) × (n ≡ entryCount (now s)) × (rows ≡ n + heldCount (now s)) ⌝ }
+    requires { ⌜ rows ≤ fewRows ⌝ }
+    ensures { λ r. ⌜ r ≡ answer limit (stateOf (now (s .entry))) ⌝ }
+{
+    let mut counts = [0u32; FEW_ROWS];
+    let mut masks = [0u32; FEW_MASKS];
+    let mut several = [0u32; FEW_ROWS];
+    let mut rests = [0u32; FEW_MASKS];
+    let mut singles = [0u32; FEW_ROWS];
+    let mut order = [0u32; FEW_ROWS];
+    ask_in(
+        s,
+        limit,
+        n,
+        rows,
+        &mut counts,
+        &mut masks,
+        &mut several,
+        &mut rests,
+        &mut singles,
+        &mut order,
+    )
+}
+
+// The same for any number of rows.
+fn ask_many(s: &[u8], limit: u32, n: usize, rows: usize) -> Answer
+    requires { ⌜ (stateSize ≤ length (now s)) × T (inForm (now s)) × (n ≡ entryCount (now s)) × (rows ≡ n + heldCount (now s)) ⌝ }
+    ensures { λ r. ⌜ r ≡ answer limit (stateOf (now (s .entry))) ⌝ }
+{
+    let mut counts = [0u32; search::ROWS_MOST];
+    let mut masks = [0u32; search::MASKS_MOST];
+    let mut several = [0u32; search::ROWS_MOST];
+    let mut rests = [0u32; search::MASKS_MOST];
+    let mut singles = [0u32; search::ROWS_MOST];
+    let mut order = [0u32; search::ROWS_MOST];
+    ask_in(
+        s,
+        limit,
+        n,
+        rows,
+        &mut counts,
+        &mut masks,
+        &mut several,
+        &mut rests,
+        &mut singles,
+        &mut order,
+    )
+}
+
+// The answer over a state in form.
+pub fn ask(s: &[u8], limit: u32) -> Answer
+    requires { ⌜ (stateSize ≤ length (now s)) × T (inForm (now s)) ⌝ }
+    ensures { λ r. ⌜ r ≡ answer limit (stateOf (now (s .entry))) ⌝ }
+{
+    if limit == 0 {
+        return plain(s);
+    }
+    let h = numbers::get32(s, state::HELD_AT) as usize;
+    let n = numbers::get32(s, state::KNOWN_AT) as usize;
+    let rows = n + h;
+    if rows <= FEW_ROWS {
+        return ask_few(s, limit, n, rows);
+    }
+    ask_many(s, limit, n, rows)
 }

@@ -29,17 +29,18 @@ returns c = fewest-none _ (sym (c .before .agree .ensures) ∙ c .if1 .taken)
 load-requires : tie.Need-load-requires Inv-loop μ-loop
 load-requires c κs =
     let at-n = c .before .before .before .before .before .before in
-    let a = at-n .before .before .before .before .before .before in (
+    let a = at-n .before .before .before .before .before .before in
+    let fit = counts-fit _ (a .pre .1) _ _ (at-n .get323 .ensures .0) (at-n .before .get322 .ensures .0) in (
       (a .pre .0, a .pre .1, at-n .get323 .ensures .0, omega (arith, at-n .get323 .ensures .0, at-n .before .get322 .ensures .0)),
       (
         record {
-          counts-long = search needs;
-          masks-long = search needs;
-          several-long = search needs;
-          rests-long = search needs;
-          singles-long = search needs;
+          counts-long = omega arith;
+          masks-long = omega arith;
+          several-long = omega arith;
+          rests-long = omega arith;
+          singles-long = omega arith;
         },
-        search needs,
+        omega arith,
       ),
     )
 
