@@ -19,7 +19,7 @@ use Rattle.names.specs.code.Parts.{others}
 use Rattle.names.proofs.SetLaws.{subset-refl}
 use Rattle.names.proofs.PartLaws.{others-lt}
 use Rattle.predicates.specs.Lists.{In}
-use Rattle.state.specs.Model.{Datum, Store, State}
+use Rattle.state.specs.Model.{Datum, Store, State, endLimit}
 use Rattle.state.specs.Layout.{datumPlace, heldCount, entryCount, datumAt, headOf, storeOf, stateOf}
 use Rattle.state.specs.Form.{inForm}
 use Rattle.state.proofs.StateLaws.{state-out, length-held, length-entries, form-ok}
@@ -196,7 +196,7 @@ module _ (s : List ℕ) (t : T (inForm s)) where
     unfolding stateOf
     plain-free h b e = sym (plain-open st (form-bare st (form-ok s t)) (rw length-entries (omega arith)) (rw length-held (omega arith)))
 
-    module _ (h : ℕ) (b : h ≡ heldCount s) (some : h ≡ 0 → ⊥) (l r : ℕ) (c : l ≡ greatestLeft 0 (storeOf s .held)) (d : r ≡ leastRight 288230376151711744 (storeOf s .held)) where
+    module _ (h : ℕ) (b : h ≡ heldCount s) (some : h ≡ 0 → ⊥) (l r : ℕ) (c : l ≡ greatestLeft 0 (storeOf s .held)) (d : r ≡ leastRight endLimit (storeOf s .held)) where
       ends : answer 0 st ≡ interval l r
       unfolding stateOf
       ends =

@@ -52,15 +52,6 @@ pub num-append : (n at k : ℕ) (a s : List ℕ) → k ≡ length a + at → num
 num-append n at k [] s e = rw (e, zero-add)
 num-append n at k (v ∷ a) s e = rw (e, suc-add, num-cons) (num-append n at (length a + at) a s refl)
 
--- a turn of the loop that reads, from the last byte down
-pub num-next : (at n left : ℕ) (s : List ℕ) → 0 < left → left ≤ n →
-    num (at + (left - 1)) (n - (left - 1)) s ≡ num (at + left) (n - left) s * 256 + getD s (at + (left - 1)) 0
-unfolding num
-num-next at n left s p q =
-    let e : n - (left - 1) ≡ suc (n - left) = omega arith in
-    let f : suc (at + (left - 1)) ≡ at + left = omega arith in
-    rw (e, f) (omega arith)
-
 -- ---- bytes: the bytes of a number
 
 pub length-bytes : (n x : ℕ) → length (bytes n x) ≡ n
@@ -117,14 +108,6 @@ pub num-put-apart : (n at i : ℕ) (vs s : List ℕ) → (i + n ≤ at) ⊎ (at 
 num-put-apart n at i vs s h =
     num-cong n i (put at vs s) s
     (λ k p q. ⊎-elim (λ w. getD-put-before at k vs s (omega arith)) (λ w. getD-put-after at k vs s (omega arith)) h)
-
--- a number that is stored is read back
-pub num-put-same : (n at x : ℕ) (s : List ℕ) → at + n ≤ length s → x < 256 ^ n → num at n (put at (bytes n x) s) ≡ x
-unfolding put
-num-put-same n at x s h b =
-    let fits : at + length (bytes n x) ≤ length s = omega (arith, length-bytes n x) in
-    let front : length (take at s) ≡ at = length-take-le at s (omega arith) in
-    rw (sets-eq (bytes n x) s at fits, append-assoc) (num-append n 0 at (take at s) _ (omega arith) ∙ num-bytes n x _ b)
 
 -- storing the number that is there changes nothing
 pub put-num-same : (n at : ℕ) (s : List ℕ) → Bytes s → put at (bytes n (num at n s)) s ≡ s

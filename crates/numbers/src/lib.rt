@@ -13,20 +13,6 @@ fn byte(b: u8) -> u32
     b as u32
 }
 
-// The number in the n bytes of s from index at.
-pub fn get(s: &[u8], at: usize, n: usize) -> u64
-    requires { ⌜ (n ≤ 8) × (at + n ≤ length (now s)) ⌝ }
-    ensures { λ r. ⌜ (r ≡ num at n (now (s .entry))) × (r < 256 ^ n) ⌝ }
-{
-    let mut v: u64 = 0;
-    let mut left = n;
-    while 0 < left {
-        left -= 1;
-        v = v * 256 + byte(s[at + left]) as u64;
-    }
-    v
-}
-
 // The number in the four bytes of s from index at: one sum, since a loop over bytes is slow.
 pub fn get32(s: &[u8], at: usize) -> u32
     requires { ⌜ at + 4 ≤ length (now s) ⌝ }

@@ -89,7 +89,3 @@ entries-put es k s t u c z p q =
     let e : entryPlace entriesMost - entryPlace k ≡ (entriesMost - length es) * entrySize = omega arith in
     put-then (k * entrySize) entriesAt (entryPlace k) (joined entryBytes es) (zeros ((entriesMost - length es) * entrySize)) s t u z refl p
     (q ∙ ap (λ (n : ℕ). put (entryPlace k) (zeros n) t) e)
-
--- what is stored is as long as it was
-pub put-long : (at : ℕ) (vs s t : List ℕ) → t ≡ put at vs s → length t ≡ length s
-put-long at vs s t e = ap length e ∙ length-put at vs s

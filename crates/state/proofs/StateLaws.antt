@@ -236,14 +236,3 @@ module _ (s : List ℕ) (t : T (inForm s)) where
     pub begins-form : Begins (parts (stateOf s)) s s
     unfolding stateBytes
     begins-form = record { sized = parts-sized (stateOf s) form-ok; stored = sym put-state-same }
-
-    -- other bytes with the same bytes of a state in front
-    module _ (u : List ℕ) (e : take stateSize u ≡ take stateSize s) where
-      front : At 0 (stateBytes (stateOf s)) u
-      front = (drop stateSize u, sym (take-append-drop stateSize u) ∙ rw (encode-decode, e))
-
-      pub state-cong : stateOf u ≡ stateOf s
-      state-cong = state-read (stateOf s) form-ok u front
-
-      pub form-cong : T (inForm u)
-      form-cong = state-form (stateOf s) form-ok u front

@@ -3,7 +3,8 @@ ghost use mathlib.Core.Path.{_≡_};
 ghost use Prim.Native.Nat.{_+_, _*_, _-_, _≤_, _<_};
 ghost use lib.ListN.{length};
 ghost use Rattle.numbers.specs.Numbers.{put};
-ghost use Rattle.state.specs.Layout.{stateSize, dataMost, datumTerms, entriesMost, entryTerms, datumPlace, entryPlace, zeros, rowBytes, datumBytes, entryBytes};
+ghost use Rattle.state.specs.Layout.{stateSize, dataMost, datumTerms, entriesMost, entryTerms, datumPlace, entryPlace};
+ghost use Rattle.state.specs.Layout.{zeros, rowBytes, datumBytes, entryBytes};
 ghost use Rattle.state.specs.code.Tables.{datumOf};
 use super::Ends;
 

@@ -11,11 +11,13 @@ ghost use Rattle.predicates.specs.Lists.{any};
 ghost use Rattle.predicates.specs.Predicates.{normal};
 ghost use Rattle.state.specs.Model.{Datum};
 ghost use Rattle.state.specs.Layout.{datumTerms, entryTerms};
-ghost use Rattle.state.specs.code.Tables.{Table, Columns, table, columns, tableOf, TableFits, ColumnsFit, rowOf, hasTerms, entriesIn, datumOf, datumIn, dataIn};
+ghost use Rattle.state.specs.code.Tables.{Table, Columns, table, columns, tableOf, TableFits, ColumnsFit};
+ghost use Rattle.state.specs.code.Tables.{rowOf, hasTerms, entriesIn, datumOf, datumIn, dataIn};
 ghost use Rattle.steps.specs.code.Rows.{Marked, FirstRow, givenUp};
 use super::Rows;
 use state::Ends;
-ghost use Rattle.steps.specs.Steps.{disjoint as Receiving·disjoint, explained, learn, learnt, same as Receiving·same, met, without, betters as Receiving·betters};
+ghost use Rattle.steps.specs.Steps.{disjoint as Steps·disjoint, explained, learn, learnt};
+ghost use Rattle.steps.specs.Steps.{same as Steps·same, met, without, betters as Steps·betters};
 
 // Whether two intervals have no instant in common.
 fn disjoint(a: Ends, b: Ends) -> bool
@@ -44,7 +46,7 @@ fn learn_from(
         let new : Datum = datumOf new (now (p .entry)) in
         let es : List (List ℕ) = entriesIn n (table (now (counts .entry)) (now (masks .entry))) in
         entriesIn r (table (now (counts .exit)) (now (masks .exit)))
-        ≡ cond (Receiving·disjoint d new) (learn (normal (d .terms ++ new .terms)) es) es) ⌝ }
+        ≡ cond (Steps·disjoint d new) (learn (normal (d .terms ++ new .terms)) es) es) ⌝ }
 {
     if !disjoint(old, new) {
         return n;
@@ -107,7 +109,8 @@ fn explained_row(
     requires { ⌜ (i < length (now held)) × (i * datumTerms + getD (now held) i 0 ≤ length (now terms)) ⌝ }
     requires { ⌜ TableFits entryTerms n (table (now counts) (now masks)) × Marked n (table (now counts) (now masks)) (now marks) ⌝ }
     ensures { λ r. ⌜ r ≡
-        explained (entriesIn n (table (now (counts .entry)) (now (masks .entry)))) (rowOf datumTerms (table (now (held .entry)) (now (terms .entry))) i) ⌝ }
+        explained (entriesIn n (table (now (counts .entry)) (now (masks .entry))))
+        (rowOf datumTerms (table (now (held .entry)) (now (terms .entry))) i) ⌝ }
 {
     let from = i * state::DATUM_TERMS;
     let to = from + held[i] as usize;
@@ -141,7 +144,7 @@ pub fn drop_explained(
 
 // Whether p and q are the same list of terms.
 fn same(p: &[u32], q: &[u32]) -> bool
-    ensures { λ r. ⌜ r ≡ Receiving·same (now (p .entry)) (now (q .entry)) ⌝ }
+    ensures { λ r. ⌜ r ≡ Steps·same (now (p .entry)) (now (q .entry)) ⌝ }
 {
     if p.len() != q.len() {
         return false;
@@ -159,7 +162,7 @@ fn same(p: &[u32], q: &[u32]) -> bool
 // Whether row i of the held data has the predicate p.
 fn same_row(held: &[u32], terms: &[u32], i: usize, p: &[u32]) -> bool
     requires { ⌜ (i < length (now held)) × (i * datumTerms + getD (now held) i 0 ≤ length (now terms)) ⌝ }
-    ensures { λ r. ⌜ r ≡ Receiving·same (rowOf datumTerms (table (now (held .entry)) (now (terms .entry))) i) (now (p .entry)) ⌝ }
+    ensures { λ r. ⌜ r ≡ Steps·same (rowOf datumTerms (table (now (held .entry)) (now (terms .entry))) i) (now (p .entry)) ⌝ }
 {
     let from = i * state::DATUM_TERMS;
     let to = from + held[i] as usize;
@@ -169,7 +172,7 @@ fn same_row(held: &[u32], terms: &[u32], i: usize, p: &[u32]) -> bool
 // The first row of the held data with the predicate p; h where there is none.
 fn find_same(held: &[u32], terms: &[u32], h: usize, p: &[u32]) -> usize
     requires { ⌜ TableFits datumTerms h (table (now held) (now terms)) ⌝ }
-    ensures { λ r. ⌜ FirstRow h (λ i. Receiving·same (rowOf datumTerms (table (now (held .entry)) (now (terms .entry))) i) (now (p .entry))) r ⌝ }
+    ensures { λ r. ⌜ FirstRow h (λ i. Steps·same (rowOf datumTerms (table (now (held .entry)) (now (terms .entry))) i) (now (p .entry))) r ⌝ }
 {
     let mut i: usize = 0;
     while i < h {
@@ -213,7 +216,7 @@ pub fn meet(
 
 // Whether a datum with the ends a under q betters one with the ends b under p (rule 14).
 fn betters(a: Ends, q: &[u32], b: Ends, p: &[u32]) -> bool
-    ensures { λ r. ⌜ r ≡ Receiving·betters (datumOf a (now (q .entry))) (datumOf b (now (p .entry))) ⌝ }
+    ensures { λ r. ⌜ r ≡ Steps·betters (datumOf a (now (q .entry))) (datumOf b (now (p .entry))) ⌝ }
 {
     if (b.left <= a.left) & (a.right <= b.right) {
         return predicates::implies(q, p);
@@ -234,7 +237,7 @@ fn row_betters(
     requires { ⌜ (i < length (now held)) × (i * datumTerms + getD (now held) i 0 ≤ length (now terms)) ⌝ }
     requires { ⌜ (i < length (now lefts)) × (i < length (now rights)) ⌝ }
     ensures { λ r. ⌜ (let c : Columns = columns (now (lefts .entry)) (now (rights .entry)) (now (held .entry)) (now (terms .entry)) in
-        r ≡ hasTerms (rowOf datumTerms (tableOf c) i) && Receiving·betters (datumIn c i) (datumOf new (now (p .entry)))) ⌝ }
+        r ≡ hasTerms (rowOf datumTerms (tableOf c) i) && Steps·betters (datumIn c i) (datumOf new (now (p .entry)))) ⌝ }
 {
     let count = held[i] as usize;
     if count == 0 {
@@ -261,7 +264,7 @@ pub fn bettered(
 ) -> bool
     requires { ⌜ ColumnsFit h (columns (now lefts) (now rights) (now held) (now terms)) ⌝ }
     ensures { λ r. ⌜ (let c : Columns = columns (now (lefts .entry)) (now (rights .entry)) (now (held .entry)) (now (terms .entry)) in
-        r ≡ any (λ d. Receiving·betters d (datumOf new (now (p .entry)))) (dataIn h c)) ⌝ }
+        r ≡ any (λ d. Steps·betters d (datumOf new (now (p .entry)))) (dataIn h c)) ⌝ }
 {
     let mut i: usize = 0;
     while i < h {
@@ -286,7 +289,7 @@ fn betters_row(
     requires { ⌜ (i < length (now held)) × (i * datumTerms + getD (now held) i 0 ≤ length (now terms)) ⌝ }
     requires { ⌜ (i < length (now lefts)) × (i < length (now rights)) ⌝ }
     ensures { λ r. ⌜ (let c : Columns = columns (now (lefts .entry)) (now (rights .entry)) (now (held .entry)) (now (terms .entry)) in
-        r ≡ Receiving·betters (datumOf new (now (p .entry))) (datumIn c i)) ⌝ }
+        r ≡ Steps·betters (datumOf new (now (p .entry))) (datumIn c i)) ⌝ }
 {
     let from = i * state::DATUM_TERMS;
     let to = from + held[i] as usize;
@@ -309,7 +312,7 @@ pub fn drop_bettered(
 )
     requires { ⌜ ColumnsFit h (columns (now lefts) (now rights) (now held) (now terms)) ⌝ }
     ensures { λ _. ⌜ (let c : Columns = columns (now (lefts .entry)) (now (rights .entry)) (now (held .entry)) (now (terms .entry)) in
-        now (held .exit) ≡ givenUp h (λ i. Receiving·betters (datumOf new (now (p .entry))) (datumIn c i)) (now (held .entry))) ⌝ }
+        now (held .exit) ≡ givenUp h (λ i. Steps·betters (datumOf new (now (p .entry))) (datumIn c i)) (now (held .entry))) ⌝ }
 {
     let mut i: usize = 0;
     while i < h {

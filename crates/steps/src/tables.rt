@@ -11,7 +11,7 @@ ghost use Rattle.predicates.specs.code.Marks.{markOf};
 ghost use Rattle.state.specs.Layout.{entryTerms};
 ghost use Rattle.state.specs.code.Tables.{Table, table, TableFits, rowOf, hasTerms, entriesIn};
 ghost use Rattle.steps.specs.code.Rows.{Marked, givenUp};
-ghost use Rattle.steps.specs.Steps.{explained as Receiving·explained, learn as Receiving·learn};
+ghost use Rattle.steps.specs.Steps.{explained as Steps·explained, learn as Steps·learn};
 
 // Whether row i of 16 has terms and implies p; p's mark is given.
 fn row_implies(
@@ -43,7 +43,7 @@ fn row_implies(
 // Whether an entry of the table implies p. All of them are held against p, so its mark is made once, and for a table of no rows not at all.
 pub fn explained(counts: &[u32], masks: &[u32], marks: &[u32], n: usize, p: &[u32]) -> bool
     requires { ⌜ TableFits entryTerms n (table (now counts) (now masks)) × Marked n (table (now counts) (now masks)) (now marks) ⌝ }
-    ensures { λ r. ⌜ r ≡ Receiving·explained (entriesIn n (table (now (counts .entry)) (now (masks .entry)))) (now (p .entry)) ⌝ }
+    ensures { λ r. ⌜ r ≡ Steps·explained (entriesIn n (table (now (counts .entry)) (now (masks .entry)))) (now (p .entry)) ⌝ }
 {
     if n == 0 {
         return false;
@@ -118,7 +118,7 @@ pub fn learn(counts: &mut [u32], masks: &mut [u32], marks: &mut [u32], n: usize,
     ensures { λ r. ⌜ (let t : Table = table (now (counts .exit)) (now (masks .exit)) in
         (n ≤ r) × (r ≤ n + 1) × TableFits entryTerms r t × Marked r t (now (marks .exit))) ⌝ }
     ensures { λ r. ⌜ entriesIn r (table (now (counts .exit)) (now (masks .exit)))
-        ≡ Receiving·learn (now (e .entry)) (entriesIn n (table (now (counts .entry)) (now (masks .entry)))) ⌝ }
+        ≡ Steps·learn (now (e .entry)) (entriesIn n (table (now (counts .entry)) (now (masks .entry)))) ⌝ }
 {
     if explained(counts, masks, marks, n, e) {
         return n;

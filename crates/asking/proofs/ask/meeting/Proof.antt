@@ -10,11 +10,12 @@ use Rattle.asking.proofs.AskSteps.{greatest-left-turn, greatest-left-do
 use borrow.Author.Needs.{needs}
 use Rattle.asking.proofs.ask.meeting.Statement.{statement}
 use Rattle.asking.proofs.ask.meeting.Tie as tie
+use Rattle.state.specs.Model.{endLimit}
 
 abbrev Inv-loop : tie.InvT-loop
 Inv-loop s h left₀ right₀ i₀ left right i =
     (i ≤ h) × (greatestLeft left (drop i (storeOf s .held)) ≡ greatestLeft 0 (storeOf s .held))
-    × (leastRight right (drop i (storeOf s .held)) ≡ leastRight 288230376151711744 (storeOf s .held))
+    × (leastRight right (drop i (storeOf s .held)) ≡ leastRight endLimit (storeOf s .held))
 
 abbrev μ-loop : tie.MeasureT-loop
 μ-loop s h left₀ right₀ i₀ left right i = h - i
