@@ -18,7 +18,8 @@ use Rattle.predicates.proofs.ListLaws.{both-l, both-r, or-l, or-r, or-cases, sp
 use Rattle.predicates.proofs.EachLaws.{Each, each-dropped, each-added}
 use Rattle.predicates.proofs.PredicateLaws.{holds-sum, holds-normal, implies-out, implies-refl, true-holds}
 use Rattle.state.specs.Model.{Datum, Store}
-use Rattle.steps.specs.Steps.{disjoint, explained, learn, learnt, unexplained, same, meet, met, without, betters, stored, heldAfter, settled, received}
+use Rattle.steps.specs.Steps.{disjoint, learnt, unexplained, same, meet, met, without, betters, stored, heldAfter, settled, received}
+use Rattle.entries.specs.Entries.{explained, learn}
 use Rattle.steps.proofs.ReceiveLaws.{overlap, same-out, learnt-ind, learn-keeps, learnt-has}
 use Rattle.asking.specs.Instants.{Within, InAll, Fine}
 use Rattle.asking.proofs.InstantLaws.{within-wider, within-meet, meet-within, Active, Allows, not-active, inall-in, inall-out}

@@ -6,7 +6,8 @@ use Rattle.predicates.specs.Lists.{all}
 use Rattle.predicates.specs.Predicates.{holds, implies, isTrue, struck, insert, rising, minimal, normal, formed}
 use Rattle.engine.specs.Ageing.{leastAdvance, greatestAdvance, slow, fast, widened, aged}
 use Rattle.engine.specs.Receiving.{grown}
-use Rattle.steps.specs.Steps.{disjoint, explained, learn, learnt, unexplained, same, meet, met, without}
+use Rattle.steps.specs.Steps.{disjoint, learnt, unexplained, same, meet, met, without}
+use Rattle.entries.specs.Entries.{explained, learn}
 use Rattle.steps.specs.Steps.{betters, stored, heldAfter, settled, received}
 use Rattle.engine.specs.Calls.{begun, setUp, moved, made, done}
 use Rattle.engine.specs.Refusals.{setUpRefusal, passesEnd, ageRefusal, receiptRefusal}

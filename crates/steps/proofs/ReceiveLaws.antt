@@ -8,7 +8,7 @@ use mathlib.Core.Logic.{_⊎_, inl, inr, ⊎-elim}
 use mathlib.Core.Bool.{Bool, true, _&&_, _||_, not, cond}
 use mathlib.Core.List.{List, [], _∷_, _++_}
 use native.Mathlib.Omega.{arith}
-use lib.Dec.{T, T-not, not-T, eqb, eqb→eq, leb→le, le→leb, ltb, ltb→lt, lt→ltb, nltb→le}
+use lib.Dec.{T, T-not, not-T, eqb, eqb→eq, ltb, lt→ltb, nltb→le}
 use lib.ListN.{length, length-append}
 use lib.Pow.{pow-lt}
 use Rattle.names.specs.Sets.{has}
@@ -16,13 +16,14 @@ use Rattle.names.proofs.SetLaws.{digit-single-other, has-out}
 use Rattle.predicates.specs.Lists.{any, all, keep, In}
 use Rattle.predicates.specs.Predicates.{holds, implies, isTrue, struck, isNormal, normal, formed}
 use Rattle.predicates.proofs.ListLaws.{both, both-l, both-r, or-cases, neither, split, cond-ind}
-use Rattle.predicates.proofs.ListLaws.{in-l, in-r, in-cases, any-in, any-out, all-in, all-out, keep-in, keep-out, all-keep, length-keep}
+use Rattle.predicates.proofs.ListLaws.{in-l, in-r, in-cases, any-in, any-out, all-out, keep-in, keep-out, all-keep, length-keep}
 use Rattle.predicates.proofs.PredicateLaws.{holds-sum, holds-normal, implies-in, implies-refl, implies-trans, normal-normal, normal-out, normal-some, formed-out}
 use Rattle.predicates.proofs.PlaceLaws.{length-normal}
-use Rattle.state.specs.Model.{Datum, Store, endLimit}
+use Rattle.state.specs.Model.{Datum, Store}
 use Rattle.state.specs.Form.{termFits, termsFit, datumOk, storeOk}
 use Rattle.state.proofs.LayoutLaws.{all-append}
-use Rattle.steps.specs.Steps.{disjoint, explained, learn, learnt, unexplained, same, meet, met, without, betters, stored, heldAfter, received, settled}
+use Rattle.steps.specs.Steps.{disjoint, learnt, unexplained, same, meet, met, without, betters, stored, heldAfter, received, settled}
+use Rattle.entries.specs.Entries.{explained, learn}
 use Rattle.state.proofs.OkLaws.{OkDatum, ok-datum-in, ok-datum-out, ok-terms-in, ok-terms-out}
 
 -- ---- predicates

@@ -17,13 +17,15 @@ use Rattle.predicates.specs.Lists.{any, keep}
 use Rattle.predicates.specs.Predicates.{normal}
 use Rattle.predicates.proofs.LoopLaws.{drop-next}
 use Rattle.state.specs.Model.{Datum, Store}
-use Rattle.steps.specs.Steps.{disjoint, explained, learn, learnt, unexplained, same, meet, met, without, betters, stored, heldAfter, settled}
+use Rattle.steps.specs.Steps.{disjoint, learnt, unexplained, same, meet, met, without, betters, stored, heldAfter, settled}
+use Rattle.entries.specs.Entries.{explained, learn}
 use Rattle.state.specs.code.Tables.{table, columns, TableFits, rowOf, hasTerms, datumIn, dataIn}
 use Rattle.state.specs.Model.{datum}
-use Rattle.steps.specs.code.Rows.{givenUp, FirstRow, liveBelow}
+use Rattle.entries.specs.code.Marks.{givenUp}
+use Rattle.steps.specs.code.Rows.{FirstRow, liveBelow}
 use Rattle.numbers.proofs.NumberLaws.{tab-suc, tab-cong}
 use Rattle.predicates.proofs.ListLaws.{keep-append}
-use Rattle.steps.proofs.TableLaws.{given-up-count, anyBelow, any-below-none, any-kept}
+use Rattle.entries.proofs.TableLaws.{given-up-count, anyBelow, any-below-none, any-kept}
 
 -- ---- how many rows have terms
 

@@ -8,20 +8,13 @@ use lib.ListN.{length}
 use Rattle.predicates.specs.Lists.{any, keep}
 use Rattle.predicates.specs.Predicates.{implies, isTrue, normal}
 use Rattle.state.specs.Model.{Datum, Store}
+use Rattle.entries.specs.Entries.{explained, learn}
 use Rattle.state.specs.Layout.{dataMost, entriesMost}
 
 -- ---- step 1: "where the intervals are disjoint, the sum of both predicates, in normal form, is an entry for the failure knowledge"
 
 unfoldable pub disjoint : Datum → Datum → Bool
 disjoint d e = ltb (d .right) (e .left) || ltb (e .right) (d .left)
-
--- hasTerms entry implies p
-unfoldable pub explained : List (List ℕ) → List ℕ → Bool
-explained es p = any (λ e. implies e p) es
-
--- "If an entry there implies it, it is not added. Else the entries that it implies go, and it stands last."
-unfoldable pub learn : List ℕ → List (List ℕ) → List (List ℕ)
-learn e es = cond (explained es e) es (keep (λ f. not (implies e f)) es ++ (e ∷ []))
 
 -- "Oldest held datum first"
 unfoldable pub learnt : Datum → List Datum → List (List ℕ) → List (List ℕ)

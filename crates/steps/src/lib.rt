@@ -2,7 +2,6 @@
 // Every function here is proved, and the crate assumes nothing of its own.
 pub mod settling;
 pub mod steps;
-mod tables;
 
 // How many rows of data and of entries there are.
 pub struct Rows {

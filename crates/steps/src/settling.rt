@@ -4,9 +4,8 @@ ghost use Prim.Native.Nat.{_+_, _*_, _≤_, _<_};
 ghost use lib.ListN.{length, set};
 ghost use lib.Seq.{sets};
 ghost use Rattle.numbers.specs.Numbers.{tab};
-ghost use Rattle.state.specs.Model.{Store};
 ghost use Rattle.state.specs.Layout.{datumTerms, entryTerms, rowsMost};
-ghost use Rattle.state.specs.code.Tables.{Table, Columns, table, columns, TableFits, ColumnsFit, datumOf, datumIn, dataIn, storeIn};
+ghost use Rattle.state.specs.code.Tables.{Columns, table, columns, TableFits, ColumnsFit, datumOf, datumIn, dataIn, storeIn};
 ghost use Rattle.steps.specs.code.Rows.{liveBelow};
 ghost use Rattle.steps.specs.Steps.{met, without, stored, settled};
 use super::Rows;
@@ -28,7 +27,7 @@ fn add_datum(
     ensures { λ _. ⌜ now (held .exit) ≡ set (now (held .entry)) h (length (now (p .entry))) ⌝ }
     ensures { λ _. ⌜ now (terms .exit) ≡ sets (now (terms .entry)) (h * datumTerms) (now (p .entry)) ⌝ }
 {
-    super::tables::add_row(held, terms, h, state::DATUM_TERMS, p);
+    entries::tables::add_row(held, terms, h, state::DATUM_TERMS, p);
     lefts[h] = new.left;
     rights[h] = new.right;
 }
@@ -88,7 +87,7 @@ pub fn settle(
 {
     let h = rows.held;
     let mut marks = [0u32; state::ROWS_MOST];
-    super::tables::mark_rows(counts, masks, rows.known, &mut marks);
+    entries::tables::mark_rows(counts, masks, rows.known, &mut marks);
     let known = super::steps::learn_all(
         lefts,
         rights,
@@ -102,7 +101,7 @@ pub fn settle(
         rows,
     );
     super::steps::drop_explained(held, terms, h, counts, masks, &marks, known);
-    if super::tables::explained(counts, masks, &marks, known, p) {
+    if entries::tables::explained(counts, masks, &marks, known, p) {
         return Rows { held: h, known };
     }
     let held_rows = place(lefts, rights, held, terms, h, new, p);

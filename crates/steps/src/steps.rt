@@ -13,10 +13,12 @@ ghost use Rattle.state.specs.Model.{Datum};
 ghost use Rattle.state.specs.Layout.{datumTerms, entryTerms};
 ghost use Rattle.state.specs.code.Tables.{Table, Columns, table, columns, tableOf, TableFits, ColumnsFit};
 ghost use Rattle.state.specs.code.Tables.{rowOf, hasTerms, entriesIn, datumOf, datumIn, dataIn};
-ghost use Rattle.steps.specs.code.Rows.{Marked, FirstRow, givenUp};
+ghost use Rattle.entries.specs.code.Marks.{Marked, givenUp};
+ghost use Rattle.steps.specs.code.Rows.{FirstRow};
 use super::Rows;
 use state::Ends;
-ghost use Rattle.steps.specs.Steps.{disjoint as Steps·disjoint, explained, learn, learnt};
+ghost use Rattle.steps.specs.Steps.{disjoint as Steps·disjoint, learnt};
+ghost use Rattle.entries.specs.Entries.{explained, learn};
 ghost use Rattle.steps.specs.Steps.{same as Steps·same, met, without, betters as Steps·betters};
 
 // Whether two intervals have no instant in common.
@@ -53,7 +55,7 @@ fn learn_from(
     }
     let mut terms = [0u32; state::ENTRY_TERMS];
     let m = predicates::sums::sum(&mut terms, q, p);
-    super::tables::learn(counts, masks, marks, n, &terms[..m])
+    entries::tables::learn(counts, masks, marks, n, &terms[..m])
 }
 
 // Step 1: what the new datum and the held data teach, oldest first. Answers how many rows of entries there are now.
@@ -114,7 +116,7 @@ fn explained_row(
 {
     let from = i * state::DATUM_TERMS;
     let to = from + held[i] as usize;
-    super::tables::explained(counts, masks, marks, n, &terms[from..to])
+    entries::tables::explained(counts, masks, marks, n, &terms[from..to])
 }
 
 // Step 2: held data whose predicate is implied by one entry go.

@@ -1,25 +1,12 @@
 -- Definitions that serve the code alone: no statement of document 01 cites this file.
--- Rows of predicates in flat arrays, as a receipt works on them: their marks, and the rows given up.
+-- Rows in flat arrays, as a receipt works on them: the first that passes a test, and how many have terms.
 -- Assumes nothing: these are definitions.
 use Prim.Native.Nat.{ℕ, zero, suc, _+_, _≤_, _<_}
 use mathlib.Core.Path.{_≡_}
 use lib.Dec.{eqb}
 use mathlib.Core.Bool.{Bool, true, false, cond}
-use mathlib.Core.List.{List, _++_}
-use lib.ListN.{length, getD, drop}
-use Rattle.numbers.specs.Numbers.{tab}
-use Rattle.predicates.specs.code.Marks.{markOf}
-use Rattle.state.specs.Layout.{entryTerms}
-use Rattle.state.specs.code.Tables.{Table, rowOf}
-
--- each of the first n rows of entries that has not been given up has its mark: the names that make it true alone
-pub record Marked (n : ℕ) (t : Table) (marks : List ℕ) : Type 0 where
-  pub reach : n ≤ length marks
-  pub mark : (i : ℕ) → i < n → (getD (t .counts) i 0 ≡ 0 → ⊥) → getD marks i 0 ≡ markOf (rowOf entryTerms t i)
-
--- the counts when the rows that pass the test have been given up
-unfoldable pub givenUp : ℕ → (ℕ → Bool) → List ℕ → List ℕ
-givenUp n test counts = tab n (λ i. cond (test i) 0 (getD counts i 0)) ++ drop n counts
+use mathlib.Core.List.{List}
+use lib.ListN.{getD}
 
 -- r is the first row below n that passes the test, or n
 pub record FirstRow (n : ℕ) (test : ℕ → Bool) (r : ℕ) : Type 0 where

@@ -1,12 +1,13 @@
 -- `steps::settling::place` meets its contract: step 3, then rule 14 both ways; a datum that is stored is put last (`data-added`).
 use Prim.Native.Nat.{_+_}
-use mathlib.Core.Path.{_≡_, sym, ap, _∙_}
+use mathlib.Core.Path.{_≡_, sym, _∙_}
 use mathlib.Core.List.{List, [], _∷_, _++_}
 use native.Mathlib.Omega.{arith}
 use Rattle.state.specs.Model.{Datum}
 use Rattle.state.specs.code.Tables.{columns, ColumnsFit, datumOf, dataIn}
 use Rattle.steps.specs.Steps.{met, without, stored}
-use Rattle.steps.proofs.TableLaws.{table-given-up, columns-less, columns-added, data-added}
+use Rattle.entries.proofs.TableLaws.{table-given-up}
+use Rattle.steps.proofs.ColumnLaws.{columns-less, columns-added, data-added}
 use Rattle.steps.proofs.StepLaws.{table-more, data-bettered, stored-kept, stored-new}
 use borrow.Author.Needs.{needs}
 use Rattle.steps.proofs.settling.place.Statement.{statement}

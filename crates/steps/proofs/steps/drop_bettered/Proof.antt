@@ -8,8 +8,8 @@ use native.Mathlib.Omega.{arith}
 use lib.ListN.{length, getD, length-set}
 use Rattle.steps.specs.Steps.{betters}
 use Rattle.state.specs.code.Tables.{columns, datumOf, datumIn}
-use Rattle.steps.specs.code.Rows.{givenUp}
-use Rattle.steps.proofs.TableLaws.{given-up-none, given-up-at, given-up-turn}
+use Rattle.entries.specs.code.Marks.{givenUp}
+use Rattle.entries.proofs.TableLaws.{given-up-none, given-up-at, given-up-turn}
 use Rattle.state.proofs.RowLaws.{table-room}
 use Rattle.steps.proofs.StepLaws.{datum-count}
 use borrow.Author.Needs.{needs}

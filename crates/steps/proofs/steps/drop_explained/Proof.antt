@@ -6,10 +6,10 @@ use mathlib.Core.Bool.{true, false}
 use mathlib.Core.Logic.{⊎-elim}
 use native.Mathlib.Omega.{arith}
 use lib.ListN.{length, getD, length-set}
-use Rattle.steps.specs.Steps.{explained}
+use Rattle.entries.specs.Entries.{explained}
 use Rattle.state.specs.code.Tables.{table, rowOf, entriesIn}
-use Rattle.steps.specs.code.Rows.{givenUp}
-use Rattle.steps.proofs.TableLaws.{given-up-none, given-up-at, given-up-turn, row-count}
+use Rattle.entries.specs.code.Marks.{givenUp}
+use Rattle.entries.proofs.TableLaws.{given-up-none, given-up-at, given-up-turn, row-count}
 use Rattle.state.proofs.RowLaws.{table-room}
 use borrow.Author.Needs.{needs}
 use Rattle.steps.proofs.steps.drop_explained.Statement.{statement}

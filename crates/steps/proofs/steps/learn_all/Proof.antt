@@ -7,7 +7,7 @@ use lib.ListN.{length, getD}
 use Rattle.numbers.specs.Numbers.{tab}
 use Rattle.steps.specs.Steps.{learnt}
 use Rattle.state.specs.code.Tables.{table, columns, TableFits, entriesIn, datumOf, datumIn}
-use Rattle.steps.specs.code.Rows.{Marked}
+use Rattle.entries.specs.code.Marks.{Marked}
 use Rattle.state.proofs.RowLaws.{table-room, row-lent, row-length}
 use Rattle.steps.proofs.StepLaws.{table-more, learnt-next}
 use borrow.Author.Needs.{needs}

@@ -1,8 +1,8 @@
 -- `steps::tables::row_mark` meets its contract: the row is a part of the array.
 use Rattle.state.proofs.RowLaws.{row-lent}
 use borrow.Author.Needs.{needs}
-use Rattle.steps.proofs.tables.row_mark.Statement.{statement}
-use Rattle.steps.proofs.tables.row_mark.Tie as tie
+use Rattle.entries.proofs.tables.row_mark.Statement.{statement}
+use Rattle.entries.proofs.tables.row_mark.Tie as tie
 
 returns : tie.Need-returns
 returns c =

@@ -3,10 +3,10 @@
 use mathlib.Core.Path.{sym}
 use borrow.Author.Tests.{not-true}
 use Rattle.state.proofs.RowLaws.{row-lent}
-use Rattle.steps.proofs.TableLaws.{implies-none, apart-row}
+use Rattle.entries.proofs.TableLaws.{implies-none, apart-row}
 use borrow.Author.Needs.{needs}
-use Rattle.steps.proofs.tables.implies_row.Statement.{statement}
-use Rattle.steps.proofs.tables.implies_row.Tie as tie
+use Rattle.entries.proofs.tables.implies_row.Statement.{statement}
+use Rattle.entries.proofs.tables.implies_row.Tie as tie
 
 returns : tie.Need-returns
 returns c =

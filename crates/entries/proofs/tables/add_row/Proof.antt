@@ -7,8 +7,8 @@ use lib.ListN.{length, drop, length-set, drop-of-length-le}
 use lib.Seq.{sets}
 use Rattle.predicates.proofs.SumLaws.{copy-turn}
 use borrow.Author.Needs.{needs}
-use Rattle.steps.proofs.tables.add_row.Statement.{statement}
-use Rattle.steps.proofs.tables.add_row.Tie as tie
+use Rattle.entries.proofs.tables.add_row.Statement.{statement}
+use Rattle.entries.proofs.tables.add_row.Tie as tie
 
 abbrev Inv-loop : tie.InvT-loop
 Inv-loop counts masks₀ n width e count from j₀ masks j = (j ≤ length e) × (length masks ≡ length masks₀) × (sets masks (n * width + j) (drop j e) ≡ sets masks₀ (n * width) e)

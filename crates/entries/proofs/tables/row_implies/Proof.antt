@@ -4,10 +4,10 @@ use mathlib.Core.Path.{sym}
 use borrow.Author.Tests.{not-true}
 use Rattle.state.proofs.RowLaws.{row-lent, row-empty}
 use Rattle.state.proofs.RowLaws.{row-full}
-use Rattle.steps.proofs.TableLaws.{row-apart}
+use Rattle.entries.proofs.TableLaws.{row-apart}
 use borrow.Author.Needs.{needs}
-use Rattle.steps.proofs.tables.row_implies.Statement.{statement}
-use Rattle.steps.proofs.tables.row_implies.Tie as tie
+use Rattle.entries.proofs.tables.row_implies.Statement.{statement}
+use Rattle.entries.proofs.tables.row_implies.Tie as tie
 
 returns : tie.Need-returns
 returns c =

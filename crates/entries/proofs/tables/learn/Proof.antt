@@ -2,11 +2,11 @@
 use mathlib.Core.Path.{refl, sym, _∙_}
 use native.Mathlib.Omega.{arith}
 use native.Mathlib.Nat.{suc-mul}
-use Rattle.steps.specs.Steps.{learn}
-use Rattle.steps.proofs.TableLaws.{table-less, marked-less, learn-table, learn-marked, learn-rows}
+use Rattle.entries.specs.Entries.{learn}
+use Rattle.entries.proofs.TableLaws.{table-less, marked-less, learn-table, learn-marked, learn-rows}
 use borrow.Author.Needs.{needs}
-use Rattle.steps.proofs.tables.learn.Statement.{statement}
-use Rattle.steps.proofs.tables.learn.Tie as tie
+use Rattle.entries.proofs.tables.learn.Statement.{statement}
+use Rattle.entries.proofs.tables.learn.Tie as tie
 
 explained-requires : tie.Need-explained-requires
 explained-requires c κs = let a = c .before .before .before .before .before .before .before in (table-less 16 _ _ _ _ (a .pre .0) (omega arith), a .pre .1 .1)

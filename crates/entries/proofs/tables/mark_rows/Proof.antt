@@ -4,12 +4,12 @@ use Prim.Native.Nat.{_-_, _≤_}
 use mathlib.Core.Path.{_≡_, refl}
 use native.Mathlib.Omega.{arith}
 use lib.ListN.{length, length-set}
-use Rattle.steps.specs.code.Rows.{Marked}
+use Rattle.entries.specs.code.Marks.{Marked}
 use Rattle.state.proofs.RowLaws.{table-room}
-use Rattle.steps.proofs.TableLaws.{marked-none, marked-next}
+use Rattle.entries.proofs.TableLaws.{marked-none, marked-next}
 use borrow.Author.Needs.{needs}
-use Rattle.steps.proofs.tables.mark_rows.Statement.{statement}
-use Rattle.steps.proofs.tables.mark_rows.Tie as tie
+use Rattle.entries.proofs.tables.mark_rows.Statement.{statement}
+use Rattle.entries.proofs.tables.mark_rows.Tie as tie
 use Rattle.state.specs.code.Tables.{table}
 
 abbrev Inv-loop : tie.InvT-loop

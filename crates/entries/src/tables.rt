@@ -10,8 +10,8 @@ ghost use Rattle.predicates.specs.Predicates.{implies};
 ghost use Rattle.predicates.specs.code.Marks.{markOf};
 ghost use Rattle.state.specs.Layout.{entryTerms};
 ghost use Rattle.state.specs.code.Tables.{Table, table, TableFits, rowOf, hasTerms, entriesIn};
-ghost use Rattle.steps.specs.code.Rows.{Marked, givenUp};
-ghost use Rattle.steps.specs.Steps.{explained as Steps·explained, learn as Steps·learn};
+ghost use Rattle.entries.specs.code.Marks.{Marked, givenUp};
+ghost use Rattle.entries.specs.Entries.{explained as Steps·explained, learn as Steps·learn};
 
 // Whether row i of 16 has terms and implies p; p's mark is given.
 fn row_implies(

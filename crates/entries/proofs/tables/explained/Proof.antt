@@ -6,11 +6,11 @@ use mathlib.Core.Bool.{false, _&&_}
 use native.Mathlib.Omega.{arith}
 use Rattle.predicates.specs.Predicates.{implies}
 use Rattle.state.specs.code.Tables.{table, rowOf, hasTerms}
-use Rattle.steps.proofs.TableLaws.{anyBelow, any-below-next, any-below-here, explained-rows}
+use Rattle.entries.proofs.TableLaws.{anyBelow, any-below-next, any-below-here, explained-rows}
 use Rattle.state.proofs.RowLaws.{table-room}
 use borrow.Author.Needs.{needs}
-use Rattle.steps.proofs.tables.explained.Statement.{statement}
-use Rattle.steps.proofs.tables.explained.Tie as tie
+use Rattle.entries.proofs.tables.explained.Statement.{statement}
+use Rattle.entries.proofs.tables.explained.Tie as tie
 
 abbrev Inv-loop : tie.InvT-loop
 Inv-loop counts masks marks n p bound i₀ i = (i ≤ n) × (anyBelow i (λ k. hasTerms (rowOf 16 (table counts masks) k) && implies (rowOf 16 (table counts masks) k) p) ≡ false)

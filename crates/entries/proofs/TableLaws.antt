@@ -1,9 +1,9 @@
 -- Tables of predicates in flat arrays: what the loops over them find, give up and put last, as facts on the lists that they hold.
 -- The idea: a row that is given up is passed over and no other row moves, so a table holds the list of the rows that have terms, and the mark of
 -- a row stays right until the row is gone. No contract cites this file. Assumes nothing.
-use Prim.Native.Nat.{ℕ, zero, suc, _+_, _*_, _-_, _^_, _≤_, _<_}
+use Prim.Native.Nat.{ℕ, zero, suc, _+_, _*_, _-_, _≤_, _<_}
 use mathlib.Core.Path.{_≡_, refl, sym, ap, ap₂, subst, _∙_}
-use mathlib.Core.Bool.{Bool, true, false, _&&_, _||_, not, cond, and-false, or-assoc, or-false, or-true}
+use mathlib.Core.Bool.{Bool, true, false, _&&_, _||_, not, cond, and-false, or-false, or-true}
 use mathlib.Core.List.{List, [], _∷_, _++_, append-assoc}
 use native.Mathlib.Nat.{mul-le-mul-right, suc-mul}
 use native.Mathlib.Numerals.{add-one}
@@ -11,18 +11,14 @@ use native.Mathlib.Omega.{arith}
 use native.Mathlib.Decide.{ℕ-discrete, decLt}
 use lib.ListN.{length, getD, take, drop, set, length-append, length-drop, length-set, List·getD-append}
 use lib.Seq.{sets, sets-eq, length-sets, take-at, drop-at, take-append-le, drop-append-le, length-take-le, getD-drop, getD-append-add, set-at, getD-set-same, getD-set-other, drop-cons}
-use Rattle.names.specs.Sets.{subset}
 use Rattle.numbers.specs.Numbers.{tab}
 use Rattle.numbers.proofs.NumberLaws.{length-tab, getD-tab, tab-cong, tab-suc}
 use Rattle.predicates.specs.Lists.{any, keep}
 use Rattle.predicates.specs.Predicates.{holds, implies}
 use Rattle.predicates.specs.code.Marks.{markOf, Apart}
-use Rattle.steps.specs.Steps.{explained, learn}
-use Rattle.state.specs.Model.{Datum}
-use Rattle.state.specs.Layout.{datumTerms}
-use Rattle.state.specs.code.Tables.{Columns, table, columns, TableFits, ColumnsFit, rowOf, hasTerms, entriesIn, datumIn, dataIn}
-use Rattle.state.specs.Model.{datum}
-use Rattle.steps.specs.code.Rows.{Marked, givenUp}
+use Rattle.entries.specs.Entries.{explained, learn}
+use Rattle.state.specs.code.Tables.{table, TableFits, rowOf, hasTerms, entriesIn}
+use Rattle.entries.specs.code.Marks.{Marked, givenUp}
 use Rattle.predicates.proofs.ListLaws.{keep-append, any-append}
 use Rattle.state.proofs.RowLaws.{row-empty}
 
@@ -324,54 +320,3 @@ module _ (n : ℕ) (counts masks e : List ℕ) (t : TableFits 16 (n + 1) (table 
       last : (e : List ℕ) → 0 < length e → keep hasTerms (e ∷ []) ≡ e ∷ []
       last [] h = absurd (omega arith)
       last (x ∷ l) h = refl
-
--- ---- a datum put last
-
-pub columns-less : (h : ℕ) (c : Columns) → ColumnsFit (h + 1) c → ColumnsFit h c
-columns-less h c t =
-    record {
-      table = table-less datumTerms (h + 1) h (c .counts) (c .masks) (t .table) (omega arith);
-      lefts-long = omega (arith, t .lefts-long);
-      rights-long = omega (arith, t .rights-long);
-    }
-
-module _ (h : ℕ) (lefts rights counts masks p : List ℕ) (a b : ℕ) (t : ColumnsFit (h + 1) (columns lefts rights counts masks)) (few : length p ≤ datumTerms) where
-  -- the columns with it
-  abbrev added : Columns
-  added = columns (set lefts h a) (set rights h b) (set counts h (length p)) (sets masks (h * datumTerms) p)
-
-  pub columns-added : ColumnsFit (h + 1) added
-  columns-added =
-      record {
-        table = table-appended datumTerms h counts masks p (t .table) few;
-        lefts-long = omega (arith, t .lefts-long, length-set lefts h a);
-        rights-long = omega (arith, t .rights-long, length-set rights h b);
-      }
-
-  pub data-added : 0 < length p → dataIn (h + 1) added ≡ dataIn h (columns lefts rights counts masks) ++ (datum a b p ∷ [])
-  unfolding dataIn datumIn hasTerms
-  data-added some =
-      let near : h < length counts = omega (arith, t .table .counted) in
-      let room : h * datumTerms + length p ≤ length masks = omega (arith, t .table .long, suc-mul h datumTerms) in
-      let less = table-less datumTerms (h + 1) h counts masks (t .table) (omega arith) in
-      let same : tab h (datumIn added) ≡ tab h (datumIn (columns lefts rights counts masks)) =
-      tab-cong h (datumIn added) (datumIn (columns lefts rights counts masks))
-      (λ i k. rw (
-        getD-set-other lefts h i a 0 (λ e. omega arith),
-        getD-set-other rights h i b 0 (λ e. omega arith),
-        rows-before datumTerms h counts masks p less near room i k,
-      )) in
-      let last : datumIn added h ≡ datum a b p =
-      rw (
-        getD-set-same lefts h a 0 (omega (arith, t .lefts-long)),
-        getD-set-same rights h b 0 (omega (arith, t .rights-long)),
-        row-last datumTerms h counts masks p less near room,
-      ) in
-      ap (λ l. keep (λ d. hasTerms (d .terms)) l) (tab-suc h (datumIn added))
-      ∙ keep-append (λ d. hasTerms (d .terms)) (tab h (datumIn added)) (datumIn added h ∷ [])
-      ∙ ap₂ (λ (x y : List Datum). x ++ y) (ap (λ l. keep (λ d. hasTerms (d .terms)) l) same)
-      (ap (λ (d : Datum). keep (λ e. hasTerms (e .terms)) (d ∷ [])) last ∙ kept p some)
-    where
-      kept : (q : List ℕ) → 0 < length q → keep (λ d. hasTerms (d .terms)) (datum a b q ∷ []) ≡ datum a b q ∷ []
-      kept [] h = absurd (omega arith)
-      kept (x ∷ q) h = refl

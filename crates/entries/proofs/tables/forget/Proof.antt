@@ -9,12 +9,12 @@ use lib.ListN.{length, getD, length-set}
 use Rattle.predicates.specs.Predicates.{implies}
 use Rattle.predicates.specs.code.Marks.{markOf}
 use Rattle.state.specs.code.Tables.{table, rowOf}
-use Rattle.steps.specs.code.Rows.{givenUp}
-use Rattle.steps.proofs.TableLaws.{given-up-none, given-up-at, given-up-turn, row-count}
+use Rattle.entries.specs.code.Marks.{givenUp}
+use Rattle.entries.proofs.TableLaws.{given-up-none, given-up-at, given-up-turn, row-count}
 use Rattle.state.proofs.RowLaws.{table-room}
 use borrow.Author.Needs.{needs}
-use Rattle.steps.proofs.tables.forget.Statement.{statement}
-use Rattle.steps.proofs.tables.forget.Tie as tie
+use Rattle.entries.proofs.tables.forget.Statement.{statement}
+use Rattle.entries.proofs.tables.forget.Tie as tie
 
 abbrev Inv-loop : tie.InvT-loop
 Inv-loop counts₀ masks marks n e mark i₀ counts i = (i ≤ n) × (length counts ≡ length counts₀) × (counts ≡ givenUp i (λ k. implies e (rowOf 16 (table counts₀ masks) k)) counts₀)

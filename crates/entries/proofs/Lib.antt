@@ -1,0 +1,2 @@
+-- The laws of rows of entries that the crates above share.
+pub mod TableLaws
