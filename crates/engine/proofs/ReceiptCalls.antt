@@ -9,7 +9,7 @@ use borrow.Author.Tests.{eq-eqb, ne-eqb, le-leb, lt-leb, lt-ltb, le-ltb}
 use lib.Dec.{T, eqb, ltb, ltb→lt}
 use lib.ListN.{length, getD, take, drop}
 use lib.Seq.{sets, sets-eq, take-at}
-use Rattle.numbers.specs.Numbers.{put, Bytes}
+use Rattle.numbers.specs.Numbers.{Bytes}
 use Rattle.predicates.specs.Lists.{any, all, padded}
 use Rattle.predicates.specs.Predicates.{isNormal, isTrue, formed, precedes}
 use Rattle.predicates.proofs.ListLaws.{both-l, both-r}

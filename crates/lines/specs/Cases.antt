@@ -7,9 +7,7 @@ use mathlib.Core.Bool.{Bool, true, _&&_}
 use mathlib.Core.List.{List, [], _∷_, _++_}
 use Rattle.numbers.specs.Numbers.{tab}
 use Rattle.fields.specs.Fields.{sameBytes}
-use Rattle.asking.specs.declared.Answer.{Answer}
 use Rattle.asking.specs.declared.Answer.the-variants.{Contradicted, Open, Between}
-use Rattle.asking.specs.declared.Fewest.{Fewest}
 use Rattle.asking.specs.declared.Fewest.the-variants.{Over, Few}
 use Rattle.lines.specs.Text.{badText, numberText, answerText, fewestText}
 use Rattle.lines.specs.Lines.{LineResult, lineResult}

@@ -4,10 +4,10 @@
 -- own name, that interval and those terms. No contract cites this file. Assumes nothing.
 use Prim.Native.Nat.{ℕ, zero, suc, _+_, _*_, _%_, _^_, _≤_, _<_}
 use mathlib.Core.Path.{_≡_, refl, sym, ap, _∙_}
-use mathlib.Core.Bool.{Bool, true, false, not}
+use mathlib.Core.Bool.{not}
 use mathlib.Core.List.{List, [], _∷_, _++_}
 use native.Mathlib.Omega.{arith}
-use borrow.Author.Tests.{le-ltb, eq-eqb, not-false, leb-false, ltb-false}
+use borrow.Author.Tests.{le-ltb, eq-eqb, leb-false, ltb-false}
 use lib.Dec.{T, leb, ltb, ltb→lt}
 use lib.ListN.{length, take}
 use lib.Seq.{take-append-le}
@@ -15,13 +15,13 @@ use Rattle.numbers.specs.Numbers.{num, bytes, tab, Words, wordsOf, bytesOf, put
 use Rattle.numbers.proofs.NumberLaws.{length-tab, length-bytesOf, words-bytes, take-put}
 use Rattle.predicates.specs.Lists.{all}
 use Rattle.predicates.specs.Predicates.{isNormal}
-use Rattle.predicates.proofs.ListLaws.{both-l, both-r, true-T, T-false}
+use Rattle.predicates.proofs.ListLaws.{both-l, both-r, T-false}
 use Rattle.message.specs.Words.{payload, masks}
 use Rattle.message.specs.Read.{termWords}
 use Rattle.message.specs.Write.{messageWords}
 use Rattle.message.specs.declared.Reading.the-variants.{Message}
 use Rattle.message.proofs.MessageLaws.{Masks, length-message, words-message, read-write, terms-write}
-use Rattle.state.specs.Layout.{stateSize, datumPlace, masksAt, rowAt, datumAt, heldCount}
+use Rattle.state.specs.Layout.{datumPlace, masksAt, rowAt, datumAt, heldCount}
 use Rattle.state.specs.Form.{termFits, termsFit, inForm}
 use Rattle.state.proofs.StateLaws.{datum-at-ok, length-datum-at}
 use Rattle.state.specs.Refusal.{after}

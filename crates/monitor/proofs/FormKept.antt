@@ -6,15 +6,14 @@
 use Prim.Native.Nat.{ℕ, _^_, _≤_, _<_}
 use mathlib.Core.Path.{_≡_, refl, ap, _∙_}
 use mathlib.Core.Logic.{inl, inr}
-use mathlib.Core.Bool.{Bool, not, cond}
 use mathlib.Core.List.{List, [], _∷_}
 use native.Mathlib.Omega.{arith}
 use lib.Dec.{T, eqb, eqb→eq, ltb, nltb→le}
 use lib.ListN.{length, drop}
 use Rattle.numbers.specs.Numbers.{put, wordsOf}
-use Rattle.numbers.proofs.NumberLaws.{put-front, length-put}
+use Rattle.numbers.proofs.NumberLaws.{put-front}
 use Rattle.predicates.specs.Lists.{In}
-use Rattle.predicates.proofs.ListLaws.{neither, T-false, cond-ind}
+use Rattle.predicates.proofs.ListLaws.{neither, cond-ind}
 use Rattle.message.specs.Words.{masks}
 use Rattle.message.specs.Read.{readWords, termWords}
 use Rattle.message.specs.declared.Reading.{Reading}
@@ -26,8 +25,8 @@ use Rattle.state.specs.Layout.{stateSize, stateBytes, stateOf}
 use Rattle.state.specs.Form.{inForm, stateOk}
 use Rattle.state.proofs.StateLaws.{length-state, decode-encode, encode-form, form-ok}
 use Rattle.engine.specs.Receiving.{delivery}
-use Rattle.engine.specs.Calls.{Setup, setUp, age, receive, done}
-use Rattle.engine.specs.Refusals.{setUpRefusal, ageRefusal, delaysFail, receiptRefusal, delayMost}
+use Rattle.engine.specs.Calls.{Setup, setUp, age, done}
+use Rattle.engine.specs.Refusals.{setUpRefusal, ageRefusal, delaysFail, delayMost}
 use Rattle.state.specs.Refusal.{after}
 use Rattle.state.proofs.LentLaws.{refuse-none}
 use Rattle.engine.proofs.CallLaws.{set-up-ok, age-ok, Heard, receive-ok}

@@ -8,7 +8,6 @@ use mathlib.Core.List.{List}
 use borrow.Author.Tests.{le-ltb}
 use lib.Dec.{T}
 use lib.ListN.{length}
-use Rattle.predicates.proofs.ListLaws.{T-true}
 use Rattle.state.specs.Layout.{stateOf, stateSize}
 use Rattle.state.specs.Form.{inForm}
 use Rattle.state.proofs.StateLaws.{form-ok}

@@ -8,9 +8,6 @@ use mathlib.Core.Bool.{Bool}
 use mathlib.Core.List.{List, [], _∷_}
 use native.Mathlib.Nat.{le-trans}
 use lib.IntN.{ℤ}
-use Rattle.numbers.specs.Numbers.{wordsOf}
-use Rattle.message.specs.declared.Reading.{Reading}
-use Rattle.message.specs.declared.Reading.the-variants.{Message, Refused}
 use Rattle.state.specs.Model.{Head}
 use Rattle.engine.specs.Receiving.{Delivery}
 use Rattle.engine.specs.Calls.{Setup, Call, age, receive, moved}

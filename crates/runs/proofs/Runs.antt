@@ -5,27 +5,22 @@
 use Prim.Native.Nat.{ℕ, zero, suc, _≤_}
 use mathlib.Core.Path.{_≡_, refl, sym, ap, subst, _∙_}
 use mathlib.Core.Logic.{_↔_}
-use mathlib.Core.Bool.{Bool, true, false, not, cond}
 use mathlib.Core.List.{List, [], _∷_}
 use native.Mathlib.Omega.{arith}
 use lib.Dec.{T, ltb, nltb→le, eqb·suc-zero}
 use lib.ListN.{length}
 use lib.IntN.{ℤ}
-use Rattle.numbers.specs.Numbers.{put, wordsOf}
+use Rattle.numbers.specs.Numbers.{put}
 use Rattle.numbers.proofs.NumberLaws.{length-put}
-use Rattle.predicates.proofs.ListLaws.{T-false, neither}
-use Rattle.message.specs.Words.{masks}
-use Rattle.message.specs.Read.{termWords}
 use Rattle.message.specs.declared.Reading.{Reading}
 use Rattle.message.specs.declared.Reading.the-variants.{Message, Refused}
 use Rattle.state.specs.Model.{Head, State}
 use Rattle.state.specs.Layout.{stateSize, stateBytes, headOf, storeOf, stateOf}
 use Rattle.state.specs.Form.{inForm, stateOk}
 use Rattle.state.proofs.StateLaws.{form-ok}
-use Rattle.engine.specs.Receiving.{delivery}
 use Rattle.engine.specs.Calls.{begun, setUp, Call, age, receive, moved, done}
-use Rattle.state.specs.Refusal.{refuse, lent}
-use Rattle.engine.specs.Refusals.{setUpRefusal, ageRefusal, delaysFail, receiptRefusal}
+use Rattle.state.specs.Refusal.{lent}
+use Rattle.engine.specs.Refusals.{setUpRefusal, ageRefusal}
 use Rattle.state.specs.Refusal.{after}
 use Rattle.state.proofs.LentLaws.{refuse-none, lent-passed}
 use Rattle.engine.proofs.CallLaws.{set-up-ok, age-ok, receive-ok}

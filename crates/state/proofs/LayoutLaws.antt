@@ -2,7 +2,7 @@
 -- The idea: `At at a s` says that the bytes a stand in s from index at on. What is written is taken apart by `at-first` and `at-then`, and
 -- a list of elements of one size by `at-joined`; the way back goes by `part at n s`, the n bytes that stand there.
 -- No contract cites this file. Assumes nothing.
-use Prim.Native.Nat.{ℕ, zero, suc, _+_, _*_, _-_, _^_, _/_, _≤_, _<_}
+use Prim.Native.Nat.{ℕ, zero, suc, _+_, _*_, _-_, _^_, _≤_, _<_}
 use mathlib.Core.Path.{_≡_, refl, sym, ap, subst, _∙_}
 use mathlib.Core.Bool.{Bool, true}
 use mathlib.Core.List.{List, [], _∷_, _++_, append-assoc, append-nil}
@@ -12,7 +12,7 @@ use native.Mathlib.Omega.{arith}
 use lib.Dec.{T, eqb, eqb→eq}
 use lib.ListN.{length, getD, take, drop, replicate, length-append, length-replicate, length-drop}
 use lib.Seq.{slice, take-nil, take-add, take-at, drop-at, drop-drop, getD-drop, length-take-le}
-use Rattle.numbers.specs.Numbers.{num, bytes, tab, Bytes, bytesOf}
+use Rattle.numbers.specs.Numbers.{num, bytes, tab, bytesOf}
 use Rattle.numbers.proofs.NumberLaws.{num-bytes, length-bytes, length-bytesOf}
 use Rattle.predicates.specs.Lists.{all, allBelow, padded}
 use Rattle.predicates.proofs.ListLaws.{both, both-l, both-r}

@@ -5,10 +5,10 @@
 -- No contract cites this file. Assumes nothing.
 use Prim.Native.Nat.{ℕ, zero, suc, _+_, _*_, _≤_, _<_}
 use mathlib.Core.Path.{_≡_, refl, sym, ap, _∙_}
-use mathlib.Core.List.{List, [], _∷_, _++_}
+use mathlib.Core.List.{List, [], _∷_}
 use native.Mathlib.Nat.{zero-add, add-zero, add-assoc}
 use native.Mathlib.Omega.{arith}
-use lib.ListN.{length, getD, drop, set, take-append-drop}
+use lib.ListN.{length, getD, set}
 use lib.Seq.{set-set}
 use Rattle.numbers.specs.Numbers.{put}
 use Rattle.numbers.proofs.NumberLaws.{put-append}

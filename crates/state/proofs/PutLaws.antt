@@ -9,7 +9,7 @@ use native.Mathlib.Omega.{arith}
 use lib.ListN.{length, getD, drop, set, length-append, take-append-drop}
 use lib.Seq.{getD-drop, set-getD, set-comm, drop-set-lt}
 use Rattle.numbers.specs.Numbers.{put, tab}
-use Rattle.numbers.proofs.NumberLaws.{put-then, length-put}
+use Rattle.numbers.proofs.NumberLaws.{put-then}
 use Rattle.state.specs.Model.{Datum}
 use Rattle.state.specs.Layout.{dataAt, dataMost, datumSize, entriesAt, entriesMost, entrySize, datumPlace, entryPlace, zeros, joined, datumBytes, entryBytes, dataBytes, entriesBytes}
 use Rattle.state.proofs.LayoutLaws.{part, At, at-then}

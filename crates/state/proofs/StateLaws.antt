@@ -9,7 +9,7 @@ use mathlib.Core.List.{List, [], _++_}
 use native.Mathlib.Omega.{arith}
 use lib.Dec.{T, leb→le, ltb→lt}
 use lib.ListN.{length, getD, take, drop, take-append-drop}
-use Rattle.numbers.specs.Numbers.{num, bytes, put, tab, Bytes}
+use Rattle.numbers.specs.Numbers.{num, put, tab, Bytes}
 use Rattle.numbers.proofs.NumberLaws.{bytes-num, put-front, length-bytes, length-tab}
 use Rattle.predicates.specs.Lists.{all, allBelow}
 use Rattle.predicates.proofs.ListLaws.{both, both-l, both-r}

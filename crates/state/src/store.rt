@@ -6,7 +6,6 @@ ghost use Prim.Native.Nat.{_+_, _*_, _≤_, _<_};
 ghost use lib.Dec.{T};
 ghost use lib.ListN.{length, drop};
 ghost use Rattle.numbers.specs.Numbers.{num, bytes, put, tab};
-ghost use Rattle.state.specs.Model.{Datum};
 ghost use Rattle.state.specs.Layout.{stateSize, heldAt, knownAt, dataAt, dataMost, datumSize, datumTerms, rightIn, rowIn};
 ghost use Rattle.state.specs.Layout.{entriesAt, entriesMost, entrySize, entryTerms, rowsMost};
 ghost use Rattle.state.specs.Layout.{datumPlace, entryPlace, masksAt, headOf};

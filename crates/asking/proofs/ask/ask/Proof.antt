@@ -1,6 +1,5 @@
 -- `asking::ask::ask` meets its contract: at limit 0 no search is needed; else the arrays are as large as the rows ask.
 use native.Mathlib.Omega.{arith}
-use Rattle.state.proofs.StateLaws.{held-count-le, entry-count-le}
 use borrow.Author.Needs.{needs}
 use Rattle.asking.proofs.ask.ask.Statement.{statement}
 use Rattle.asking.proofs.ask.ask.Tie as tie

@@ -1,12 +1,12 @@
 -- `engine::receiving::take_datum` meets its contract: in form, the arrays hold what the state holds (`data-form`, `entries-form`), the four steps are
 -- taken there (`settle`), and what they leave is counted (`many-live`) and then written.
-use Prim.Native.Nat.{_≤_, _+_}
+use Prim.Native.Nat.{_≤_}
 use mathlib.Core.Path.{_≡_, refl, sym, ap, ap₂, _∙_}
-use mathlib.Core.Bool.{_||_, cond}
+use mathlib.Core.Bool.{_||_}
 use mathlib.Core.List.{List}
 use native.Mathlib.Omega.{arith}
 use lib.Dec.{ltb}
-use Rattle.state.specs.Model.{Datum, Store}
+use Rattle.state.specs.Model.{Datum}
 use Rattle.state.specs.Layout.{storeOf}
 use Rattle.state.specs.Refusal.{after}
 use Rattle.state.specs.code.Tables.{table, columns, datumOf, storeIn}

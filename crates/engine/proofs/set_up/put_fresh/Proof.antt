@@ -1,5 +1,4 @@
 -- `engine::set_up::put_fresh` meets its contract: the head's numbers, no data and the fresh knowledge are the parts of the fresh state (`fresh-put`).
-use mathlib.Core.Path.{_≡_}
 use native.Mathlib.Omega.{arith}
 use Rattle.numbers.specs.Numbers.{tab}
 use Rattle.state.specs.Layout.{dataBytes, joined}

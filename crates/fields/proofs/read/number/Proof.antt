@@ -11,7 +11,7 @@ use lib.ListN.{length, getD, drop}
 use Rattle.predicates.specs.Lists.{all}
 use Rattle.predicates.proofs.LoopLaws.{all-here, all-next, all-done}
 use Rattle.predicates.proofs.ListLaws.{true-T, T-true, both-l}
-use Rattle.fields.specs.Fields.{isDigit, valueFrom, value, isNumber}
+use Rattle.fields.specs.Fields.{isDigit, valueFrom, value}
 use Rattle.fields.proofs.FieldLaws.{value-ge, value-next, value-done, number-size, number-digits, number-large, number-good}
 use borrow.Author.Needs.{needs}
 use Rattle.fields.proofs.read.number.Statement.{statement}

@@ -1,6 +1,5 @@
 -- `monitor::calls::monitor_age` meets its contract: what the first tests refuse stays as it was (`lent-stays`); else all is what `engine::ageing::age`
 -- answers and leaves.
-use Rattle.state.specs.Layout.{stateSize}
 use Rattle.state.proofs.LentLaws.{lent-stays, lent-taken, lent-next}
 use Rattle.monitor.specs.Calls.{ageNumber, ageState}
 use borrow.Author.Needs.{needs}

@@ -1,6 +1,5 @@
 -- `monitor::calls::monitor_set_up` meets its contract: too short a buffer is 24; else all is what `engine::set_up::set_up` answers and leaves.
 use borrow.Author.Tests.{lt-ltb, le-ltb}
-use mathlib.Core.Path.{refl}
 use Rattle.state.specs.Layout.{stateSize}
 use Rattle.state.specs.Refusal.{after}
 use Rattle.monitor.specs.Calls.{setUpNumber, setUpState}

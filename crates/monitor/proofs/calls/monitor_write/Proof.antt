@@ -1,7 +1,7 @@
 -- `monitor::calls::monitor_write` meets its contract: each test gives its number and leaves the output; else the bytes of the held datum's words
 -- stand at its front.
 use Prim.Native.Nat.{_*_}
-use mathlib.Core.Path.{_≡_, sym, _∙_}
+use mathlib.Core.Path.{_≡_}
 use mathlib.Core.Bool.{cond}
 use native.Mathlib.Omega.{arith}
 use borrow.Author.Tests.{lt-ltb, le-ltb, le-leb, lt-leb}

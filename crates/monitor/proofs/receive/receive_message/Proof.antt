@@ -1,9 +1,7 @@
 -- `monitor::receive::receive_message` meets its contract: refused by what was read, or received with what the message says (`taken-says`).
-use mathlib.Core.Path.{_≡_, refl, sym, _∙_}
-use native.Mathlib.Omega.{arith}
+use mathlib.Core.Path.{_≡_, sym, _∙_}
 use lib.Seq.{length-take-le}
 use Rattle.message.specs.Read.{readingNumber}
-use Rattle.state.specs.Refusal.{after}
 use Rattle.monitor.specs.Messages.{readBytes}
 use Rattle.monitor.specs.Receive.{delivered, deliveredAs, deliveredNumber, deliveredState}
 use Rattle.monitor.proofs.MessageCalls.{got-read, words-taken, words-in-taken, taken-says, refused-stays}
