@@ -27,7 +27,7 @@ use Rattle.state.proofs.LayoutLaws.{all-tab}
 use Rattle.asking.specs.Instants.{Allowed}
 use Rattle.asking.specs.code.Claims.{inside, neededAt, everything}
 use Rattle.search.specs.code.Search.{Rows, Fits, RowsFit, rowTerms, predAt, preds}
-use Rattle.asking.specs.code.Tables.{entryClaim, claimsOf, claimAt, Loaded, Bounded}
+use Rattle.claims.specs.code.Tables.{entryClaim, claimsOf, claimAt, Loaded, Bounded}
 use Rattle.search.specs.code.LeftEnds.{outside, needs, Complete}
 use Rattle.asking.proofs.ClaimLaws.{claims-in, claims-out}
 use Rattle.search.proofs.EndSteps.{in-take, take-in, at-in, getD-map}

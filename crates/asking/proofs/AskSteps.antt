@@ -28,9 +28,9 @@ use Rattle.asking.specs.declared.Answer.the-variants.{Contradicted, Open
 use Rattle.asking.specs.Asking.{interval, greatestLeft, leastRight, answer}
 use Rattle.asking.specs.code.Claims.{inside, neededAt, everything, Explained}
 use Rattle.search.specs.code.Search.{Rows, Fits, Best, preds}
-use Rattle.asking.specs.code.Tables.{entryClaim, claimAt, Loaded, Bounded, claimLeft, claimRight}
+use Rattle.claims.specs.code.Tables.{entryClaim, claimAt, Loaded, Bounded, claimLeft, claimRight}
 use Rattle.search.specs.code.LeftEnds.{outside, Ready, needs, FirstEnd, Complete}
-use Rattle.asking.proofs.TableLaws.{bounded-in}
+use Rattle.claims.proofs.TableLaws.{bounded-in}
 use Rattle.asking.proofs.ReadyLaws.{ready-in, rows-most, ends-below}
 use Rattle.asking.proofs.PlainLaws.{plain-contradicted, plain-open, plain-interval, form-bare, form-right}
 use Rattle.asking.proofs.EndLaws.{answer-open, answer-none, answer-between, right-too}

@@ -16,7 +16,7 @@ use Rattle.state.specs.Model.{Datum, Store, State}
 use Rattle.search.specs.code.Search.{Rows}
 use Rattle.asking.specs.declared.Fewest.the-variants.{Over, Few}
 use Rattle.asking.specs.Instants.{Allowed}
-use Rattle.asking.specs.code.Tables.{entryClaim, claimAt, Loaded, Bounded}
+use Rattle.claims.specs.code.Tables.{entryClaim, claimAt, Loaded, Bounded}
 use Rattle.search.specs.code.LeftEnds.{outside, Complete, LeastSet}
 use Rattle.asking.specs.Asking.{answer}
 use Rattle.asking.specs.Fewest.{notContradicted, fewest, Works}

@@ -6,9 +6,6 @@ pub mod AnswerLaws
 pub mod PlainLaws
 pub mod EndLaws
 pub mod FewestLaws
-pub mod PartingLaws
-pub mod TableLaws
-pub mod OrderLaws
 pub mod ArrayLaws
 pub mod ReadyLaws
 pub mod AskSteps

@@ -16,9 +16,9 @@ use Rattle.state.specs.Form.{inForm, stateOk, datumOk}
 use Rattle.state.proofs.StateLaws.{state-out, held-count-le, entry-count-le, form-ok}
 use Rattle.state.proofs.OkLaws.{ok-datum-out}
 use Rattle.search.specs.code.Search.{Rows}
-use Rattle.asking.specs.code.Tables.{entryClaim, claimAt, Loaded, Bounded, claimLeft, claimRight}
+use Rattle.claims.specs.code.Tables.{entryClaim, claimAt, Loaded, Bounded, claimLeft, claimRight}
 use Rattle.search.specs.code.LeftEnds.{noEnd, Ready, Complete}
-use Rattle.asking.proofs.TableLaws.{bounded-in}
+use Rattle.claims.proofs.TableLaws.{bounded-in}
 use Rattle.search.proofs.EndSteps.{at-in}
 use Rattle.asking.proofs.ArrayLaws.{claim-entry, claim-datum}
 

@@ -10,7 +10,8 @@ ghost use Rattle.state.specs.Form.{inForm};
 ghost use Rattle.asking.specs.Asking.{greatestLeft, leastRight, answer};
 ghost use Rattle.asking.specs.Fewest.{notContradicted};
 ghost use Rattle.asking.specs.code.Claims.{everything, Explained};
-ghost use Rattle.asking.specs.code.Tables.{Loaded, Room, fewRows, lastEnd};
+ghost use Rattle.claims.specs.code.Tables.{Loaded, Room};
+ghost use Rattle.asking.specs.code.Sizes.{fewRows, lastEnd};
 ghost use Rattle.search.specs.code.LeftEnds.{Complete};
 ghost use Rattle.state.specs.Model.{endLimit};
 ghost use Rattle.search.specs.code.Search.{Rows, rowsOf};
@@ -135,7 +136,7 @@ fn between(
 {
     let mut lefts = [0u64; search::ROWS_MOST];
     let mut rights = [0u64; search::ROWS_MOST];
-    super::claims::get_ends(s, n, rows, &mut lefts, &mut rights);
+    claims::get_ends(s, n, rows, &mut lefts, &mut rights);
     let mut listed = [0u32; search::ROWS_MOST];
     let free = names::others(numbers::get32(s, state::OWN_AT));
     let left = search::ends::first_end(
@@ -194,7 +195,7 @@ fn ask_in(
     requires { ⌜ Room rows (rowsOf (now counts) (now masks) (now several) (now rests) (now singles)) × (rows ≤ length (now order)) ⌝ }
     ensures { λ r. ⌜ r ≡ answer limit (stateOf (now (s .entry))) ⌝ }
 {
-    super::claims::load(s, n, rows, counts, masks, several, rests, singles, order);
+    claims::load(s, n, rows, counts, masks, several, rests, singles, order);
     let free = names::others(numbers::get32(s, state::OWN_AT));
     let set = search::search::predicate_step(
         order,

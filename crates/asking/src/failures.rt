@@ -26,7 +26,7 @@ pub fn fewest_failures(s: &[u8]) -> Fewest
     let mut rests = [0u32; search::MASKS_MOST];
     let mut singles = [0u32; search::ROWS_MOST];
     let mut order = [0u32; search::ROWS_MOST];
-    super::claims::load(
+    claims::load(
         s,
         n,
         rows,
@@ -39,7 +39,7 @@ pub fn fewest_failures(s: &[u8]) -> Fewest
     );
     let mut lefts = [0u64; search::ROWS_MOST];
     let mut rights = [0u64; search::ROWS_MOST];
-    super::claims::get_ends(s, n, rows, &mut lefts, &mut rights);
+    claims::get_ends(s, n, rows, &mut lefts, &mut rights);
     let free = names::others(own);
     let mut listed = [0u32; search::ROWS_MOST];
     let mut limit: u32 = 1;

@@ -2,7 +2,6 @@
 // explain them. Every function here is proved, and the crate assumes nothing of its own.
 
 pub mod ask;
-pub mod claims;
 pub mod failures;
 
 // What asking answers.
