@@ -4,8 +4,8 @@
  *  leaves every lent byte as it was; a taken one changes just the bytes that its comment names. Any bytes and numbers may be handed in, a
  *  damaged state too, and each call returns. Slices lent to one call must not overlap, and a slice of length 0 may be any non-null pointer.
  *
- *  Instants and readings are whole microseconds. Names of monitors are 0 to 28. Numbers in bytes are little-endian. A radio message is handed
- *  in as its 32-bit words, four bytes each; docs/layouts.md has all layouts.
+ *  Instants and readings are whole microseconds. Names of monitors are 0 to MONITOR_GREATEST_NAME. Numbers in bytes are little-endian. A radio
+ *  message is handed in as its 32-bit words, four bytes each; docs/layouts.md has all layouts.
  *
  *  Link with libmonitor.a, which `rt staticlib monitor` writes to target/staticlib. */
 #ifndef MONITOR_H
@@ -30,17 +30,26 @@ extern "C" {
 /** What monitor_fewest writes: count, mask, 8 bytes each. */
 #define MONITOR_FEWEST_BYTES 16
 
-/** Bytes of the longest message: 14 words. An output of this size is never too short for message_rewrite or monitor_write. */
-#define MONITOR_MESSAGE_BYTES 56
+/** Words of the shortest message and of the longest, and the terms that a message or a held datum has at most. */
+#define MONITOR_LEAST_WORDS 5
+#define MONITOR_MOST_WORDS 14
+#define MONITOR_MOST_TERMS 8
 
-/** The greatest own name, drift in parts per million, delay in microseconds and limit of failed monitors. */
+/** Bytes of the longest message. An output of this size is never too short for message_rewrite or monitor_write. */
+#define MONITOR_MESSAGE_BYTES (4 * MONITOR_MOST_WORDS)
+
+/** The greatest name, drift in parts per million, delay in microseconds and limit of failed monitors. */
 #define MONITOR_GREATEST_NAME 28
 #define MONITOR_GREATEST_DRIFT 1000
 #define MONITOR_GREATEST_DELAY 60000000
 #define MONITOR_GREATEST_LIMIT 4
 
-/** The count that monitor_fewest writes when more than 4 monitors must have failed. */
-#define MONITOR_FEWEST_OVER 5
+/** The greatest reading, and the greatest end of an interval that can be stored. */
+#define MONITOR_GREATEST_READING ((UINT64_C(1) << 58) - 1)
+#define MONITOR_GREATEST_END ((UINT64_C(1) << 58) - 1)
+
+/** The count that monitor_fewest writes when more than MONITOR_GREATEST_LIMIT monitors must have failed. */
+#define MONITOR_FEWEST_OVER (MONITOR_GREATEST_LIMIT + 1)
 
 /** The kinds of answer that monitor_ask writes. */
 enum monitor_answer {
@@ -53,38 +62,38 @@ enum monitor_answer {
 enum monitor_refusal {
     MONITOR_TAKEN = 0,
     /* caused by the installer */
-    MONITOR_OWN_NAME = 1,       /**< own name above 28 */
-    MONITOR_DRIFT = 2,          /**< drift above 1,000 */
-    MONITOR_READING = 3,        /**< reading 2^58 or more */
+    MONITOR_OWN_NAME = 1,       /**< own name above MONITOR_GREATEST_NAME */
+    MONITOR_DRIFT = 2,          /**< drift above MONITOR_GREATEST_DRIFT */
+    MONITOR_READING = 3,        /**< reading above MONITOR_GREATEST_READING */
     /* caused by the sender of a message */
-    MONITOR_WORD_COUNT = 10,    /**< word count outside 5 to 14, or a byte length that is not a multiple of 4 */
+    MONITOR_WORD_COUNT = 10,    /**< words fewer than MONITOR_LEAST_WORDS or more than MONITOR_MOST_WORDS, or bytes not a multiple of 4 */
     MONITOR_FORM = 11,          /**< second word neither kind 2 nor 4 */
-    MONITOR_HEAD = 12,          /**< head not of kind 1, sender above 28, term count above 8 or bits 10 to 28 not zero */
+    MONITOR_HEAD = 12,          /**< kind not 1, sender above MONITOR_GREATEST_NAME, more than MONITOR_MOST_TERMS terms, bits 10 to 28 not 0 */
     MONITOR_LENGTH = 13,        /**< word count not that of head and form */
     MONITOR_KIND = 14,          /**< a later word of the wrong kind */
     MONITOR_CHECK = 15,         /**< check word */
-    MONITOR_INTERVAL = 16,      /**< left above right, or an end below 0 or above 2^58 - 1 */
+    MONITOR_INTERVAL = 16,      /**< left above right, or an end below 0 or above MONITOR_GREATEST_END */
     MONITOR_TERMS = 17,         /**< terms not in normal form */
     MONITOR_SENDER = 18,        /**< sender is the own name */
     /* caused by the host program */
     MONITOR_BACKWARDS = 20,     /**< reading below the last */
-    MONITOR_DELAY = 21,         /**< least delay above greatest, or greatest above 60,000,000 */
-    MONITOR_LIMIT = 22,         /**< limit above 4 */
+    MONITOR_DELAY = 21,         /**< least delay above greatest, or greatest above MONITOR_GREATEST_DELAY */
+    MONITOR_LIMIT = 22,         /**< limit above MONITOR_GREATEST_LIMIT */
     MONITOR_POSITION = 23,      /**< no held datum there */
     MONITOR_BUFFER = 24,        /**< a lent buffer is too short */
     MONITOR_STATE_FORM = 25,    /**< state out of form */
     /* caused by a filling site */
-    MONITOR_END = 30,           /**< an end would pass 2^58 - 1 */
-    MONITOR_TERM_COUNT = 31,    /**< more than 8 terms in the new predicate's normal form, stored or not */
+    MONITOR_END = 30,           /**< an end would pass MONITOR_GREATEST_END */
+    MONITOR_TERM_COUNT = 31,    /**< more than MONITOR_MOST_TERMS terms in the new predicate's normal form, stored or not */
     MONITOR_TOO_MANY = 32       /**< too many data or entries */
 };
 
 /** Sets a monitor up: it holds nothing.
  *  @param state      its first MONITOR_STATE_BYTES bytes become the fresh state, whatever they were
  *  @param state_len  how many bytes are lent
- *  @param own        the own name, 0 to 28
- *  @param drift      the own clock's drift in parts per million, 0 to 1,000
- *  @param reading    the own clock's reading, below 2^58
+ *  @param own        the own name, 0 to MONITOR_GREATEST_NAME
+ *  @param drift      the own clock's drift in parts per million, 0 to MONITOR_GREATEST_DRIFT
+ *  @param reading    the own clock's reading, at most MONITOR_GREATEST_READING
  *  @return 0 when taken; else, tested in this order, 24, 1, 2 or 3, and no byte has changed */
 uint32_t monitor_set_up(uint8_t *state, size_t state_len, uint32_t own, uint32_t drift, uint64_t reading);
 
@@ -99,7 +108,7 @@ uint32_t monitor_age(uint8_t *state, size_t state_len, uint64_t reading);
  *  @param state        the monitor's bytes; those beyond MONITOR_STATE_BYTES stay as they are
  *  @param state_len    how many bytes are lent
  *  @param least        the channel's least delay
- *  @param greatest     the channel's greatest delay, at most 60,000,000
+ *  @param greatest     the channel's greatest delay, at most MONITOR_GREATEST_DELAY
  *  @param message      the words, four bytes each; they are not changed
  *  @param message_len  how many bytes they are
  *  @return 0 when taken; else, tested in this order, 24, 25, 21, 10, 12, 11, 13, 14, 15, 16, 17, 18, 30, 31 or 32, and no byte has changed */
@@ -118,15 +127,15 @@ uint32_t monitor_write(const uint8_t *state, size_t state_len, uint64_t position
  *  own one not among them, explains all that is known of failures, and each held interval that this set does not explain contains the instant.
  *  @param state       the monitor's bytes; they are not changed
  *  @param state_len   how many bytes are lent
- *  @param limit       how many monitors may have failed, 0 to 4
+ *  @param limit       how many monitors may have failed, 0 to MONITOR_GREATEST_LIMIT
  *  @param answer      its kind (enum monitor_answer), left and right go to its first MONITOR_ANSWER_BYTES bytes, left and right 0 unless the
  *                     kind is MONITOR_BETWEEN; those beyond stay as they are
  *  @param answer_len  how many bytes are lent
  *  @return 0 when taken; else, tested in this order, 24 (state), 25, 22 or 24 (answer), and no byte has changed */
 uint32_t monitor_ask(const uint8_t *state, size_t state_len, uint64_t limit, uint8_t *answer, size_t answer_len);
 
-/** Finds the fewest failures: of the sets of at most 4 failed monitors for which an instant counts as in monitor_ask, the smallest, and of
- *  those the one with the least mask.
+/** Finds the fewest failures: of the sets of at most MONITOR_GREATEST_LIMIT failed monitors for which an instant counts as in monitor_ask, the
+ *  smallest, and of those the one with the least mask.
  *  @param state       the monitor's bytes; they are not changed
  *  @param state_len   how many bytes are lent
  *  @param answer      the count of names and their mask, name n being the bit of value 2^n, go to its first MONITOR_FEWEST_BYTES bytes, or
@@ -140,7 +149,7 @@ uint32_t monitor_fewest(const uint8_t *state, size_t state_len, uint8_t *answer,
  *  @param message_len  how many bytes they are
  *  @param reading      sender, left, right and term count go to its first MONITOR_READING_BYTES bytes; those beyond stay as they are
  *  @param reading_len  how many bytes are lent
- *  @return 0 when taken; else, tested in this order, 10, 12, 11, 13, 14, 15, 16, 17 or 24 (reading_len below 32), and no byte has changed */
+ *  @return 0 when taken; else, tested in this order, 10, 12, 11, 13, 14, 15, 16, 17 or 24 (reading too short), and no byte has changed */
 uint32_t message_read(const uint8_t *message, size_t message_len, uint8_t *reading, size_t reading_len);
 
 /** Writes a message again in ends form, with the sender, interval and terms that it has and a new check word. A message in ends form comes out

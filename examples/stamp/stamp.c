@@ -1,6 +1,6 @@
 /* Dates the lines of a visit notebook with the time engine.
  *
- *     stamp LIMIT < NOTEBOOK        LIMIT: how many monitors may have failed, 0 to 4
+ *     stamp LIMIT < NOTEBOOK        LIMIT: how many monitors may have failed, 0 to MONITOR_GREATEST_LIMIT
  *
  * A notebook has the lines
  *     set OWN DRIFT READING         the monitor's name, its clock's drift in parts per million, and its clock
@@ -16,8 +16,8 @@
 
 #include "monitor.h"
 
-/* The most numbers that a line can hold: two delays, and more words than any message has. */
-#define MOST 64
+/* The most numbers that a line can hold: two delays, and far more words than any message has. */
+#define MOST (2 + MONITOR_MOST_WORDS + 48)
 
 /* A buffer of exactly n bytes, so that a tool which watches memory sees every byte beyond it. */
 static uint8_t *exactly(size_t n)

@@ -47,6 +47,6 @@ fn age(lent: &mut [u8], reading: u64, least: u64, greatest: u64) -> u32 {
         let aged = state::ends(row).grown(least, greatest).expect("ends that can be stored");
         state::put_ends(row, aged);
     }
-    bytes[8..16].copy_from_slice(&reading.to_le_bytes());
+    state::put_reading(bytes, reading);
     refusal::TAKEN
 }

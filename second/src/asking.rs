@@ -13,6 +13,8 @@ use crate::state::{self, Head, STATE_BYTES};
 
 /// The asker's limit is 0 to this one; fewest looks among the sets of so many names.
 pub const GREATEST_LIMIT: u32 = 4;
+/// The count that fewest writes where no such set does.
+pub const OVER: u64 = GREATEST_LIMIT as u64 + 1;
 /// How many bytes asking writes: its kind, left and right.
 pub const ANSWER_BYTES: usize = 3 * 8;
 /// How many bytes fewest writes: count and mask.
@@ -261,8 +263,8 @@ fn first_instant(claims: &Claims, node: Node) -> Option<u64> {
     claims.lefts().into_iter().filter(earlier).find(counts).or(first.instant)
 }
 
-/// The smallest set of at most 4 names for which an instant counts, and of those the least mask;
-/// none is 'over 4'.
+/// The smallest set within the greatest limit for which an instant counts, and of those the least
+/// mask; none is 'over'.
 pub fn fewest(bytes: &[u8; STATE_BYTES]) -> Option<Term> {
     if without_failures(bytes) != Instants::Empty {
         return Some(0);
@@ -286,7 +288,7 @@ fn least_set(claims: &Claims, node: Node) -> Option<Term> {
 
 // ---- the calls
 
-/// `monitor_ask`: the answer's 24 bytes, or 24 (state), 25, 22, 24 (output).
+/// `monitor_ask`: the answer's bytes, or 24 (state), 25, 22, 24 (output).
 pub fn ask_call(lent: &[u8], limit: u64, out: &mut [u8]) -> u32 {
     message::answer(asked(lent, limit).map(answer_bytes), out)
 }
@@ -299,7 +301,7 @@ fn asked(lent: &[u8], limit: u64) -> Result<Instants, u32> {
     Ok(ask(bytes, limit as u32))
 }
 
-/// `monitor_fewest`: the 16 bytes of count and mask, or 24 (state), 25, 24 (output).
+/// `monitor_fewest`: the bytes of count and mask, or 24 (state), 25, 24 (output).
 pub fn fewest_call(lent: &[u8], out: &mut [u8]) -> u32 {
     message::answer(state::checked(lent).map(fewest).map(fewest_bytes), out)
 }
@@ -314,10 +316,10 @@ pub fn answer_bytes(answer: Instants) -> [u8; ANSWER_BYTES] {
     })
 }
 
-/// Count and mask; 5 and 0 for over 4.
+/// Count and mask; `OVER` and 0 for none.
 pub fn fewest_bytes(found: Option<Term>) -> [u8; FEWEST_BYTES] {
     message::numbers(match found {
         Some(s) => [s.count_ones().into(), s.into()],
-        None => [u64::from(GREATEST_LIMIT) + 1, 0],
+        None => [OVER, 0],
     })
 }

@@ -2,6 +2,7 @@
 
 use crate::asking::{ANSWER_BYTES, FEWEST_BYTES};
 use crate::lent::{compare, Lent};
+use crate::message::MESSAGE_BYTES;
 use crate::receiving::Branches;
 use crate::state::STATE_BYTES;
 use crate::{ageing, asking, engine, receiving, set_up, writing};
@@ -17,9 +18,6 @@ pub enum Call {
     Ask { limit: u64 },
     Fewest,
 }
-
-/// The longest written message, in bytes.
-const MESSAGE_BYTES: usize = 4 * 14;
 
 impl Call {
     pub const NAMES: [&str; 6] = [

@@ -5,11 +5,12 @@
 //! Several claims are a mask, claim i being the bit of value 2^i.
 
 use crate::instants::{Interval, GREATEST_END};
-use crate::predicates::{Term, ALL_NAMES, GREATEST_NAME};
-use crate::state::{self, Head, MOST_DATA, MOST_ENTRIES, STATE_BYTES};
+use crate::predicates::{Term, ALL_NAMES, NAMES};
+use crate::state::{self, Head, ENTRY_TERMS, MOST_DATA, MOST_ENTRIES, STATE_BYTES};
 
 const MOST: usize = MOST_DATA + MOST_ENTRIES;
-const NAMES: usize = GREATEST_NAME as usize + 1;
+// A mask has a bit for each of them.
+const _: () = assert!(MOST <= u64::BITS as usize);
 
 /// The terms of a claim that have no more names than the limit.
 #[derive(Clone, Copy, Default)]
@@ -56,7 +57,7 @@ pub struct Claims {
     intervals: [Interval; MOST],
     several: Vec<Term>,
     /// By name: the claims that it explains alone.
-    explains: [u64; NAMES],
+    explains: [u64; NAMES as usize],
     pub entries: u64,
     pub data: u64,
 }
@@ -92,7 +93,7 @@ impl Claims {
             claims: [Claim::default(); MOST],
             intervals: [Interval { left: 0, right: 0 }; MOST],
             several,
-            explains: [0; NAMES],
+            explains: [0; NAMES as usize],
             entries: 0,
             data: 0,
         }
@@ -173,7 +174,7 @@ impl Claims {
 
 /// By how many terms they have, the fewest first.
 fn ranks(claims: &[Claim]) -> [u8; MOST] {
-    let (mut starts, mut ranks) = ([0; 18], [0; MOST]);
+    let (mut starts, mut ranks) = ([0; ENTRY_TERMS + 2], [0; MOST]);
     for claim in claims {
         starts[claim.count() + 1] += 1;
     }

@@ -33,8 +33,8 @@ pub fn ask(state: &State, limit: u32) -> Instants {
     sets.fold(Instants::Empty, |all, s| all.join(counting(s, state)))
 }
 
-/// The smallest set of at most 4 names for which an instant counts, and of those the least mask;
-/// none is 'over 4'.
+/// The smallest set within the greatest limit for which an instant counts, and of those the least
+/// mask; none is 'over'.
 pub fn fewest(state: &State) -> Option<Term> {
     let sets = sets_for(state, GREATEST_LIMIT).into_iter();
     let mut counts = sets.filter(|&s| counting(s, state) != Instants::Empty);

@@ -1,6 +1,6 @@
 //! The listing (document 01, "A listing, complete"): lines of bytes in, a line out for each.
 
-use crate::asking::{ANSWER_BYTES, FEWEST_BYTES};
+use crate::asking::{ANSWER_BYTES, FEWEST_BYTES, GREATEST_LIMIT, OVER};
 use crate::message::bytes_of;
 use crate::refusal;
 use crate::state::STATE_BYTES;
@@ -147,7 +147,7 @@ fn answered([kind, left, right]: [u64; 3]) -> String {
 /// The line of the fewest failures.
 fn found([count, mask]: [u64; 2]) -> String {
     match count {
-        5 => "fewest over 4".into(),
+        OVER => format!("fewest over {GREATEST_LIMIT}"),
         _ => format!("fewest {count} {mask}"),
     }
 }
@@ -155,8 +155,12 @@ fn found([count, mask]: [u64; 2]) -> String {
 #[cfg(test)]
 mod tests {
     use super::*;
-    use crate::message::{check_word, kind, split, word};
+    use crate::instants::GREATEST_END;
+    use crate::message::{check_word, kind, split, word, MOST_TERMS, MOST_WORDS};
+    use crate::predicates::GREATEST_NAME;
+    use crate::receiving::GREATEST_DELAY;
     use crate::samples::texts::{DOCUMENT_01, PRINTED};
+    use crate::state::{GREATEST_DRIFT, GREATEST_READING, MOST_DATA};
 
     /// What the lines of a text yield, after a taken `set`.
     fn after_set(text: &str) -> Vec<String> {
@@ -215,14 +219,15 @@ mod tests {
 
     #[test]
     fn refusals_of_the_installer_and_of_the_host() {
-        assert_eq!(listing(b"set 29 0 0\nset 0 1001 0\nset 0 0 288230376151711744"), {
-            "refused 1\nrefused 2\nrefused 3\n"
-        });
-        assert_eq!(one("age 288230376151711744"), "refused 3");
+        let (name, drift) = (GREATEST_NAME + 1, GREATEST_DRIFT + 1);
+        let (reading, delay) = (GREATEST_READING + 1, GREATEST_DELAY + 1);
+        let sets = format!("set {name} 0 0\nset 0 {drift} 0\nset 0 0 {reading}");
+        assert_eq!(listing(sets.as_bytes()), "refused 1\nrefused 2\nrefused 3\n");
+        assert_eq!(one(&format!("age {reading}")), "refused 3");
         assert_eq!(one("age 6"), "refused 20");
         assert_eq!(one("get 1 0 9"), "refused 21");
-        assert_eq!(one("get 0 60000001 9"), "refused 21");
-        assert_eq!(one("ask 5"), "refused 22");
+        assert_eq!(one(&format!("get 0 {delay} 9")), "refused 21");
+        assert_eq!(one(&format!("ask {OVER}")), "refused 22");
         assert_eq!(one("ask 18446744073709551615"), "refused 22");
     }
 
@@ -231,8 +236,9 @@ mod tests {
         let line = get(1, 10, 20, &[6, 8]);
         assert_eq!(one(&line), "ok");
         assert_eq!(one("get 0 0"), "refused 10");
-        assert_eq!(one(&format!("get 0 0{}", " 9".repeat(15))), "refused 10");
-        assert_eq!(one(&changed(&line, 0, |_| word(kind::HEAD, 29))), "refused 12");
+        assert_eq!(one(&format!("get 0 0{}", " 9".repeat(MOST_WORDS + 1))), "refused 10");
+        let head = word(kind::HEAD, GREATEST_NAME + 1);
+        assert_eq!(one(&changed(&line, 0, |_| head)), "refused 12");
         assert_eq!(one(&changed(&line, 1, |w| w | 7 << 29)), "refused 11");
         assert_eq!(one(&changed(&line, 0, |w| w + (1 << 5))), "refused 13");
         assert_eq!(one(&changed(&line, 6, |w| w | 7 << 29)), "refused 14");
@@ -244,17 +250,16 @@ mod tests {
 
     #[test]
     fn refusals_of_a_filling_site() {
-        let end = (1 << 58) - 1;
-        let late = get(1, 0, end, &[]);
+        let late = get(1, 0, GREATEST_END, &[]);
         assert_eq!(one(&late.replacen("get 0 0", "get 0 1", 1)), "refused 30");
         assert_eq!(after_set(&format!("{late}\nage 8")), ["ok", "refused 30"]);
-        let pairs: Vec<u32> = (6..14).map(|n| 3 << n).collect();
+        let pairs: Vec<u32> = (6..6 + MOST_TERMS).map(|n| 3 << n).collect();
         assert_eq!(one(&get(1, 0, 9, &pairs)), "refused 31");
-        let senders = (0..18).filter(|&n| n != 5);
+        let senders = (0..=MOST_DATA as u32 + 1).filter(|&n| n != 5);
         let lines: Vec<String> = senders.map(|n| get(n, 0, 9 + u64::from(n), &[])).collect();
         let printed = after_set(&lines.join("\n"));
-        assert!(printed[..16].iter().all(|line| line == "ok"));
-        assert_eq!(printed[16], "refused 32");
+        assert!(printed[..MOST_DATA].iter().all(|line| line == "ok"));
+        assert_eq!(printed[MOST_DATA..], ["refused 32"]);
     }
 
     #[test]
@@ -314,7 +319,8 @@ mod tests {
 
     #[test]
     fn lines_have_at_most_200_bytes() {
-        for (len, wanted) in [(199, "refused 10"), (200, "refused 10"), (201, "bad line")] {
+        for len in [LONGEST_LINE - 1, LONGEST_LINE, LONGEST_LINE + 1] {
+            let wanted = if len > LONGEST_LINE { "bad line" } else { "refused 10" };
             let words = " 9".repeat((len - 7) / 2);
             let zero = if words.len() + 7 < len { "0" } else { "" };
             let line = format!("get 0 0{zero}{words}");

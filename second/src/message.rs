@@ -3,6 +3,7 @@
 use crate::instants::Interval;
 use crate::predicates::{self, Predicate, Term, GREATEST_NAME};
 use crate::refusal;
+use crate::state::DATUM_TERMS;
 use std::ops::Deref;
 
 /// The kinds of a word: its top 3 bits.
@@ -20,8 +21,27 @@ pub mod kind {
 pub const PAYLOAD_BITS: u32 = 29;
 /// The greatest payload, and the mask of one.
 pub const PAYLOAD: u32 = (1 << PAYLOAD_BITS) - 1;
-/// A message has at most this many terms.
-pub const MOST_TERMS: u32 = 8;
+/// A message has at most this many terms, so that any datum can be written.
+pub const MOST_TERMS: u32 = DATUM_TERMS as u32;
+/// The words of a message without terms, in ends form.
+pub const ENDS_WORDS: usize = 1 + 4 + 1;
+/// The shortest message, in words: centre form without terms.
+pub const LEAST_WORDS: usize = 1 + 3 + 1;
+/// The longest message, in words and in bytes: ends form.
+pub const MOST_WORDS: usize = ENDS_WORDS + MOST_TERMS as usize;
+pub const MESSAGE_BYTES: usize = ends_form_bytes(MOST_TERMS as usize);
+/// How many bytes reading writes: sender, left, right and term count.
+pub const READING_BYTES: usize = 4 * 8;
+
+/// The bytes of a message in ends form that has so many terms.
+pub const fn ends_form_bytes(terms: usize) -> usize {
+    WORD_BYTES * (ENDS_WORDS + terms)
+}
+
+const WORD_BYTES: usize = 4;
+
+// Sums as document 01 has them.
+const _: () = assert!(MOST_WORDS == 14 && MESSAGE_BYTES == 56);
 
 /// What a message says, whichever form it came in.
 #[derive(Clone, Debug, PartialEq, Eq)]
@@ -38,9 +58,6 @@ impl Message {
         bytes_of(&write(self))
     }
 }
-
-/// The longest message, in words.
-const MOST_WORDS: usize = 14;
 
 /// The words of a message, held in place. They read as a slice.
 #[derive(Clone, Copy, Debug, Default, PartialEq, Eq)]
@@ -154,7 +171,7 @@ pub fn split(kind: u32, number: u64) -> [u32; 2] {
 
 /// What the words of a message say, or the refusal's number in the order 10, 12, 11, 13 to 17.
 pub fn read(words: &[u32]) -> Result<Message, u32> {
-    if !(5..=14).contains(&words.len()) {
+    if !(LEAST_WORDS..=MOST_WORDS).contains(&words.len()) {
         return Err(refusal::WORD_COUNT);
     }
     let head = Head::of(words[0]).ok_or(refusal::HEAD)?;
@@ -217,7 +234,7 @@ pub fn read_call(message: &[u8], out: &mut [u8]) -> u32 {
     answer(reading.map(|message| reading_bytes(&message)), out)
 }
 
-/// `message_rewrite`: the message in ends form, 6 + term count words.
+/// `message_rewrite`: the message in ends form.
 pub fn rewrite_call(message: &[u8], out: &mut [u8]) -> u32 {
     let written = words_of(message).and_then(|words| rewrite(&words));
     answer_words(written, out)
@@ -226,7 +243,7 @@ pub fn rewrite_call(message: &[u8], out: &mut [u8]) -> u32 {
 /// Four bytes make a word, little-endian; a byte length that is not a multiple of 4 is 10, and so
 /// is one above that of the longest message.
 pub fn words_of(bytes: &[u8]) -> Result<Words, u32> {
-    let (all, rest) = bytes.as_chunks::<4>();
+    let (all, rest) = bytes.as_chunks::<WORD_BYTES>();
     if !rest.is_empty() || all.len() > MOST_WORDS {
         return Err(refusal::WORD_COUNT);
     }
@@ -242,7 +259,7 @@ pub fn bytes_of(words: &[u32]) -> Vec<u8> {
     words.iter().map(|word| word.to_le_bytes()).collect::<Vec<_>>().into_flattened()
 }
 
-fn reading_bytes(message: &Message) -> [u8; 32] {
+fn reading_bytes(message: &Message) -> [u8; READING_BYTES] {
     let Interval { left, right } = message.interval;
     numbers([message.sender.into(), left, right, message.terms.len() as u64])
 }
@@ -274,7 +291,7 @@ pub(crate) fn answer_words(result: Result<Words, u32>, out: &mut [u8]) -> u32 {
         Ok(words) => words,
         Err(number) => return number,
     };
-    let Some(front) = out.get_mut(..4 * words.len()) else {
+    let Some(front) = out.get_mut(..WORD_BYTES * words.len()) else {
         return refusal::BUFFER;
     };
     for (place, word) in front.as_chunks_mut().0.iter_mut().zip(&words[..]) {

@@ -3,6 +3,7 @@
 //! A predicate is the sum of a slice's terms; no terms means false. Letters as in the definitions:
 //! n a name, s a set of failed names, t and u terms, p and q predicates.
 
+use crate::state::ENTRY_TERMS;
 use std::fmt;
 use std::ops::Deref;
 
@@ -12,8 +13,10 @@ pub type Term = u32;
 
 /// Names are 0 to this one.
 pub const GREATEST_NAME: u32 = 28;
+/// How many names there are.
+pub const NAMES: u32 = GREATEST_NAME + 1;
 /// The term of all names.
-pub const ALL_NAMES: Term = (1 << (GREATEST_NAME + 1)) - 1;
+pub const ALL_NAMES: Term = (1 << NAMES) - 1;
 
 /// Whether every name of t is in s.
 fn within(t: Term, s: Term) -> bool {
@@ -97,7 +100,7 @@ pub fn is_normal(p: &[Term]) -> bool {
     rises & (1..p.len()).fold(true, |all, i| all & holds_none(i))
 }
 
-/// A predicate of up to 16 terms, held in place. It reads as the slice of its terms.
+/// A predicate of up to as many terms as an entry has, held in place. It reads as the slice of its terms.
 #[derive(Clone, Copy, PartialEq, Eq)]
 pub struct Predicate {
     count: usize,
@@ -108,7 +111,7 @@ pub struct Predicate {
 }
 
 impl Predicate {
-    pub const MOST_TERMS: usize = 16;
+    pub const MOST_TERMS: usize = ENTRY_TERMS;
 
     /// The terms as they are.
     pub fn of(p: &[Term]) -> Predicate {

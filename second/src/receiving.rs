@@ -23,7 +23,7 @@ pub enum Branch {
     EntryAdded,
     /// Step 1: entries went that the added one implies.
     EntriesGone,
-    /// In between there were more than 32 entries.
+    /// In between there were too many entries.
     EntriesOver,
     /// Step 2: held data went.
     HeldExplained,

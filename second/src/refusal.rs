@@ -4,19 +4,19 @@
 pub const TAKEN: u32 = 0;
 
 // The installer's.
-/// Own name above 28.
+/// Own name above the greatest.
 pub const OWN_NAME: u32 = 1;
-/// Drift above 1,000.
+/// Drift above the greatest.
 pub const DRIFT: u32 = 2;
-/// Reading 2^58 or more.
+/// Reading above the greatest.
 pub const READING: u32 = 3;
 
 // The sender's.
-/// Word count outside 5 to 14, or a byte length that is not a multiple of 4.
+/// Word count outside that of messages, or a byte length that is not a multiple of 4.
 pub const WORD_COUNT: u32 = 10;
 /// Second word neither kind 2 nor 4.
 pub const FORM: u32 = 11;
-/// Head not of kind 1, sender above 28, term count above 8 or bits 10–28 not zero.
+/// Head not of kind 1, sender or term count above the greatest, or bits 10–28 not zero.
 pub const HEAD: u32 = 12;
 /// Word count not that of head and form.
 pub const HEAD_AND_FORM: u32 = 13;
@@ -34,9 +34,9 @@ pub const SENDER: u32 = 18;
 // The host program's.
 /// Reading below the last.
 pub const EARLIER: u32 = 20;
-/// Least delay above greatest, or greatest above 60,000,000.
+/// Least delay above greatest, or greatest above that of any channel.
 pub const DELAYS: u32 = 21;
-/// Limit above 4.
+/// Limit above the greatest.
 pub const LIMIT: u32 = 22;
 /// No held datum there.
 pub const POSITION: u32 = 23;
@@ -46,9 +46,9 @@ pub const BUFFER: u32 = 24;
 pub const STATE: u32 = 25;
 
 // A filling site's.
-/// An end would pass 2^58 − 1.
+/// An end would pass the greatest.
 pub const PASSES_END: u32 = 30;
-/// More than 8 terms in the new predicate's normal form, stored or not.
+/// More terms in the new predicate's normal form than a datum has, stored or not.
 pub const NEW_TERMS: u32 = 31;
 /// Too many data or entries.
 pub const TOO_MANY: u32 = 32;

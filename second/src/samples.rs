@@ -2,8 +2,8 @@
 //! refusal, also several flaws at once, so that the order of the tests shows.
 
 use crate::instants::GREATEST_END;
-use crate::message::{bytes_of, check_word, kind, split, word, MOST_TERMS, PAYLOAD};
-use crate::predicates::{normal, Term, GREATEST_NAME};
+use crate::message::{bytes_of, check_word, kind, split, word, MOST_TERMS, MOST_WORDS, PAYLOAD};
+use crate::predicates::{normal, Term, GREATEST_NAME, NAMES};
 use crate::random::Random;
 
 pub mod climbing;
@@ -45,7 +45,7 @@ pub fn message(random: &mut Random) -> Sample {
 pub fn sound(random: &mut Random) -> Vec<u32> {
     let mut terms = normal(&any_terms(random));
     terms.truncate(MOST_TERMS as usize);
-    let sender = random.below(u64::from(GREATEST_NAME) + 1) as u32;
+    let sender = random.below(NAMES.into()) as u32;
     let interval = sound_interval(random);
     sealed(sender, &interval, &terms)
 }
@@ -68,7 +68,7 @@ fn flawed(random: &mut Random) -> Vec<u32> {
 fn flawed_parts(random: &mut Random) -> Vec<u32> {
     let terms = if random.once_in(2) { flawed_terms(random) } else { normal(&any_terms(random)) };
     let interval = if random.once_in(2) { flawed_interval(random) } else { sound_interval(random) };
-    let sender = random.below(u64::from(GREATEST_NAME) + 1) as u32;
+    let sender = random.below(NAMES.into()) as u32;
     let mut words = sealed(sender, &interval, &terms);
     if random.once_in(5) {
         words[0] = flawed_head(random, words[0]);
@@ -152,10 +152,10 @@ fn centre_form(centre: u64, half: u64) -> Vec<u32> {
     vec![high, low, word(kind::HALF, half as u32)]
 }
 
-/// Up to 8 terms; of few names they often contain each other, pairs of many names seldom.
+/// Up to the most terms; of few names they often contain each other, pairs of many names seldom.
 fn any_terms(random: &mut Random) -> Vec<Term> {
     let count = random.below(u64::from(MOST_TERMS) + 1);
-    let names = random.pick(&[2, 3, 5, 8, 8, 29, 29]);
+    let names = random.pick(&[2, 3, 5, 8, 8, NAMES, NAMES]).into();
     let pairs = random.once_in(2);
     (0..count)
         .map(|_| {
@@ -214,18 +214,22 @@ fn damage(random: &mut Random, words: &mut Vec<u32>) {
         5 => drop(words.remove(one)),
         6 => words.insert(one, words[other]),
         _ => {
-            let (last, len) = (words[words.len() - 1], random.index(21));
+            let (last, len) = (words[words.len() - 1], random.index(NOISE_WORDS + 1));
             words.resize(len, last);
         }
     }
 }
 
-/// 0 to 20 words of any bits, the first often a sound head and the second often of a form's kind.
+/// Noise has 0 to so many words: more than any message.
+const NOISE_WORDS: usize = MOST_WORDS + 6;
+
+/// Words of any bits, the first often a sound head and the second often of a form's kind.
 fn noise(random: &mut Random) -> Vec<u32> {
-    let mut words: Vec<u32> = (0..random.below(21)).map(|_| random.bits() as u32).collect();
+    let count = random.index(NOISE_WORDS + 1);
+    let mut words: Vec<u32> = (0..count).map(|_| random.bits() as u32).collect();
     if words.len() > 1 && !random.once_in(4) {
-        let (sender, count) = (random.below(29) as u32, random.below(9) as u32);
-        words[0] = word(kind::HEAD, count << 5 | sender);
+        let (sender, count) = (random.below(NAMES.into()), random.below(u64::from(MOST_TERMS) + 1));
+        words[0] = word(kind::HEAD, (count << 5 | sender) as u32);
         words[1] = word(random.pick(&[kind::LEFT, kind::CENTRE, kind::HALF]), words[1] & PAYLOAD);
     }
     words

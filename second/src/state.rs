@@ -4,21 +4,53 @@ use crate::instants::{Interval, GREATEST_END};
 use crate::predicates::{is_normal, Predicate, Term, ALL_NAMES, GREATEST_NAME};
 use crate::refusal;
 
+// ---- sizes and places: no other file has their numbers
+
 /// How many bytes a state has.
-pub const STATE_BYTES: usize = HEAD_BYTES + MOST_DATA * DATUM_BYTES + MOST_ENTRIES * ENTRY_BYTES;
+pub const STATE_BYTES: usize = entry_at(MOST_ENTRIES);
 pub const GREATEST_DRIFT: u32 = 1_000;
 pub const GREATEST_READING: u64 = (1 << 58) - 1;
 pub const MOST_DATA: usize = 16;
 pub const MOST_ENTRIES: usize = 32;
 /// A datum has 1 to so many terms.
 pub const DATUM_TERMS: usize = 8;
-/// An entry has 1 to so many terms.
-pub const ENTRY_TERMS: usize = 16;
+/// An entry has 1 to so many terms: it is the sum of two data's.
+pub const ENTRY_TERMS: usize = 2 * DATUM_TERMS;
 
-const HEAD_BYTES: usize = 4 + 4 + 8 + 4 + 4;
-const ENDS_BYTES: usize = 8 + 8;
-const DATUM_BYTES: usize = ENDS_BYTES + 4 + 4 * DATUM_TERMS;
-const ENTRY_BYTES: usize = 4 + 4 * ENTRY_TERMS;
+// In the state.
+pub const OWN_AT: usize = 0;
+pub const DRIFT_AT: usize = 4;
+pub const READING_AT: usize = 8;
+pub const HELD_COUNT_AT: usize = 16;
+pub const ENTRY_COUNT_AT: usize = 20;
+pub const DATA_AT: usize = 24;
+pub const ENTRIES_AT: usize = datum_at(MOST_DATA);
+
+// In a datum: its left end stands first, and from the term count on it is as an entry.
+pub const RIGHT_AT: usize = 8;
+pub const TERM_COUNT_AT: usize = 16;
+pub const DATUM_BYTES: usize = TERM_COUNT_AT + MASKS_AT + MASK_BYTES * DATUM_TERMS;
+
+// In an entry: its term count stands first.
+pub const MASKS_AT: usize = 4;
+pub const MASK_BYTES: usize = 4;
+pub const ENTRY_BYTES: usize = MASKS_AT + MASK_BYTES * ENTRY_TERMS;
+
+/// Where the datum of a position begins; behind the last one the entries do.
+pub const fn datum_at(position: usize) -> usize {
+    DATA_AT + DATUM_BYTES * position
+}
+
+/// Where the entry of a position begins; behind the last one the state ends.
+pub const fn entry_at(position: usize) -> usize {
+    ENTRIES_AT + ENTRY_BYTES * position
+}
+
+// The sums as document 01 has them.
+const _: () = assert!(DATUM_BYTES == 52 && ENTRY_BYTES == 68);
+const _: () = assert!(ENTRIES_AT == 856 && STATE_BYTES == 3_032);
+
+// ---- states
 
 /// True time is in the interval, or the predicate is true.
 #[derive(Clone, Copy, Debug, PartialEq, Eq)]
@@ -72,15 +104,15 @@ impl State {
     pub fn encode(&self, lent: &mut [u8]) {
         let bytes = lent.first_chunk_mut::<STATE_BYTES>().expect("room for a state");
         bytes.fill(0);
-        bytes[..4].copy_from_slice(&self.own.to_le_bytes());
-        bytes[4..8].copy_from_slice(&self.drift.to_le_bytes());
-        bytes[8..16].copy_from_slice(&self.reading.to_le_bytes());
-        bytes[16..20].copy_from_slice(&(self.held.len() as u32).to_le_bytes());
-        bytes[20..24].copy_from_slice(&(self.entries.len() as u32).to_le_bytes());
-        let (data, entries) = bytes[HEAD_BYTES..].split_at_mut(MOST_DATA * DATUM_BYTES);
-        for (row, datum) in data.chunks_exact_mut(DATUM_BYTES).zip(&self.held) {
+        put_u32(bytes, OWN_AT, self.own);
+        put_u32(bytes, DRIFT_AT, self.drift);
+        put_reading(bytes, self.reading);
+        put_u32(bytes, HELD_COUNT_AT, self.held.len() as u32);
+        put_u32(bytes, ENTRY_COUNT_AT, self.entries.len() as u32);
+        let (data, entries) = bytes.split_at_mut(ENTRIES_AT);
+        for (row, datum) in data[DATA_AT..].chunks_exact_mut(DATUM_BYTES).zip(&self.held) {
             put_ends(row, datum.interval);
-            put_predicate(&mut row[ENDS_BYTES..], &datum.predicate);
+            put_predicate(&mut row[TERM_COUNT_AT..], &datum.predicate);
         }
         for (row, entry) in entries.chunks_exact_mut(ENTRY_BYTES).zip(&self.entries) {
             put_predicate(row, entry);
@@ -107,11 +139,11 @@ pub struct Head {
 impl Head {
     pub fn of(bytes: &[u8; STATE_BYTES]) -> Head {
         Head {
-            own: u32_at(bytes, 0),
-            drift: u32_at(bytes, 4),
-            reading: u64_at(bytes, 8),
-            held: u32_at(bytes, 16) as usize,
-            entries: u32_at(bytes, 20) as usize,
+            own: u32_at(bytes, OWN_AT),
+            drift: u32_at(bytes, DRIFT_AT),
+            reading: u64_at(bytes, READING_AT),
+            held: u32_at(bytes, HELD_COUNT_AT) as usize,
+            entries: u32_at(bytes, ENTRY_COUNT_AT) as usize,
         }
     }
 
@@ -146,14 +178,14 @@ pub fn in_form(bytes: &[u8; STATE_BYTES]) -> bool {
 
 fn datum_in_form(row: &[u8; DATUM_BYTES], own: u32) -> bool {
     let Interval { left, right } = ends(row);
-    left <= right && right <= GREATEST_END && terms_in_form(&row[ENDS_BYTES..], own)
+    left <= right && right <= GREATEST_END && terms_in_form(terms_field(row), own)
 }
 
 /// Whether a count and the masks behind it are: 1 term to as many as there are places, in normal
-/// form, none of them empty or naming more than the 28 others; and zeros in the places left.
+/// form, none of them empty or naming more than the other names; and zeros in the places left.
 fn terms_in_form(field: &[u8], own: u32) -> bool {
     let count = u32_at(field, 0) as usize;
-    let places = field.len() / 4 - 1;
+    let places = (field.len() - MASKS_AT) / MASK_BYTES;
     if count == 0 || count > places {
         return false;
     }
@@ -175,17 +207,17 @@ fn all_zero(bytes: &[u8]) -> bool {
 // ---- rows
 
 pub fn data_rows(bytes: &[u8; STATE_BYTES]) -> &[[u8; DATUM_BYTES]] {
-    bytes[HEAD_BYTES..][..MOST_DATA * DATUM_BYTES].as_chunks().0
+    bytes[DATA_AT..ENTRIES_AT].as_chunks().0
 }
 
 pub fn entry_rows(bytes: &[u8; STATE_BYTES]) -> &[[u8; ENTRY_BYTES]] {
-    bytes[HEAD_BYTES + MOST_DATA * DATUM_BYTES..].as_chunks().0
+    bytes[ENTRIES_AT..].as_chunks().0
 }
 
 /// The rows of the held data in bytes that are in form, to change their ends.
 pub fn held_rows_mut(bytes: &mut [u8; STATE_BYTES]) -> &mut [[u8; DATUM_BYTES]] {
     let held = Head::of(bytes).held;
-    bytes[HEAD_BYTES..][..held * DATUM_BYTES].as_chunks_mut().0
+    bytes[DATA_AT..datum_at(held)].as_chunks_mut().0
 }
 
 /// The held datum at a position in bytes that are in form, 0 being the oldest.
@@ -195,27 +227,31 @@ pub fn held_at(bytes: &[u8; STATE_BYTES], position: u64) -> Option<Datum> {
 }
 
 fn datum(row: &[u8; DATUM_BYTES]) -> Datum {
-    Datum { interval: ends(row), predicate: predicate(&row[ENDS_BYTES..]) }
+    Datum { interval: ends(row), predicate: predicate(terms_field(row)) }
 }
 
 /// Left and right at the front of a row, whether in order or not.
 pub fn ends(row: &[u8; DATUM_BYTES]) -> Interval {
-    Interval { left: u64_at(row, 0), right: u64_at(row, 8) }
+    Interval { left: u64_at(row, 0), right: u64_at(row, RIGHT_AT) }
 }
 
 pub fn put_ends(row: &mut [u8], interval: Interval) {
-    row[..8].copy_from_slice(&interval.left.to_le_bytes());
-    row[8..16].copy_from_slice(&interval.right.to_le_bytes());
+    put_u64(row, 0, interval.left);
+    put_u64(row, RIGHT_AT, interval.right);
+}
+
+pub fn put_reading(bytes: &mut [u8; STATE_BYTES], reading: u64) {
+    put_u64(bytes, READING_AT, reading);
 }
 
 /// The count and the masks in a datum's row, as an entry's row has them.
 pub fn terms_field(row: &[u8; DATUM_BYTES]) -> &[u8] {
-    &row[ENDS_BYTES..]
+    &row[TERM_COUNT_AT..]
 }
 
 /// The terms that a count and the masks behind it give, as they stand in bytes that are in form.
 pub fn terms(field: &[u8]) -> impl Iterator<Item = Term> + '_ {
-    let masks = &field[4..].as_chunks().0[..u32_at(field, 0) as usize];
+    let masks = &field[MASKS_AT..].as_chunks().0[..u32_at(field, 0) as usize];
     masks.iter().map(|&mask| u32::from_le_bytes(mask))
 }
 
@@ -225,8 +261,8 @@ fn predicate(field: &[u8]) -> Predicate {
 }
 
 fn put_predicate(field: &mut [u8], p: &[Term]) {
-    field[..4].copy_from_slice(&(p.len() as u32).to_le_bytes());
-    for (place, t) in field[4..].chunks_exact_mut(4).zip(p) {
+    put_u32(field, 0, p.len() as u32);
+    for (place, t) in field[MASKS_AT..].chunks_exact_mut(MASK_BYTES).zip(p) {
         place.copy_from_slice(&t.to_le_bytes());
     }
 }
@@ -234,7 +270,7 @@ fn put_predicate(field: &mut [u8], p: &[Term]) {
 /// The masks behind a count, and zeros where a datum has no more places.
 fn masks(field: &[u8]) -> [Term; ENTRY_TERMS] {
     let mut masks = [0; ENTRY_TERMS];
-    for (mask, place) in masks.iter_mut().zip(field[4..].as_chunks().0) {
+    for (mask, place) in masks.iter_mut().zip(field[MASKS_AT..].as_chunks().0) {
         *mask = u32::from_le_bytes(*place);
     }
     masks
@@ -248,4 +284,12 @@ fn u32_at(bytes: &[u8], at: usize) -> u32 {
 
 fn u64_at(bytes: &[u8], at: usize) -> u64 {
     u64::from_le_bytes(*bytes[at..].first_chunk().expect("eight bytes"))
+}
+
+fn put_u32(bytes: &mut [u8], at: usize, number: u32) {
+    *bytes[at..].first_chunk_mut().expect("four bytes") = number.to_le_bytes();
+}
+
+fn put_u64(bytes: &mut [u8], at: usize, number: u64) {
+    *bytes[at..].first_chunk_mut().expect("eight bytes") = number.to_le_bytes();
 }

@@ -4,7 +4,7 @@ use crate::message::{self, Words};
 use crate::refusal;
 use crate::state::{self, Head};
 
-/// `monitor_write`: 6 + term count words, or 24 (state), 25, 23, 24 (output).
+/// `monitor_write`: the words of a message in ends form, or 24 (state), 25, 23, 24 (output).
 pub fn call(lent: &[u8], position: u64, out: &mut [u8]) -> u32 {
     message::answer_words(written(lent, position), out)
 }

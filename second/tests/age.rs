@@ -4,10 +4,12 @@ use second::ageing::{self, advance};
 use second::engine;
 use second::instants::{Interval, GREATEST_END};
 use second::lent::{compare, Lent};
-use second::predicates::Predicate;
+use second::predicates::{Predicate, GREATEST_NAME};
 use second::random::Random;
 use second::samples::states;
-use second::state::{Datum, State, GREATEST_READING, STATE_BYTES};
+use second::state::{
+    Datum, State, GREATEST_DRIFT, GREATEST_READING, MOST_DATA, OWN_AT, STATE_BYTES,
+};
 
 /// Ages lent bytes in both programs. Gives the number and the bytes.
 fn age_bytes(bytes: &[u8], reading: u64) -> (u32, Vec<u8>) {
@@ -62,7 +64,7 @@ fn age_one_microsecond_at_drift_100_is_0_and_2() {
 #[test]
 fn age_equal_reading_changes_nothing() {
     taken(&holding(100, &[(50, 60), (0, GREATEST_END)]), 1_000, &[(50, 60), (0, GREATEST_END)]);
-    taken(&holding(1_000, &[]), 1_000, &[]);
+    taken(&holding(GREATEST_DRIFT, &[]), 1_000, &[]);
 }
 
 #[test]
@@ -96,25 +98,25 @@ fn age_advance_rounds_down_and_up() {
 
 #[test]
 fn age_every_datum_advances_and_entries_stay() {
-    let ends: Vec<(u64, u64)> = (0..16).map(|i| (100 * i, 150 * i)).collect();
+    let ends: Vec<(u64, u64)> = (0..MOST_DATA as u64).map(|i| (100 * i, 150 * i)).collect();
     let aged: Vec<(u64, u64)> = ends.iter().map(|&(l, r)| (l + 9_998, r + 10_000)).collect();
     taken(&holding(100, &ends), 1_000 + 9_999, &aged);
 }
 
 #[test]
 fn age_without_data_moves_the_reading_alone() {
-    taken(&holding(1_000, &[]), GREATEST_READING, &[]);
-    taken(&State::fresh(28, 1_000, 0), GREATEST_READING, &[]);
-    taken(&State::fresh(28, 0, GREATEST_READING), GREATEST_READING, &[]);
+    taken(&holding(GREATEST_DRIFT, &[]), GREATEST_READING, &[]);
+    taken(&State::fresh(GREATEST_NAME, GREATEST_DRIFT, 0), GREATEST_READING, &[]);
+    taken(&State::fresh(GREATEST_NAME, 0, GREATEST_READING), GREATEST_READING, &[]);
 }
 
 // ---- refusals
 
 #[test]
 fn age_reading_of_2_to_the_58_is_3() {
-    for reading in [1 << 58, (1 << 58) + 1, 1 << 63, u64::MAX] {
+    for reading in [GREATEST_READING + 1, GREATEST_READING + 2, 1 << 63, u64::MAX] {
         refused(&holding(100, &[(50, 60)]), reading, 3);
-        refused(&State::fresh(28, 0, GREATEST_READING), reading, 3);
+        refused(&State::fresh(GREATEST_NAME, 0, GREATEST_READING), reading, 3);
     }
 }
 
@@ -142,8 +144,8 @@ fn age_right_end_at_the_greatest_is_taken_and_past_it_is_30() {
 
 #[test]
 fn age_any_one_datum_past_the_greatest_end_is_30() {
-    for place in 0..16 {
-        let mut ends = [(1_000, 2_000); 16];
+    for place in 0..MOST_DATA {
+        let mut ends = [(1_000, 2_000); MOST_DATA];
         ends[place].1 = GREATEST_END - 10;
         refused(&holding(0, &ends), 1_011, 30);
         let aged = ends.map(|(left, right)| (left + 10, right + 10));
@@ -153,7 +155,7 @@ fn age_any_one_datum_past_the_greatest_end_is_30() {
 
 #[test]
 fn age_longest_time_that_an_end_bears_is_taken() {
-    for drift in [0, 1, 100, 999, 1_000] {
+    for drift in [0, 1, 100, GREATEST_DRIFT - 1, GREATEST_DRIFT] {
         let state = State { reading: 0, ..holding(drift, &[(0, 0)]) };
         let (mut least, mut most) = (0, GREATEST_READING);
         // The greatest d whose advance can be stored, by halves.
@@ -173,11 +175,11 @@ fn age_longest_time_that_an_end_bears_is_taken() {
 #[test]
 fn age_several_flaws_is_the_first_of_24_25_3_20_30() {
     let last = State { reading: GREATEST_READING, ..holding(100, &[(0, GREATEST_END)]) };
-    refused(&last, 1 << 58, 3);
+    refused(&last, GREATEST_READING + 1, 3);
     refused(&last, GREATEST_READING - 1, 20);
     let mut broken = last.bytes();
-    broken[0] = 29;
-    for reading in [0, GREATEST_READING, 1 << 58] {
+    broken[OWN_AT] = GREATEST_NAME as u8 + 1;
+    for reading in [0, GREATEST_READING, GREATEST_READING + 1] {
         assert_eq!(age_bytes(&broken, reading), (25, broken.clone()));
         assert_eq!(age_bytes(&broken[..STATE_BYTES - 1], reading).0, 24);
         assert_eq!(age_bytes(&last.bytes()[..STATE_BYTES - 1], reading).0, 24);
@@ -214,7 +216,7 @@ fn advance_is_what_the_fractions_say() {
     for seed in 0..200_000 {
         let mut random = Random::new(seed);
         let bits = random.below(59);
-        let (d, r) = (random.below(1 << bits), random.below(1_001) as u32);
+        let (d, r) = (random.below(1 << bits), random.below(u64::from(GREATEST_DRIFT) + 1) as u32);
         let (least, greatest) = advance(d, r);
         let d = i128::from(d);
         let (x, y) = (d * i128::from(1_000_000 - r), d * i128::from(1_000_000 + r));

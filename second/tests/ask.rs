@@ -1,19 +1,24 @@
 //! Asking and fewest failures, by both programs: document 01's listing and cases, edges by name,
 //! refusals, then seeded states and runs. What the book of a run says is in tests/book.rs.
 
-use second::asking::{answer_bytes, fewest_bytes, ANSWER_BYTES, FEWEST_BYTES};
+use second::asking::{
+    answer_bytes, fewest_bytes, ANSWER_BYTES, FEWEST_BYTES, GREATEST_LIMIT, OVER,
+};
 use second::calls::Call;
 use second::every_set;
 use second::instants::{Interval, GREATEST_END};
 use second::lent::Lent;
 use second::message::{bytes_of, Message};
-use second::predicates::{Predicate, Term};
+use second::predicates::{Predicate, Term, GREATEST_NAME, NAMES};
 use second::random::Random;
 use second::receiving::Branches;
 use second::samples::runs::World;
 use second::samples::states;
 use second::samples::texts::{DOCUMENT_01, PRINTED};
-use second::state::{Datum, State, DATUM_TERMS, ENTRY_TERMS, MOST_DATA, MOST_ENTRIES, STATE_BYTES};
+use second::state::{
+    Datum, State, DATUM_TERMS, ENTRY_TERMS, GREATEST_READING, MOST_DATA, MOST_ENTRIES, OWN_AT,
+    STATE_BYTES,
+};
 use std::collections::BTreeMap;
 use std::io::Write as _;
 
@@ -56,9 +61,8 @@ fn between(left: u64, right: u64) -> [u64; 3] {
 
 /// The answers for limits from 0 on are these, and at all further ones as at the last.
 fn asked(state: &State, answers: &[[u64; 3]]) {
-    for limit in 0..=4 {
-        let wanted = answers[limit.min(answers.len() - 1)];
-        let limit = limit as u64;
+    for limit in 0..=u64::from(GREATEST_LIMIT) {
+        let wanted = answers[(limit as usize).min(answers.len() - 1)];
         assert_eq!(numbers(&Call::Ask { limit }, state), wanted, "limit {limit} in {state:?}");
     }
 }
@@ -70,7 +74,7 @@ fn fewest(state: &State, names: &[u32]) {
 }
 
 fn over_4(state: &State) {
-    assert_eq!(numbers(&Call::Fewest, state), [5, 0], "{state:?}");
+    assert_eq!(numbers(&Call::Fewest, state), [OVER, 0], "{state:?}");
 }
 
 // ---- states to ask
@@ -167,8 +171,8 @@ fn listing_of_document_01_yields_its_lines() {
     for line in DOCUMENT_01.lines() {
         let call = listed(line);
         let len = match call {
-            Call::Ask { .. } => 24,
-            Call::Fewest => 16,
+            Call::Ask { .. } => ANSWER_BYTES,
+            Call::Fewest => FEWEST_BYTES,
             _ => 0,
         };
         let (number, after, out) = call_in(&call, &bytes, len);
@@ -183,11 +187,12 @@ fn listing_of_document_01_yields_its_lines() {
 
 #[test]
 fn case_no_data_is_open_for_limits_0_and_4_and_limit_5_is_22() {
-    for own in 0..=28 {
+    for own in 0..=GREATEST_NAME {
         let fresh = State::fresh(own, 100, 0);
         asked(&fresh, &[OPEN]);
         fewest(&fresh, &[]);
-        assert_eq!(call_in(&Call::Ask { limit: 5 }, &fresh.bytes(), 24).0, 22);
+        let past = Call::Ask { limit: u64::from(GREATEST_LIMIT) + 1 };
+        assert_eq!(call_in(&past, &fresh.bytes(), ANSWER_BYTES).0, 22);
     }
 }
 
@@ -235,7 +240,7 @@ fn case_disjoint_data_under_1_are_contradicted_at_limit_0_and_so_after_ageing() 
     let learnt = after(&[(1, 0, 10, &[]), (1, 11, 20, &[])]);
     asked(&learnt, &[CONTRADICTED, OPEN]);
     fewest(&learnt, &[1]);
-    for reading in [1_000, 1_001, 2_000_000, GREATEST_END] {
+    for reading in [1_000, 1_001, 2_000_000, GREATEST_READING] {
         asked(&aged(&learnt, reading), &[CONTRADICTED, OPEN]);
     }
 }
@@ -263,7 +268,7 @@ fn case_intervals_that_widen_until_they_overlap_stay_contradicted() {
 
 #[test]
 fn ask_name_behind_many_data_is_one_failure() {
-    let held: Vec<Held> = (0..16).map(|i| (&[7][..], 10 * i, 10 * i + 5)).collect();
+    let held: Vec<Held> = (0..MOST_DATA as u64).map(|i| (&[7][..], 10 * i, 10 * i + 5)).collect();
     let relay = state(&held, &[]);
     asked(&relay, &[CONTRADICTED, OPEN]);
     fewest(&relay, &[7]);
@@ -281,19 +286,21 @@ fn ask_names_that_terms_share_count_once() {
 
 #[test]
 fn ask_all_names_of_a_term_count() {
-    for count in 1..=6 {
+    for count in 1..=GREATEST_LIMIT + 2 {
         let names: Vec<u32> = (1..=count).map(|n| 4 * n).collect();
         let held = vec![Datum::of(5, 9, &[term(&names)])];
-        let answers: Vec<[u64; 3]> =
-            (0..=4).map(|limit| if limit < count { between(5, 9) } else { OPEN }).collect();
+        let answers: Vec<[u64; 3]> = (0..=GREATEST_LIMIT)
+            .map(|limit| if limit < count { between(5, 9) } else { OPEN })
+            .collect();
         let one = State { held, ..state(&[], &[]) };
         asked(&one, &answers);
         fewest(&one, &[]);
-        let answers: Vec<[u64; 3]> =
-            (0..=4).map(|limit| if limit < count { CONTRADICTED } else { OPEN }).collect();
+        let answers: Vec<[u64; 3]> = (0..=GREATEST_LIMIT)
+            .map(|limit| if limit < count { CONTRADICTED } else { OPEN })
+            .collect();
         let entry = State { entries: vec![sum(&[&names])], ..state(&[], &[]) };
         asked(&entry, &answers);
-        if count > 4 {
+        if count > GREATEST_LIMIT {
             over_4(&entry);
         } else {
             fewest(&entry, &names);
@@ -303,8 +310,8 @@ fn ask_all_names_of_a_term_count() {
 
 #[test]
 fn ask_every_name_alone_explains_and_no_other_does() {
-    for own in [0, 1, 14, 28] {
-        for n in (0..=28).filter(|&n| n != own) {
+    for own in [0, 1, 14, GREATEST_NAME] {
+        for n in (0..=GREATEST_NAME).filter(|&n| n != own) {
             let entries = vec![sum(&[&[n]])];
             let known = State { entries, ..State::fresh(own, 0, 0) };
             asked(&known, &[CONTRADICTED, OPEN]);
@@ -398,10 +405,10 @@ fn ask_data_that_an_entry_implies_and_that_imply_one() {
 /// Every place for a datum is looked at, and only those that are held.
 #[test]
 fn ask_every_datum_narrows_the_answer() {
-    for count in 1..=16 {
+    for count in 1..=MOST_DATA {
         for place in 0..count {
             let name = [place as u32 + 1];
-            let mut held = vec![(&[28][..], 0, 100); count];
+            let mut held = vec![(&[GREATEST_NAME][..], 0, 100); count];
             held[place] = (&name, 50, 60);
             let narrowed = state(&held, &[]);
             let wide = if count == 1 { OPEN } else { between(0, 100) };
@@ -412,7 +419,7 @@ fn ask_every_datum_narrows_the_answer() {
 
 #[test]
 fn ask_every_entry_has_to_be_true() {
-    for count in 1..=32 {
+    for count in 1..=MOST_ENTRIES {
         for place in 0..count {
             let mut entries = vec![&[5][..]; count];
             entries[place] = &[9];
@@ -426,20 +433,20 @@ fn ask_every_entry_has_to_be_true() {
 
 /// So many different terms of two names from a name on, in normal form.
 fn pairs(from: u32, count: usize) -> Vec<Term> {
-    let all = (from..29).flat_map(|n| (from..n).map(move |m| term(&[m, n])));
+    let all = (from..NAMES).flat_map(|n| (from..n).map(move |m| term(&[m, n])));
     all.take(count).collect()
 }
 
-/// A predicate of 16 terms that has only this one in common with those of lower names.
+/// A predicate of the most terms that has only this one in common with those of lower names.
 fn sharing(t: Term) -> Predicate {
-    Predicate::of(&[&[t], &pairs(20, 15)[..]].concat())
+    Predicate::of(&[&[t], &pairs(20, ENTRY_TERMS - 1)[..]].concat())
 }
 
 #[test]
 fn ask_every_term_makes_its_entry_true() {
-    for t in pairs(1, 16) {
-        let names: Vec<u32> = (0..29).filter(|n| t >> n & 1 != 0).collect();
-        let mut entries = vec![Predicate::of(&pairs(1, 16)), sharing(t)];
+    for t in pairs(1, ENTRY_TERMS) {
+        let names: Vec<u32> = (0..NAMES).filter(|n| t >> n & 1 != 0).collect();
+        let mut entries = vec![Predicate::of(&pairs(1, ENTRY_TERMS)), sharing(t)];
         for _ in 0..2 {
             let known = State { entries: entries.clone(), ..state(&[], &[]) };
             asked(&known, &[CONTRADICTED, CONTRADICTED, OPEN]);
@@ -451,11 +458,12 @@ fn ask_every_term_makes_its_entry_true() {
 
 #[test]
 fn ask_every_term_makes_its_datum_explained() {
-    for t in pairs(1, 8) {
-        let held = vec![Datum::of(5, 9, &pairs(1, 8))];
+    let most = Datum::of(5, 9, &pairs(1, DATUM_TERMS));
+    for t in pairs(1, DATUM_TERMS) {
+        let held = vec![most];
         let known = State { held, entries: vec![sharing(t)], ..state(&[], &[]) };
         asked(&known, &[CONTRADICTED, CONTRADICTED, OPEN]);
-        let held = vec![Datum::of(5, 9, &pairs(1, 8)), Datum::of(10, 11, &sharing(t)[..8])];
+        let held = vec![most, Datum::of(10, 11, &sharing(t)[..DATUM_TERMS])];
         let apart = State { held, ..state(&[], &[]) };
         asked(&apart, &[CONTRADICTED, CONTRADICTED, OPEN]);
         assert_eq!(numbers(&Call::Fewest, &apart), [2, pairs(1, 1)[0].into()]);
@@ -471,10 +479,11 @@ fn fewest_of_consistent_data_are_none() {
 
 #[test]
 fn fewest_smaller_set_goes_before_a_lesser_mask() {
-    let entries = vec![sum(&[&[1, 2], &[28]])];
-    fewest(&State { entries, ..state(&[], &[]) }, &[28]);
-    let entries = vec![sum(&[&[1, 2, 3], &[27]]), sum(&[&[2, 3, 4], &[28]])];
-    fewest(&State { entries, ..state(&[], &[]) }, &[27, 28]);
+    let name = GREATEST_NAME;
+    let entries = vec![sum(&[&[1, 2], &[name]])];
+    fewest(&State { entries, ..state(&[], &[]) }, &[name]);
+    let entries = vec![sum(&[&[1, 2, 3], &[name - 1]]), sum(&[&[2, 3, 4], &[name]])];
+    fewest(&State { entries, ..state(&[], &[]) }, &[name - 1, name]);
 }
 
 #[test]
@@ -511,11 +520,11 @@ fn fewest_four_names_are_told_and_five_are_over_4() {
 
 // ---- refusals
 
-/// A state of 16 data and 32 entries: 3 and 4 explain the entries and the one datum that is apart.
+/// A state of the most data and entries: 3 and 4 explain the entries and the one datum that is apart.
 fn full() -> State {
-    let mut full = state(&[(&[1, 2][..], 50, 150); 16], &[&[3][..]; 32]);
-    full.held[7] = Datum::of(0, 10, &pairs(1, 8));
-    full.entries[31] = sum(&[&[4]]);
+    let mut full = state(&[(&[1, 2][..], 50, 150); MOST_DATA], &[&[3][..]; MOST_ENTRIES]);
+    full.held[7] = Datum::of(0, 10, &pairs(1, DATUM_TERMS));
+    full.entries[MOST_ENTRIES - 1] = sum(&[&[4]]);
     full
 }
 
@@ -527,9 +536,12 @@ fn ask_full_state_is_answered() {
 
 #[test]
 fn ask_limit_above_4_is_22() {
-    for limit in [5, 6, 255, 256, 260, 1 << 16, 1 << 32, (1 << 32) + 4, 1 << 63, u64::MAX] {
+    let most = u64::from(GREATEST_LIMIT);
+    let near = [most + 1, most + 2, 255, 256, 256 + most];
+    let far = [1 << 16, 1 << 32, (1 << 32) + most, 1 << 63, u64::MAX];
+    for limit in near.into_iter().chain(far) {
         for state in [State::fresh(3, 0, 0), full()] {
-            for len in [0, 23, 24, 40] {
+            for len in [0, ANSWER_BYTES - 1, ANSWER_BYTES, 40] {
                 assert_eq!(call_in(&Call::Ask { limit }, &state.bytes(), len).0, 22, "{limit}");
             }
         }
@@ -540,12 +552,12 @@ fn ask_limit_above_4_is_22() {
 fn ask_output_one_byte_short_is_24_and_longer_is_taken() {
     for state in [State::fresh(3, 0, 0), full()] {
         for len in (0..=60).chain([255, 256, 65_536, 65_540]) {
-            for limit in 0..=4 {
+            for limit in 0..=GREATEST_LIMIT.into() {
                 let (number, ..) = call_in(&Call::Ask { limit }, &state.bytes(), len);
-                assert_eq!(number, if len < 24 { 24 } else { 0 }, "{len} bytes");
+                assert_eq!(number, if len < ANSWER_BYTES { 24 } else { 0 }, "{len} bytes");
             }
             let (number, ..) = call_in(&Call::Fewest, &state.bytes(), len);
-            assert_eq!(number, if len < 16 { 24 } else { 0 }, "{len} bytes");
+            assert_eq!(number, if len < FEWEST_BYTES { 24 } else { 0 }, "{len} bytes");
         }
     }
 }
@@ -554,13 +566,14 @@ fn ask_output_one_byte_short_is_24_and_longer_is_taken() {
 fn ask_short_state_is_24_and_bytes_beyond_it_play_no_part() {
     let bytes = full().bytes();
     for question in [Call::Ask { limit: 3 }, Call::Fewest] {
-        for len in (0..40).chain(3_000..3_032) {
-            assert_eq!(call_in(&question, &bytes[..len], 24).0, 24, "{len} bytes");
+        for len in (0..40).chain(STATE_BYTES - 32..STATE_BYTES) {
+            assert_eq!(call_in(&question, &bytes[..len], ANSWER_BYTES).0, 24, "{len} bytes");
         }
         for more in [1, 7, 64] {
             let longer = [&bytes[..], &vec![255; more]].concat();
-            let (number, _, out) = call_in(&question, &longer, 24);
-            assert_eq!((number, out), (0, call_in(&question, &bytes, 24).2), "{more} more");
+            let (number, _, out) = call_in(&question, &longer, ANSWER_BYTES);
+            let wanted = call_in(&question, &bytes, ANSWER_BYTES).2;
+            assert_eq!((number, out), (0, wanted), "{more} more");
         }
     }
 }
@@ -570,14 +583,15 @@ fn ask_short_state_is_24_and_bytes_beyond_it_play_no_part() {
 fn ask_several_flaws_is_the_first_of_24_25_22_24() {
     let sound = full().bytes();
     let mut broken = sound.clone();
-    broken[0] = 29;
-    for limit in [0, 4, 5, u64::MAX] {
-        for len in [0, 23, 24, 33] {
+    broken[OWN_AT] = GREATEST_NAME as u8 + 1;
+    let most = u64::from(GREATEST_LIMIT);
+    for limit in [0, most, most + 1, u64::MAX] {
+        for len in [0, ANSWER_BYTES - 1, ANSWER_BYTES, 33] {
             let call = Call::Ask { limit };
             assert_eq!(call_in(&call, &sound[..STATE_BYTES - 1], len).0, 24);
             assert_eq!(call_in(&call, &broken[..STATE_BYTES - 1], len).0, 24);
             assert_eq!(call_in(&call, &broken, len).0, 25);
-            let number = match (limit > 4, len < 24) {
+            let number = match (limit > most, len < ANSWER_BYTES) {
                 (true, _) => 22,
                 (false, true) => 24,
                 (false, false) => 0,
@@ -592,11 +606,12 @@ fn fewest_several_flaws_is_the_first_of_24_25_24() {
     let sound = full().bytes();
     let mut broken = sound.clone();
     broken[STATE_BYTES - 1] = 1;
-    for len in [0, 15, 16, 25] {
+    for len in [0, FEWEST_BYTES - 1, FEWEST_BYTES, 25] {
         assert_eq!(call_in(&Call::Fewest, &sound[..STATE_BYTES - 1], len).0, 24);
         assert_eq!(call_in(&Call::Fewest, &broken[..STATE_BYTES - 1], len).0, 24);
         assert_eq!(call_in(&Call::Fewest, &broken, len).0, 25);
-        assert_eq!(call_in(&Call::Fewest, &sound, len).0, if len < 16 { 24 } else { 0 });
+        let number = if len < FEWEST_BYTES { 24 } else { 0 };
+        assert_eq!(call_in(&Call::Fewest, &sound, len).0, number);
     }
 }
 
@@ -606,8 +621,8 @@ fn ask_term_with_the_own_name_is_25() {
     let named = state(&[(&[1, 2], 0, 10)], &[&[1, 3]]);
     for own in [1, 2, 3] {
         let bytes = State { own, ..named.clone() }.bytes();
-        assert_eq!(call_in(&Call::Ask { limit: 1 }, &bytes, 24).0, 25, "{own}");
-        assert_eq!(call_in(&Call::Fewest, &bytes, 16).0, 25, "{own}");
+        assert_eq!(call_in(&Call::Ask { limit: 1 }, &bytes, ANSWER_BYTES).0, 25, "{own}");
+        assert_eq!(call_in(&Call::Fewest, &bytes, FEWEST_BYTES).0, 25, "{own}");
     }
     asked(&State { own: 4, ..named }, &[CONTRADICTED, OPEN]);
 }
@@ -618,9 +633,9 @@ fn ask_term_with_the_own_name_is_25() {
 #[derive(Default)]
 struct Tally {
     /// By limit: contradicted, open, between.
-    kinds: [[u64; 3]; 5],
-    /// By count; the last is over 4.
-    fewest: [u64; 6],
+    kinds: [[u64; 3]; GREATEST_LIMIT as usize + 1],
+    /// By count; the last is over the greatest limit.
+    fewest: [u64; OVER as usize + 1],
     /// Of asking and of fewest.
     numbers: [BTreeMap<u32, u64>; 2],
 }
@@ -643,7 +658,7 @@ impl Tally {
         let Tally { kinds, fewest, numbers: [ask, few] } = self;
         report(&format!(
             "{title}\n  monitor_ask {ask:?}, contradicted, open and between by limit {kinds:?}\n  \
-             monitor_fewest {few:?}, 0 to 4 and over 4 {fewest:?}\n"
+             monitor_fewest {few:?}, by count and over {GREATEST_LIMIT} {fewest:?}\n"
         ));
         for (met, wanted) in self.numbers.iter().zip(numbers) {
             let often = |number| met.get(number).is_some_and(|&count| count >= enough);
@@ -700,11 +715,12 @@ impl<'a> Asked<'a> {
     /// Every limit, two past them, and fewest. Both programs search; trying every set decides.
     fn questions(&mut self) {
         let state = State::of(self.state.bytes()).expect("a state in form");
-        for limit in [0, 1, 2, 3, 4, 5, u64::MAX] {
+        let most = u64::from(GREATEST_LIMIT);
+        for limit in (0..=most + 1).chain([u64::MAX]) {
             let more = self.random.pick(&[0, 0, 1, 20]);
             let number = self.call(&Call::Ask { limit }, ANSWER_BYTES + more);
-            assert_eq!(number, if limit > 4 { 22 } else { 0 }, "seed {}", self.seed);
-            if limit <= 4 {
+            assert_eq!(number, if limit > most { 22 } else { 0 }, "seed {}", self.seed);
+            if limit <= most {
                 let wanted = answer_bytes(every_set::ask(&state, limit as u32));
                 assert_eq!(self.answer[..ANSWER_BYTES], wanted, "seed {}: {state:?}", self.seed);
             }
@@ -726,10 +742,12 @@ impl<'a> Asked<'a> {
             bytes.truncate(self.random.index(STATE_BYTES));
         }
         self.state.put(&bytes);
-        let limit = self.random.pick(&[0, 1, 2, 3, 4, 5, 1 << 32, u64::MAX]);
+        let most = u64::from(GREATEST_LIMIT);
+        let limit = self.random.pick(&[0, 1, 2, 3, most, most + 1, 1 << 32, u64::MAX]);
         let fewest = self.random.once_in(2);
         let question = if fewest { Call::Fewest } else { Call::Ask { limit } };
-        let len = self.random.pick(&[0, 8, 15, 16, 17, 23, 24, 25, 40]);
+        let about = [FEWEST_BYTES, ANSWER_BYTES].map(|len| [len - 1, len, len + 1]);
+        let len = self.random.pick(&[&[0, 8], about.as_flattened(), &[40]].concat());
         self.call(&question, len);
         self.state.put(&before);
     }
@@ -748,10 +766,10 @@ const FEATURES: [&str; 8] = [
     "data under one predicate",
     "entries that imply another",
     "data that an entry implies",
-    "16 data",
-    "32 entries",
-    "a datum of 8 terms",
-    "an entry of 16 terms",
+    "the most data",
+    "the most entries",
+    "a datum of the most terms",
+    "an entry of the most terms",
 ];
 
 fn features(State { held, entries, .. }: &State) -> [bool; 8] {

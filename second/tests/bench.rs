@@ -1,5 +1,6 @@
 //! The benchmark runs, and has a line for each call.
 
+use second::asking::GREATEST_LIMIT;
 use std::process::Command;
 
 #[test]
@@ -9,7 +10,7 @@ fn bench_quick_has_a_line_for_each_call() {
     assert!(output.status.success(), "{}", String::from_utf8_lossy(&output.stderr));
     let printed = String::from_utf8(output.stdout).expect("a text");
     let names = ["set up", "form check", "age", "receive", "write", "read", "rewrite", "fewest"];
-    let asks = (0..=4).map(|limit| format!("ask {limit}"));
+    let asks = (0..=GREATEST_LIMIT).map(|limit| format!("ask {limit}"));
     for name in names.map(String::from).into_iter().chain(asks) {
         assert!(printed.contains(&format!("| {name} |")), "no line of {name} in {printed}");
     }

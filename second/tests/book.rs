@@ -8,11 +8,11 @@ use second::every_set::counting;
 use second::instants::{Instants, Interval};
 use second::lent::Lent;
 use second::message::Message;
-use second::predicates::{holds, Predicate, Term};
+use second::predicates::{holds, Predicate, Term, GREATEST_NAME};
 use second::random::Random;
 use second::receiving::Branches;
 use second::samples::runs::World;
-use second::state::{Datum, State, STATE_BYTES};
+use second::state::{Datum, State, GREATEST_DRIFT, STATE_BYTES};
 use std::collections::BTreeSet;
 use std::io::Write as _;
 use std::ops::RangeInclusive;
@@ -37,7 +37,7 @@ impl Run {
         let bytes = random.bytes(STATE_BYTES);
         let state = Lent::new(&bytes, &mut random);
         // Setting up enters its numbers, whatever is here before.
-        let book = Book::new(28, 1_000, 0);
+        let book = Book::new(GREATEST_NAME, GREATEST_DRIFT, 0);
         let mut run = Run { seed, random, state, book, taken: vec![] };
         assert_eq!(run.call(&world.set_up()), 0, "seed {seed}");
         run.taken.clear();
@@ -105,7 +105,7 @@ impl Run {
 
 /// What was possible, by limit: nothing, all, or something between.
 #[derive(Default)]
-struct Tally([[u64; 3]; 5]);
+struct Tally([[u64; 3]; GREATEST_LIMIT as usize + 1]);
 
 impl Tally {
     fn count(&mut self, limit: u32, possible: Instants) {
@@ -156,7 +156,7 @@ fn book_enters_advances_and_what_was_formed() {
 #[test]
 fn book_enters_nothing_for_refused_calls_and_for_questions() {
     let mut book = Book::new(5, 100, 0);
-    book.enter(&Call::SetUp { own: 29, drift: 0, reading: 0 }, 1);
+    book.enter(&Call::SetUp { own: GREATEST_NAME + 1, drift: 0, reading: 0 }, 1);
     book.enter(&Call::Age { reading: 7 }, 30);
     book.enter(&received(1, 0, 10, &[]), 32);
     for question in [Call::Write { position: 0 }, Call::Ask { limit: 0 }, Call::Fewest] {
@@ -208,7 +208,7 @@ fn walked(book: &Book, s: Term) -> BTreeSet<i128> {
 
 /// A book of few names and small numbers, as if every call was taken.
 fn small_book(random: &mut Random) -> Book {
-    let drift = random.pick(&[0, 100, 1_000]);
+    let drift = random.pick(&[0, 100, GREATEST_DRIFT]);
     let (mut book, mut reading) = (Book::new(4, drift, 0), 0);
     for _ in 0..random.below(10) {
         if random.once_in(3) {

@@ -2,16 +2,20 @@
 //! bytes, what a run leaves true, set by set, and what asking says, instant by instant.
 
 use second::ageing::advance;
+use second::asking::GREATEST_LIMIT;
 use second::calls::Call;
 use second::every_set::{ask, counting, fewest};
 use second::instants::{Instants, Interval};
-use second::message::{self, Message};
+use second::message::{self, Message, MESSAGE_BYTES};
 use second::predicates::{self, holds, struck, Predicate, Term, ALL_NAMES};
 use second::random::Random;
 use second::receiving::Branches;
 use second::samples::runs::World;
 use second::samples::states;
-use second::state::{self, Datum, State, STATE_BYTES};
+use second::state::{
+    self, datum_at, entry_at, Datum, State, DRIFT_AT, ENTRY_COUNT_AT, HELD_COUNT_AT, MASKS_AT,
+    MASK_BYTES, OWN_AT, READING_AT, RIGHT_AT, STATE_BYTES, TERM_COUNT_AT,
+};
 use second::{ageing, receiving, set_up};
 
 // ---- document 01's cases
@@ -106,7 +110,7 @@ fn case_listing_holds_what_its_answers_say() {
 
 // ---- bytes
 
-/// Every number of the layout at the place that document 01 gives it.
+/// Every number of the layout at its place, whose number is in the state's module alone.
 #[test]
 fn bytes_of_a_state_stand_where_document_01_puts_them() {
     let state = State {
@@ -119,27 +123,27 @@ fn bytes_of_a_state_stand_where_document_01_puts_them() {
         ],
         entries: vec![Predicate::of(&[8]), Predicate::of(&[0x0504_0302])],
     };
-    let mut bytes = vec![0; 3032];
+    let mut bytes = vec![0; STATE_BYTES];
     let mut put =
         |at: usize, numbers: &[u8]| bytes[at..at + numbers.len()].copy_from_slice(numbers);
-    put(0, &[27]);
-    put(4, &[2, 3]);
-    put(8, &[2, 3, 4, 5, 6, 7, 8, 1]);
-    put(16, &[2]);
-    put(20, &[2]);
-    put(24, &[1]);
-    put(32, &[2]);
-    put(40, &[1]);
-    put(44, &[4]);
-    put(76, &[1, 2]);
-    put(84, &[1, 2, 3]);
-    put(92, &[2]);
-    put(96, &[4, 3, 2, 1]);
-    put(100, &[0, 0, 0, 16]);
-    put(856, &[1]);
-    put(860, &[8]);
-    put(924, &[1]);
-    put(928, &[2, 3, 4, 5]);
+    put(OWN_AT, &[27]);
+    put(DRIFT_AT, &[2, 3]);
+    put(READING_AT, &[2, 3, 4, 5, 6, 7, 8, 1]);
+    put(HELD_COUNT_AT, &[2]);
+    put(ENTRY_COUNT_AT, &[2]);
+    put(datum_at(0), &[1]);
+    put(datum_at(0) + RIGHT_AT, &[2]);
+    put(datum_at(0) + TERM_COUNT_AT, &[1]);
+    put(datum_at(0) + TERM_COUNT_AT + MASKS_AT, &[4]);
+    put(datum_at(1), &[1, 2]);
+    put(datum_at(1) + RIGHT_AT, &[1, 2, 3]);
+    put(datum_at(1) + TERM_COUNT_AT, &[2]);
+    put(datum_at(1) + TERM_COUNT_AT + MASKS_AT, &[4, 3, 2, 1]);
+    put(datum_at(1) + TERM_COUNT_AT + MASKS_AT + MASK_BYTES, &[0, 0, 0, 16]);
+    put(entry_at(0), &[1]);
+    put(entry_at(0) + MASKS_AT, &[8]);
+    put(entry_at(1), &[1]);
+    put(entry_at(1) + MASKS_AT, &[2, 3, 4, 5]);
     assert_eq!(state.bytes(), bytes);
     assert_eq!(State::of(&bytes), Ok(state));
 }
@@ -174,7 +178,7 @@ fn received(own: u32, least: u64, greatest: u64, message: &[u8]) -> Datum {
 /// Runs a call, and checks that a refusal changes nothing and that the bytes stay in form.
 fn checked(call: &Call, bytes: &mut [u8], seed: u64) -> u32 {
     let before = bytes.to_vec();
-    let number = call.second(bytes, &mut [0; 56], &mut Branches::default());
+    let number = call.second(bytes, &mut [0; MESSAGE_BYTES], &mut Branches::default());
     assert!(number == 0 || bytes == before, "seed {seed}: {call:?}");
     let front = bytes.first_chunk().expect("a state");
     assert!(state::in_form(front), "seed {seed}: {call:?}");
@@ -274,12 +278,13 @@ fn small(random: &mut Random) -> State {
     }
 }
 
-/// All sets without the own name are tried, of whatever names: to limit 2, and now and then to 4.
+/// All sets without the own name are tried, of whatever names: to limit 2, and now and then to the
+/// greatest.
 #[test]
 fn asking_tells_the_least_and_greatest_instant_that_counts() {
     for seed in 0..300 {
         let state = small(&mut Random::new(seed));
-        let most = if seed % 20 == 0 { 4 } else { 2 };
+        let most = if seed % 20 == 0 { GREATEST_LIMIT } else { 2 };
         let all = predicates::sets(ALL_NAMES & !(1 << state.own), most);
         for limit in 0..=most {
             let sets = || all.iter().copied().filter(|s| s.count_ones() <= limit);

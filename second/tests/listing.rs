@@ -4,6 +4,7 @@
 //! The engine's program is `target/bin/listing`, or `MONITOR_LISTING` says where it is. Without it
 //! the tests fail, unless `SECOND_WITHOUT_LISTING` is 1.
 
+use second::asking::GREATEST_LIMIT;
 use second::listing::listing;
 use second::random::Random;
 use second::samples::texts::{self, DOCUMENT_01, PRINTED};
@@ -94,7 +95,7 @@ impl Tally {
         report(&format!("{title}: {:?}\n", self.0));
         let refusals = (1..=3).chain(10..=18).chain(20..=22).chain(30..=32);
         let refusals = refusals.map(|number| format!("refused {number}"));
-        let fewest = (0..=4).map(|count| format!("fewest {count}"));
+        let fewest = (0..=GREATEST_LIMIT).map(|count| format!("fewest {count}"));
         let others = ["ok", "bad line", "open", "contradicted", "between", "fewest over 4"];
         let lines: Vec<String> = refusals.chain(fewest).chain(others.map(String::from)).collect();
         for line in &lines {

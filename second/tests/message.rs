@@ -2,8 +2,11 @@
 //! programs. Refusals are the same in both calls, so an edge named after reading looks at both.
 
 use second::instants::{Interval, GREATEST_END};
-use second::message::{self, bytes_of, words_of, Message};
-use second::predicates::Predicate;
+use second::message::{
+    self, bytes_of, ends_form_bytes, words_of, Message, ENDS_WORDS, LEAST_WORDS, MESSAGE_BYTES,
+    MOST_TERMS, MOST_WORDS, READING_BYTES,
+};
+use second::predicates::{Predicate, ALL_NAMES, GREATEST_NAME};
 use second::random::Random;
 use second::{engine, samples};
 use std::collections::BTreeMap;
@@ -23,7 +26,7 @@ const READ: Call = Call {
     name: "message_read",
     engine: engine::message_read,
     second: message::read_call,
-    written: |_| 32,
+    written: |_| READING_BYTES,
 };
 
 const REWRITE: Call = Call {
@@ -35,10 +38,10 @@ const REWRITE: Call = Call {
 
 const CALLS: [Call; 2] = [READ, REWRITE];
 
-/// 6 words and one for each term that the head counts.
+/// As many as ends form has with the terms that the head counts.
 fn rewritten_bytes(message: &[u8]) -> usize {
     let head = message.get(..2).map_or(0, |b| u16::from_le_bytes([b[0], b[1]]));
-    4 * (6 + usize::from(head >> 5 & 31))
+    ends_form_bytes(usize::from(head >> 5 & 31))
 }
 
 /// Filled bytes on both sides of a lent output.
@@ -124,8 +127,8 @@ fn centre(sender: u32, centre: u64, half: u32, terms: &[u32]) -> Vec<u32> {
 
 /// Sound messages of every length, in both forms.
 fn every_length() -> Vec<Vec<u32>> {
-    let terms: Vec<u32> = (0..8).map(|n| 1 << (3 * n + 7)).collect();
-    let lists = (0..=8).map(|count| &terms[..count]);
+    let terms: Vec<u32> = (0..MOST_TERMS).map(|n| 1 << (3 * n + 7)).collect();
+    let lists = (0..=terms.len()).map(|count| &terms[..count]);
     lists
         .flat_map(|t| [ends(3, 5 << 29 | 7, 6 << 29 | 1, t), centre(4, 9 << 29 | 5, 1000, t)])
         .collect()
@@ -135,8 +138,9 @@ fn every_length() -> Vec<Vec<u32>> {
 
 /// Both calls refuse with this number, whatever the output's length: 24 comes last.
 fn refused_bytes(message: &[u8], number: u32) {
+    let about = [ends_form_bytes(0), READING_BYTES, MESSAGE_BYTES].map(|len| [len - 1, len]);
     for call in &CALLS {
-        for len in [0, 23, 24, 31, 32, 55, 56, 100] {
+        for len in [&[0], about.as_flattened(), &[MESSAGE_BYTES + 44]].concat() {
             assert_eq!(compare(call, message, len, 0).0, number, "{}", call.name);
         }
     }
@@ -151,7 +155,7 @@ fn taken(words: &[u32], sender: u32, left: u64, right: u64, terms: &[u32]) {
     let bytes = bytes_of(words);
     let numbers = [u64::from(sender), left, right, terms.len() as u64];
     let reading: Vec<u8> = numbers.iter().flat_map(|n| n.to_le_bytes()).collect();
-    assert_eq!(compare(&READ, &bytes, 32, 0), (0, reading));
+    assert_eq!(compare(&READ, &bytes, READING_BYTES, 0), (0, reading));
     let rewritten = bytes_of(&ends(sender, left, right, terms));
     assert_eq!(compare(&REWRITE, &bytes, rewritten.len(), 0), (0, rewritten));
 }
@@ -188,8 +192,9 @@ fn read_high_and_low_words_of_the_ends() {
 #[test]
 fn read_least_and_greatest_sender_is_taken() {
     taken(&ends(0, 1, 2, &[]), 0, 1, 2, &[]);
-    taken(&ends(28, 1, 2, &[]), 28, 1, 2, &[]);
-    taken(&centre(28, 2, 1, &[1 << 28]), 28, 1, 3, &[1 << 28]);
+    let (name, alone) = (GREATEST_NAME, 1 << GREATEST_NAME);
+    taken(&ends(name, 1, 2, &[]), name, 1, 2, &[]);
+    taken(&centre(name, 2, 1, &[alone]), name, 1, 3, &[alone]);
 }
 
 #[test]
@@ -216,8 +221,7 @@ fn read_empty_term_alone_is_taken() {
 
 #[test]
 fn read_all_names_in_a_term_is_taken() {
-    let all = (1 << 29) - 1;
-    taken(&ends(2, 0, 1, &[all]), 2, 0, 1, &[all]);
+    taken(&ends(2, 0, 1, &[ALL_NAMES]), 2, 0, 1, &[ALL_NAMES]);
 }
 
 #[test]
@@ -235,7 +239,7 @@ fn read_term_naming_the_sender_is_taken() {
 #[test]
 fn read_word_count_outside_5_to_14_is_10() {
     let whole = ends(1, 0, 1, &[1, 2, 4, 8, 16, 32, 64, 128]);
-    for count in (0..5).chain(15..=20) {
+    for count in (0..LEAST_WORDS).chain(MOST_WORDS + 1..=MOST_WORDS + 6) {
         let mut words = whole.clone();
         words.resize(count, w(6, 256));
         refused(&words, 10);
@@ -286,7 +290,7 @@ fn read_head_of_another_kind_is_12() {
 
 #[test]
 fn read_sender_above_28_is_12() {
-    for sender in 29..32 {
+    for sender in GREATEST_NAME + 1..32 {
         refused(&ends(sender, 0, 1, &[]), 12);
         refused(&centre(sender, 1, 1, &[1]), 12);
     }
@@ -294,10 +298,11 @@ fn read_sender_above_28_is_12() {
 
 #[test]
 fn read_term_count_above_8_is_12() {
-    for count in 9..32 {
+    for count in MOST_TERMS + 1..32 {
         let mut words = centre(1, 1, 1, &[1, 2, 4, 8, 16, 32, 64, 128]);
         // Nine terms in centre form make 14 words, which 10 lets pass.
-        words.insert(12, w(6, 256));
+        words.insert(words.len() - 1, w(6, 256));
+        assert_eq!(words.len(), MOST_WORDS);
         words[0] = head(1, count);
         refused(&corrected(words), 12);
     }
@@ -326,7 +331,7 @@ fn read_second_word_of_another_kind_is_11() {
 fn read_word_count_not_that_of_head_and_form_is_13() {
     for words in every_length() {
         let count = words[0] >> 5 & 31;
-        for other in (0..=8).filter(|&other| other != count) {
+        for other in (0..=MOST_TERMS).filter(|&other| other != count) {
             let mut words = words.clone();
             words[0] = head(3, other);
             refused(&corrected(words), 13);
@@ -416,7 +421,7 @@ fn refused_terms(terms: &[u32]) {
 fn read_empty_term_beside_another_is_17() {
     refused_terms(&[0, 1]);
     refused_terms(&[1, 0]);
-    refused_terms(&[0, 1 << 28]);
+    refused_terms(&[0, 1 << GREATEST_NAME]);
     refused_terms(&[0, 0]);
     refused_terms(&[0, 1, 2, 4, 8, 16, 32, 64]);
 }
@@ -425,7 +430,7 @@ fn read_empty_term_beside_another_is_17() {
 fn read_falling_terms_are_17() {
     refused_terms(&[2, 1]);
     refused_terms(&[1, 2, 4, 8, 16, 32, 128, 64]);
-    refused_terms(&[1 << 28, 1]);
+    refused_terms(&[1 << GREATEST_NAME, 1]);
 }
 
 #[test]
@@ -438,7 +443,7 @@ fn read_equal_terms_are_17() {
 fn read_term_containing_another_is_17() {
     refused_terms(&[1, 3]);
     refused_terms(&[2, 3]);
-    refused_terms(&[1 << 28, 1 << 28 | 1]);
+    refused_terms(&[1 << GREATEST_NAME, 1 << GREATEST_NAME | 1]);
 }
 
 #[test]
@@ -450,15 +455,15 @@ fn read_last_term_containing_the_first_of_eight_is_17() {
 
 #[test]
 fn read_bad_length_and_head_is_10() {
-    refused(&[0; 4], 10);
-    refused(&[0; 15], 10);
-    refused_bytes(&[0; 21], 10);
+    refused(&[0; LEAST_WORDS - 1], 10);
+    refused(&[0; MOST_WORDS + 1], 10);
+    refused_bytes(&[0; 4 * LEAST_WORDS + 1], 10);
 }
 
 #[test]
 fn read_bad_head_and_second_word_is_12() {
     refused(&[w(7, 1), w(7, 1), w(2, 1), w(3, 0), w(3, 1), w(7, 0)], 12);
-    refused(&closed(vec![head(29, 0), w(3, 0), w(2, 1), w(3, 0), w(3, 1)]), 12);
+    refused(&closed(vec![head(GREATEST_NAME + 1, 0), w(3, 0), w(2, 1), w(3, 0), w(3, 1)]), 12);
 }
 
 #[test]
@@ -493,9 +498,9 @@ fn read_bad_ends_and_terms_is_16() {
 #[test]
 fn read_short_output_is_24_and_longer_is_taken() {
     for words in every_length() {
-        for len in 0..=48 {
+        for len in 0..=READING_BYTES + 16 {
             let number = compare(&READ, &bytes_of(&words), len, len as u64).0;
-            assert_eq!(number, if len < 32 { 24 } else { 0 });
+            assert_eq!(number, if len < READING_BYTES { 24 } else { 0 });
         }
     }
 }
@@ -504,9 +509,9 @@ fn read_short_output_is_24_and_longer_is_taken() {
 fn rewrite_short_output_is_24_and_longer_is_taken() {
     for words in every_length() {
         let count = (words[0] >> 5 & 31) as usize;
-        for len in 0..=80 {
+        for len in 0..=MESSAGE_BYTES + 24 {
             let number = compare(&REWRITE, &bytes_of(&words), len, len as u64).0;
-            assert_eq!(number, if len < 4 * (6 + count) { 24 } else { 0 });
+            assert_eq!(number, if len < ends_form_bytes(count) { 24 } else { 0 });
         }
     }
 }
@@ -544,7 +549,7 @@ fn every_flipped_bit_is_answered_alike() {
             flipped[bit / 32] ^= 1 << (bit % 32);
             for words in [corrected(flipped.clone()), flipped] {
                 for call in &CALLS {
-                    compare(call, &bytes_of(&words), 60, bit as u64);
+                    compare(call, &bytes_of(&words), MESSAGE_BYTES + 4, bit as u64);
                 }
             }
         }
@@ -556,8 +561,9 @@ fn every_head_is_answered_alike() {
     for low in 0..1 << 10 {
         for mut words in every_length() {
             words[0] = w(1, low);
+            let bytes = bytes_of(&corrected(words));
             for call in &CALLS {
-                compare(call, &bytes_of(&corrected(words.clone())), 60, u64::from(low));
+                compare(call, &bytes, MESSAGE_BYTES + 4, u64::from(low));
             }
         }
     }
@@ -570,7 +576,7 @@ fn every_byte_length_is_answered_alike() {
         let bytes = bytes_of(&[words.clone(), words].concat());
         for len in 0..=bytes.len() {
             for call in &CALLS {
-                compare(call, &bytes[..len], 60, len as u64);
+                compare(call, &bytes[..len], MESSAGE_BYTES + 4, len as u64);
             }
         }
     }
@@ -583,8 +589,9 @@ fn every_list_of_four_terms_of_three_names_is_answered_alike() {
         let terms: Vec<u32> = (0..4).map(|i| code >> (3 * i) & 7).collect();
         for count in 0..=4 {
             for words in [ends(1, 2, 3, &terms[..count]), centre(1, 2, 1, &terms[..count])] {
-                let number = compare(&READ, &bytes_of(&words), 40, u64::from(code)).0;
-                assert_eq!(compare(&REWRITE, &bytes_of(&words), 60, 0).0, number);
+                let bytes = bytes_of(&words);
+                let number = compare(&READ, &bytes, READING_BYTES + 8, u64::from(code)).0;
+                assert_eq!(compare(&REWRITE, &bytes, MESSAGE_BYTES + 4, 0).0, number);
                 *counts.entry(number).or_insert(0) += 1;
             }
         }
@@ -617,7 +624,8 @@ impl Seen {
 
     fn line(&self, call: &Call) -> String {
         let numbers = self.numbers.iter().map(|(number, count)| format!("  {number}: {count}"));
-        let taken_in = |form| (0..=8).filter_map(|terms| self.taken.get(&(form, terms))).sum();
+        let taken_in =
+            |form| (0..=MOST_TERMS).filter_map(|terms| self.taken.get(&(form, terms))).sum();
         let (ends, centre): (u64, u64) = (taken_in(2), taken_in(4));
         let numbers: String = numbers.collect();
         format!("{}{numbers}  (taken: {ends} in ends form, {centre} in centre form)\n", call.name)
@@ -630,7 +638,7 @@ impl Seen {
         }
         assert_eq!(self.numbers.len(), NUMBERS.len(), "{}: {:?}", call.name, self.numbers);
         for form in [2, 4] {
-            for terms in 0..=8 {
+            for terms in 0..=MOST_TERMS {
                 let count = self.taken.get(&(form, terms)).copied().unwrap_or(0);
                 assert!(count >= ENOUGH, "{}: kind {form}, {terms} terms: {count}", call.name);
             }
@@ -672,7 +680,7 @@ fn written_messages_read_back() {
         let words = samples::sound(&mut Random::new(seed));
         let message = message::read(&words).expect("a sound message");
         let written = message::write(&message);
-        assert_eq!(written.len(), 6 + message.terms.len(), "seed {seed}");
+        assert_eq!(written.len(), ENDS_WORDS + message.terms.len(), "seed {seed}");
         assert_eq!(message::read(&written), Ok(message), "seed {seed}");
     }
 }
@@ -692,14 +700,15 @@ fn rewriting_ends_form_gives_the_same_words() {
 
 #[test]
 fn write_with_eight_terms_has_fourteen_words() {
+    let terms: Vec<u32> = (0..MOST_TERMS).map(|n| 1 << n).collect();
     let message = Message {
-        sender: 28,
+        sender: GREATEST_NAME,
         interval: Interval { left: 0, right: GREATEST_END },
-        terms: Predicate::of(&std::array::from_fn::<u32, 8, _>(|n| 1 << n)),
+        terms: Predicate::of(&terms),
     };
     let words = message::write(&message);
-    assert_eq!(words[..], ends(28, 0, GREATEST_END, &message.terms));
-    assert_eq!(words.len(), 14);
+    assert_eq!(words[..], ends(GREATEST_NAME, 0, GREATEST_END, &terms));
+    assert_eq!(words.len(), MOST_WORDS);
 }
 
 #[test]
@@ -708,6 +717,6 @@ fn words_of_bytes_are_little_endian() {
     assert_eq!(words.as_deref(), Ok(&[0x0403_0201, 0x8000_0000][..]));
     assert_eq!(words_of(&[1, 2, 3, 4, 5]), Err(10));
     assert_eq!(words_of(&[]).as_deref(), Ok(&[][..]));
-    assert_eq!(words_of(&[0; 56]).as_deref(), Ok(&[0; 14][..]));
-    assert_eq!(words_of(&[0; 60]), Err(10));
+    assert_eq!(words_of(&[0; MESSAGE_BYTES]).as_deref(), Ok(&[0; MOST_WORDS][..]));
+    assert_eq!(words_of(&[0; MESSAGE_BYTES + 4]), Err(10));
 }

@@ -1,8 +1,9 @@
 //! The second program's predicates against what document 01 says of them, set by set.
 
+use second::asking::GREATEST_LIMIT;
 use second::predicates::{
     degree, holds, implies, is_normal, names_within, normal, sets, struck, sum, Predicate, Term,
-    ALL_NAMES,
+    ALL_NAMES, GREATEST_NAME, NAMES,
 };
 use second::random::Random;
 use std::collections::{BTreeMap, BTreeSet};
@@ -10,7 +11,7 @@ use std::collections::{BTreeMap, BTreeSet};
 /// Whether name by name a term of p has all its names in s.
 fn true_under(s: Term, p: &[Term]) -> bool {
     let has = |set: Term, n: u32| set & (1 << n) != 0;
-    p.iter().any(|&t| (0..29).all(|n| !has(t, n) || has(s, n)))
+    p.iter().any(|&t| (0..NAMES).all(|n| !has(t, n) || has(s, n)))
 }
 
 /// A bit for each set of up to six names: whether it makes p true.
@@ -42,14 +43,15 @@ fn all_normal(names: u32) -> Vec<Vec<Term>> {
 
 #[test]
 fn holds_no_terms_is_false_and_the_empty_term_is_true() {
-    assert!(!holds(0, &[]) && !holds((1 << 29) - 1, &[]));
+    assert!(!holds(0, &[]) && !holds(ALL_NAMES, &[]));
     assert!(holds(0, &[0]));
 }
 
 #[test]
 fn holds_name_28_is_seen() {
-    assert!(holds(1 << 28, &[1 << 28]));
-    assert!(!holds((1 << 28) - 1, &[1 << 28]));
+    let last = 1 << GREATEST_NAME;
+    assert!(holds(last, &[last]));
+    assert!(!holds(last - 1, &[last]));
 }
 
 #[test]
@@ -173,10 +175,11 @@ fn laws_over_all_sets_of_six_names() {
 
 #[test]
 fn sets_are_all_within_the_limit_in_the_order_of_size_and_mask() {
-    for names in [0, 1, 1 << 28, 0b1010_0110_1101, 0b1111_1111_1111] {
-        for most in 0..=5 {
+    let last = 1 << GREATEST_NAME;
+    for names in [0, 1, last, 0b1010_0110_1101, 0b1111_1111_1111] {
+        for most in 0..=GREATEST_LIMIT + 1 {
             let within = |s: &Term| s & !names == 0 && s.count_ones() <= most;
-            let mut wanted: Vec<Term> = (0..1 << 12).chain([1 << 28]).filter(within).collect();
+            let mut wanted: Vec<Term> = (0..1 << 12).chain([last]).filter(within).collect();
             wanted.sort_by_key(|s| (s.count_ones(), *s));
             assert_eq!(sets(names, most), wanted, "{names:b} {most}");
         }
@@ -185,11 +188,13 @@ fn sets_are_all_within_the_limit_in_the_order_of_size_and_mask() {
 
 #[test]
 fn sets_of_28_names_are_as_many_as_binomials_say() {
-    let all = sets(ALL_NAMES & !(1 << 13), 4);
+    let all = sets(ALL_NAMES & !(1 << 13), GREATEST_LIMIT);
     assert_eq!(all.len(), 1 + 28 + 378 + 3_276 + 20_475);
     assert!(all.is_sorted_by_key(|s| (s.count_ones(), *s)));
     assert_eq!(all.iter().collect::<BTreeSet<_>>().len(), all.len());
-    assert!(all.iter().all(|s| s >> 13 & 1 == 0 && s >> 29 == 0 && s.count_ones() <= 4));
+    assert!(all
+        .iter()
+        .all(|s| s >> 13 & 1 == 0 && s >> NAMES == 0 && s.count_ones() <= GREATEST_LIMIT));
 }
 
 /// Names of larger terms only, or of none, make no predicate true within the limit.
@@ -199,7 +204,7 @@ fn names_within_a_limit_make_the_same_predicates_true() {
         let mut random = Random::new(seed);
         let all: Vec<Predicate> =
             (0..3).map(|_| Predicate::of(&any_predicate(&mut random))).collect();
-        for most in 0..=4 {
+        for most in 0..=GREATEST_LIMIT {
             let names = names_within(all.iter(), most);
             for s in (0..1 << 6).filter(|s: &Term| s.count_ones() <= most) {
                 let same = |p: &Predicate| p.holds(s) == true_under(s & names, p);

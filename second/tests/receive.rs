@@ -4,10 +4,12 @@ use second::engine;
 use second::instants::{Interval, GREATEST_END};
 use second::lent::{compare, Lent};
 use second::message::{bytes_of, write, Message};
-use second::predicates::{Predicate, Term};
+use second::predicates::{Predicate, Term, GREATEST_NAME, NAMES};
 use second::random::Random;
-use second::receiving::{self, Branch, Branches};
-use second::state::{Datum, State, STATE_BYTES};
+use second::receiving::{self, Branch, Branches, GREATEST_DELAY};
+use second::state::{
+    Datum, State, DATUM_TERMS, DRIFT_AT, ENTRY_TERMS, MOST_DATA, MOST_ENTRIES, STATE_BYTES,
+};
 
 // ---- what is compared
 
@@ -92,7 +94,7 @@ fn refused(before: &State, delays: (u64, u64), sent: Sent, number: u32) {
 // ---- states to start with
 
 /// So many data from senders 1, 2 and so on, without terms and all overlapping.
-fn overlapping(count: u64) -> State {
+fn overlapping(count: usize) -> State {
     let names: Vec<[Term; 1]> = (1..=count).map(|n| [1 << n]).collect();
     let held: Vec<Held> = names.iter().zip(0..).map(|(p, i)| (i, 1_000 + i, &p[..])).collect();
     state(&held, &[])
@@ -100,7 +102,7 @@ fn overlapping(count: u64) -> State {
 
 /// So many entries of two names each, all from 11 on; none implies another.
 fn pairs(count: usize) -> Vec<[Term; 2]> {
-    let all = (11..29).flat_map(|n| (11..n).map(move |m| [1 << m, 1 << n]));
+    let all = (11..NAMES).flat_map(|n| (11..n).map(move |m| [1 << m, 1 << n]));
     all.take(count).collect()
 }
 
@@ -110,9 +112,9 @@ fn with_entries(mut state: State, entries: &[[Term; 2]]) -> State {
     state
 }
 
-/// 16 data and 32 entries.
+/// The most data and entries.
 fn full() -> State {
-    with_entries(overlapping(16), &pairs(32))
+    with_entries(overlapping(MOST_DATA), &pairs(MOST_ENTRIES))
 }
 
 // ---- delays
@@ -120,20 +122,21 @@ fn full() -> State {
 #[test]
 fn receive_delay_60_000_000_is_taken_and_one_more_is_21() {
     let message = bytes_of(&words((1, 10, 20, &[])));
-    for least in [0, 1, 60_000_000] {
-        let (after, _) = taken(&state(&[], &[]), (least, 60_000_000), &message);
-        assert_eq!(after, state(&[(10 + least, 60_000_020, &[2])], &[]));
-        refused_bytes(&state(&[], &[]), (least, 60_000_001), &message, 21);
+    for least in [0, 1, GREATEST_DELAY] {
+        let (after, _) = taken(&state(&[], &[]), (least, GREATEST_DELAY), &message);
+        assert_eq!(after, state(&[(10 + least, 20 + GREATEST_DELAY, &[2])], &[]));
+        refused_bytes(&state(&[], &[]), (least, GREATEST_DELAY + 1), &message, 21);
     }
 }
 
 #[test]
 fn receive_least_delay_above_greatest_is_21_and_equal_is_taken() {
-    for (least, greatest) in [(1, 0), (8, 7), (60_000_000, 59_999_999), (60_000_001, 0)] {
+    let most = GREATEST_DELAY;
+    for (least, greatest) in [(1, 0), (8, 7), (most, most - 1), (most + 1, 0)] {
         refused(&state(&[], &[]), (least, greatest), (1, 10, 20, &[]), 21);
     }
     let message = bytes_of(&words((1, 10, 20, &[])));
-    for delay in [0, 1, 7, 60_000_000] {
+    for delay in [0, 1, 7, most] {
         let (after, _) = taken(&state(&[], &[]), (delay, delay), &message);
         assert_eq!(after, state(&[(10 + delay, 20 + delay, &[2])], &[]));
     }
@@ -141,7 +144,7 @@ fn receive_least_delay_above_greatest_is_21_and_equal_is_taken() {
 
 #[test]
 fn receive_delays_of_many_bits_are_21() {
-    for huge in [1 << 32, (1 << 32) + 5, 1 << 58, 1 << 63, u64::MAX - 5, u64::MAX] {
+    for huge in [1 << 32, (1 << 32) + 5, GREATEST_END + 1, 1 << 63, u64::MAX - 5, u64::MAX] {
         for delays in [(0, huge), (huge, huge), (huge, 0), (huge, 7)] {
             refused(&state(&[], &[]), delays, (1, 10, 20, &[]), 21);
         }
@@ -198,9 +201,9 @@ fn receive_length_not_a_multiple_of_4_is_10() {
 
 #[test]
 fn receive_own_name_as_sender_is_18() {
-    for own in 0..29 {
+    for own in 0..NAMES {
         let before = State::fresh(own, 0, 0);
-        for sender in 0..29 {
+        for sender in 0..NAMES {
             let number = if sender == own { 18 } else { 0 };
             let message = bytes_of(&words((sender, 10, 20, &[])));
             assert_eq!(receive_in(&before.bytes(), (0, 0), &message).0, number);
@@ -222,7 +225,7 @@ fn receive_centre_form_is_taken_as_ends_form_is() {
 #[test]
 fn receive_several_flaws_is_the_first_of_24_25_21_and_the_message() {
     let mut broken = full().bytes();
-    broken[4..8].fill(255);
+    broken[DRIFT_AT..][..4].fill(255);
     for (number, message) in flawed() {
         for delays in [(0, 0), (1, 0)] {
             assert_eq!(receive_in(&broken[..STATE_BYTES - 1], delays, &message).0, 24);
@@ -230,8 +233,8 @@ fn receive_several_flaws_is_the_first_of_24_25_21_and_the_message() {
             assert_eq!(receive_in(&broken, delays, &message).0, 25);
         }
         refused_bytes(&full(), (1, 0), &message, 21);
-        refused_bytes(&full(), (0, 60_000_001), &message[..message.len() - 1], 21);
-        refused_bytes(&full(), (0, 60_000_000), &message, number);
+        refused_bytes(&full(), (0, GREATEST_DELAY + 1), &message[..message.len() - 1], 21);
+        refused_bytes(&full(), (0, GREATEST_DELAY), &message, number);
     }
 }
 
@@ -253,17 +256,15 @@ fn receive_own_sender_and_flaw_is_the_flaw() {
     refused(&before, (0, 0), (3, 10, 20, &[5, 6, 7]), 17);
 }
 
-/// Eight terms of two names, none with a name below 9.
-const EIGHT: [Term; 8] = [
-    1 << 9 | 1 << 10,
-    1 << 9 | 1 << 11,
-    1 << 9 | 1 << 12,
-    1 << 9 | 1 << 13,
-    1 << 9 | 1 << 14,
-    1 << 9 | 1 << 15,
-    1 << 9 | 1 << 16,
-    1 << 9 | 1 << 17,
-];
+/// The most terms, all of two names, none with a name below 9.
+const EIGHT: [Term; DATUM_TERMS] = {
+    let (mut terms, mut i) = ([0; DATUM_TERMS], 0);
+    while i < DATUM_TERMS {
+        terms[i] = 1 << 9 | 1 << (10 + i);
+        i += 1;
+    }
+    terms
+};
 
 #[test]
 fn receive_several_late_flaws_is_the_first_of_18_30_31_32() {
@@ -274,7 +275,7 @@ fn receive_several_late_flaws_is_the_first_of_18_30_31_32() {
     refused(&full(), (0, 1), (20, top, top, &EIGHT), 30);
     refused(&full(), (0, 0), (20, top, top, &EIGHT), 31);
     refused(&full(), (0, 0), (20, 500, 600, &EIGHT), 31);
-    refused(&full(), (0, 0), (20, 500, 600, &EIGHT[..7]), 32);
+    refused(&full(), (0, 0), (20, 500, 600, &EIGHT[..DATUM_TERMS - 1]), 32);
 }
 
 // ---- 30 and 31
@@ -289,7 +290,7 @@ fn receive_right_end_at_the_greatest_is_taken_and_past_it_is_30() {
         let (after, _) = taken(&none, (least, 50), &message);
         assert_eq!(after, state(&[(top - 60 + least, top, &[2])], &[]));
         refused(&none, (least, 51), sent, 30);
-        refused(&none, (least, 60_000_000), sent, 30);
+        refused(&none, (least, GREATEST_DELAY), sent, 30);
     }
     becomes(&none, (1, top, top, &[]), &[(top, top, &[2])], &[]);
     refused(&none, (1, 1), (1, top, top, &[]), 30);
@@ -308,8 +309,8 @@ fn receive_true_predicate_past_the_greatest_end_is_30() {
 fn receive_nine_terms_are_31_and_eight_are_taken() {
     let none = state(&[], &[]);
     refused(&none, (0, 0), (1, 10, 20, &EIGHT), 31);
-    let eight = [&[2], &EIGHT[..7]].concat();
-    becomes(&none, (1, 10, 20, &EIGHT[..7]), &[(10, 20, &eight)], &[]);
+    let seven = &EIGHT[..DATUM_TERMS - 1];
+    becomes(&none, (1, 10, 20, seven), &[(10, 20, &[&[2], seven].concat())], &[]);
 }
 
 #[test]
@@ -360,8 +361,8 @@ fn receive_every_term_naming_the_receiver_goes() {
     // {0} alone; {0,1}, {1,2}, {0,3} and {3,4}.
     becomes(&none, (5, 10, 20, &[1]), &[(10, 20, &[32])], &[]);
     becomes(&none, (5, 10, 20, &[3, 6, 9, 24]), &[(10, 20, &[6, 24, 32])], &[]);
-    let before = State { own: 28, ..none };
-    let (after, _) = received(&before, (5, 10, 20, &[3, 1 << 27 | 4, 1 << 28]));
+    let before = State { own: GREATEST_NAME, ..none };
+    let (after, _) = received(&before, (5, 10, 20, &[3, 1 << 27 | 4, 1 << GREATEST_NAME]));
     assert_eq!(after.held, [Datum::of(10, 20, &[3, 32, 1 << 27 | 4])]);
 }
 
@@ -454,7 +455,7 @@ fn receive_entry_of_sixteen_terms_is_taken() {
     let new: Vec<Term> = [1 << 4].into_iter().chain(pairs_with(2)).collect();
     let mut entry = [&old[..], &new[..]].concat();
     entry.sort_unstable();
-    assert_eq!(entry.len(), 16);
+    assert_eq!(entry.len(), ENTRY_TERMS);
     let held: [Held; 2] = [(0, 10, &old), (11, 20, &new)];
     becomes(&state(&held[..1], &[]), (4, 11, 20, &new[1..]), &held, &[&entry]);
 }
@@ -653,7 +654,7 @@ fn smaller(t: Term) -> Term {
 #[test]
 fn receive_eight_terms_that_differ_in_one_do_not_meet() {
     let terms = eight_terms(4, 2);
-    for place in 1..8 {
+    for place in 1..DATUM_TERMS {
         for change in [apart, larger, smaller] {
             let p = with_term(&terms, place, change(terms[place]));
             let held: [Held; 2] = [(0, 10, &p), (5, 20, &terms)];
@@ -665,7 +666,7 @@ fn receive_eight_terms_that_differ_in_one_do_not_meet() {
 #[test]
 fn receive_eight_terms_of_which_one_is_larger_are_bettered_or_not() {
     let terms = eight_terms(4, 2);
-    for place in 1..8 {
+    for place in 1..DATUM_TERMS {
         let p = with_term(&terms, place, larger(terms[place]));
         // The larger one implies the other, and not the other way round.
         stays(&state(&[(5, 10, &p)], &[]), (4, 0, 20, &terms[1..]));
@@ -686,7 +687,7 @@ fn receive_entries_of_sixteen_terms_are_compared_in_each() {
     let held: [Held; 2] = [(0, 10, &old), (11, 20, &new)];
     let sent: Sent = (4, 11, 20, &new[1..]);
     becomes(&state(&held[..1], &[&sum]), sent, &held, &[&sum]);
-    for place in 0..16 {
+    for place in 0..ENTRY_TERMS {
         let t = sum[place];
         let entry = with_term(&sum, place, apart(t));
         becomes(&state(&held[..1], &[&entry]), sent, &held, &[&entry, &sum]);
@@ -703,7 +704,7 @@ fn receive_entries_of_sixteen_terms_are_compared_in_each() {
 fn receive_data_of_eight_terms_are_explained_by_each() {
     let terms = eight_terms(4, 2);
     let other: Held = (0, 20, &[1 << 8]);
-    for place in 0..8 {
+    for place in 0..DATUM_TERMS {
         let t = terms[place];
         let entry = with_term(&terms, place, larger(t));
         stays(&state(&[other], &[&entry]), (4, 0, 10, &terms[1..]));
@@ -722,50 +723,51 @@ fn receive_data_of_eight_terms_are_explained_by_each() {
 #[test]
 fn receive_seventeenth_datum_is_32() {
     // In a state without entries, from a sender no held datum names, without terms, overlapping all.
-    let held: Vec<Datum> = overlapping(16).held;
-    let before = overlapping(15);
-    let (after, _) = received(&before, (16, 15, 1_015, &[]));
+    let held: Vec<Datum> = overlapping(MOST_DATA).held;
+    let before = overlapping(MOST_DATA - 1);
+    let (last, at) = (MOST_DATA as u32, MOST_DATA as u64 - 1);
+    let (after, _) = received(&before, (last, at, 1_000 + at, &[]));
     assert_eq!(after.held, held);
-    refused(&after, (0, 0), (17, 500, 600, &[]), 32);
-    refused(&after, (0, 0), (17, 0, 2_000, &[]), 32);
+    refused(&after, (0, 0), (last + 1, 500, 600, &[]), 32);
+    refused(&after, (0, 0), (last + 1, 0, 2_000, &[]), 32);
 }
 
 #[test]
 fn receive_with_sixteen_data_is_taken_if_no_place_is_needed() {
-    let before = overlapping(16);
+    let (before, next) = (overlapping(MOST_DATA), MOST_DATA as u32 + 1);
     let (after, branches) = received(&before, (3, 500, 600, &[]));
-    assert!(after.held.len() == 16 && branches.has(Branch::Met));
+    assert!(after.held.len() == MOST_DATA && branches.has(Branch::Met));
     // Bettered by the oldest.
-    stays(&before, (17, 0, 2_000, &[2]));
+    stays(&before, (next, 0, 2_000, &[2]));
     // Explained by its own entry.
-    let (after, branches) = received(&before, (17, 1_005, 9_000, &[2]));
+    let (after, branches) = received(&before, (next, 1_005, 9_000, &[2]));
     assert!(after.held == before.held && branches.has(Branch::NewExplained));
 }
 
 #[test]
 fn receive_seventeenth_datum_that_betters_others_is_taken() {
-    let mut before = overlapping(16);
+    let mut before = overlapping(MOST_DATA);
     before.held[3] = Datum::of(0, 900, &[1 << 20, 1 << 21]);
     before.held[9] = Datum::of(0, 900, &[1 << 20, 1 << 22]);
     let (after, branches) = received(&before, (20, 500, 600, &[]));
-    assert!(after.held.len() == 15 && branches.has(Branch::HeldBettered));
+    assert!(after.held.len() == MOST_DATA - 1 && branches.has(Branch::HeldBettered));
 }
 
 #[test]
 fn receive_seventeenth_datum_after_step_2_made_room_is_taken() {
-    let mut before = overlapping(16);
+    let mut before = overlapping(MOST_DATA);
     before.entries = state(&[], &[&[1 << 5]]).entries;
-    let (after, branches) = received(&before, (17, 500, 600, &[]));
-    assert!(after.held.len() == 16 && branches.has(Branch::HeldExplained));
+    let (after, branches) = received(&before, (MOST_DATA as u32 + 1, 500, 600, &[]));
+    assert!(after.held.len() == MOST_DATA && branches.has(Branch::HeldExplained));
 }
 
 #[test]
 fn receive_thirty_third_entry_is_32() {
     let held: Held = (0, 10, &[2]);
-    let before = with_entries(state(&[held], &[]), &pairs(31));
+    let before = with_entries(state(&[held], &[]), &pairs(MOST_ENTRIES - 1));
     let (after, _) = received(&before, (2, 20, 30, &[]));
-    assert_eq!((after.held.len(), after.entries.len()), (2, 32));
-    refused(&with_entries(state(&[held], &[]), &pairs(32)), (0, 0), (2, 20, 30, &[]), 32);
+    assert_eq!((after.held.len(), after.entries.len()), (2, MOST_ENTRIES));
+    refused(&with_entries(state(&[held], &[]), &pairs(MOST_ENTRIES)), (0, 0), (2, 20, 30, &[]), 32);
     refused(&after, (0, 0), (3, 15, 18, &[]), 32);
 }
 
@@ -774,27 +776,28 @@ fn receive_thirty_third_entry_although_the_datum_goes_is_32() {
     // 1 and 1 + 2 give entry 1 + 2, which explains the new datum: the receipt ends at step 2.
     let held: Held = (0, 10, &[2]);
     let sent: Sent = (2, 20, 30, &[2]);
-    let before = with_entries(state(&[held], &[]), &pairs(31));
+    let before = with_entries(state(&[held], &[]), &pairs(MOST_ENTRIES - 1));
     let (after, branches) = received(&before, sent);
-    assert_eq!((after.held.len(), after.entries.len()), (1, 32));
+    assert_eq!((after.held.len(), after.entries.len()), (1, MOST_ENTRIES));
     assert!(branches.has(Branch::NewExplained));
-    refused(&with_entries(state(&[held], &[]), &pairs(32)), (0, 0), sent, 32);
+    refused(&with_entries(state(&[held], &[]), &pairs(MOST_ENTRIES)), (0, 0), sent, 32);
 }
 
 #[test]
 fn receive_thirty_third_entry_that_replaces_others_is_taken() {
-    let mut before = with_entries(state(&[(0, 10, &[2])], &[&[2, 4, 8]]), &pairs(31));
+    let mut before = with_entries(state(&[(0, 10, &[2])], &[&[2, 4, 8]]), &pairs(MOST_ENTRIES - 1));
     let (after, _) = received(&before, (2, 20, 30, &[]));
-    assert_eq!(after.entries[31], Predicate::of(&[2, 4]));
-    assert_eq!(after.entries[..31], before.entries[1..]);
-    before.entries[31] = Predicate::of(&[2, 4, 16]);
+    let last = MOST_ENTRIES - 1;
+    assert_eq!(after.entries[last], Predicate::of(&[2, 4]));
+    assert_eq!(after.entries[..last], before.entries[1..]);
+    before.entries[last] = Predicate::of(&[2, 4, 16]);
     let (after, _) = received(&before, (2, 20, 30, &[]));
-    assert_eq!(after.entries.len(), 31);
+    assert_eq!(after.entries.len(), last);
 }
 
 #[test]
 fn receive_entry_that_is_implied_needs_no_place() {
-    let mut before = with_entries(state(&[(0, 10, &[2])], &[]), &pairs(31));
+    let mut before = with_entries(state(&[(0, 10, &[2])], &[]), &pairs(MOST_ENTRIES - 1));
     before.entries.push(Predicate::of(&[2, 4]));
     let (after, _) = received(&before, (2, 20, 30, &[]));
     assert_eq!(after.entries, before.entries);
@@ -826,20 +829,21 @@ fn receive_thirty_six_entries_in_between_and_29_at_the_end_is_taken() {
 #[test]
 fn receive_forty_seven_entries_in_between_and_32_at_the_end_is_taken() {
     // Sender 20 contradicts 15 data and at last itself; that also replaces 20 + {24,25}.
-    let mut before = with_entries(overlapping(15), &pairs(31));
+    let (data, last) = (MOST_DATA - 1, MOST_ENTRIES - 1);
+    let mut before = with_entries(overlapping(data), &pairs(last));
     before.held.push(Datum::of(0, 1_000, &[1 << 20]));
     before.entries.push(Predicate::of(&[1 << 20, 3 << 24]));
     let (after, branches) = received(&before, (20, 9_000, 9_001, &[]));
     assert!(branches.has(Branch::EntriesOver));
-    assert_eq!(after.held, before.held[..15]);
-    assert_eq!(after.entries.len(), 32);
-    assert_eq!(after.entries[..31], before.entries[..31]);
-    assert_eq!(after.entries[31], Predicate::of(&[1 << 20]));
+    assert_eq!(after.held, before.held[..data]);
+    assert_eq!(after.entries.len(), MOST_ENTRIES);
+    assert_eq!(after.entries[..last], before.entries[..last]);
+    assert_eq!(after.entries[last], Predicate::of(&[1 << 20]));
 }
 
 #[test]
 fn receive_forty_eight_entries_are_32() {
-    refused(&full(), (0, 0), (28, 9_000, 9_001, &[]), 32);
+    refused(&full(), (0, 0), (GREATEST_NAME, 9_000, 9_001, &[]), 32);
 }
 
 #[test]
@@ -847,7 +851,7 @@ fn receive_in_a_full_state_is_answered_alike() {
     let mut random = Random::new(1);
     let bytes = full().bytes();
     let mut counts = [0; 2];
-    for sender in 1..29 {
+    for sender in 1..NAMES {
         for _ in 0..200 {
             let (one, other) = (random.below(1_100), random.below(1_100));
             let terms: &[Term] = random.pick(&[&[][..], &[2], &[4, 8], &[1 << 11], &[3 << 12]]);

@@ -1,13 +1,15 @@
 //! Seeded runs by both programs, compared after every call: the numbers, the state, the output and
 //! all bytes around them. Each report counts the numbers by call and the branches of taken receipts.
 
+use second::asking::{ANSWER_BYTES, FEWEST_BYTES};
 use second::calls::Call;
 use second::lent::Lent;
+use second::message::{ends_form_bytes, MESSAGE_BYTES};
 use second::random::Random;
 use second::receiving::{Branch, Branches};
 use second::samples::runs::World;
 use second::samples::states;
-use second::state::{State, MOST_DATA, MOST_ENTRIES, STATE_BYTES};
+use second::state::{State, ENTRY_COUNT_AT, HELD_COUNT_AT, MOST_DATA, MOST_ENTRIES, STATE_BYTES};
 use std::collections::BTreeMap;
 use std::fmt::Write as _;
 use std::io::Write as _;
@@ -57,8 +59,8 @@ impl Seen {
             self.crowded_at_step_2 += 1;
         }
         if number == 0 && matches!(call, Call::Receive { .. }) {
-            self.all_data += u64::from(usize::from(state[16]) == MOST_DATA);
-            self.all_entries += u64::from(usize::from(state[20]) == MOST_ENTRIES);
+            self.all_data += u64::from(usize::from(state[HELD_COUNT_AT]) == MOST_DATA);
+            self.all_entries += u64::from(usize::from(state[ENTRY_COUNT_AT]) == MOST_ENTRIES);
         }
     }
 
@@ -76,8 +78,8 @@ impl Seen {
         let counts: Vec<String> = counts.map(|(b, count)| format!("{b:?} {count}")).collect();
         let more = [
             ("32 at step 2", self.crowded_at_step_2),
-            ("left with 16 data", self.all_data),
-            ("with 32 entries", self.all_entries),
+            ("left with the most data", self.all_data),
+            ("with the most entries", self.all_entries),
         ];
         let more = more.map(|(what, count)| format!("{what} {count}"));
         text + &format!("  {}, {}\n", counts.join(", "), more.join(", "))
@@ -103,6 +105,20 @@ impl Seen {
 }
 
 // ---- a run
+
+/// Lengths of an output for a message: about those of 0 and 1 terms, that of 2, about the longest.
+const WRITE_LENGTHS: [usize; 10] = [
+    0,
+    ends_form_bytes(0) - 1,
+    ends_form_bytes(0),
+    ends_form_bytes(1) - 1,
+    ends_form_bytes(1),
+    ends_form_bytes(2),
+    MESSAGE_BYTES - 1,
+    MESSAGE_BYTES,
+    MESSAGE_BYTES + 1,
+    MESSAGE_BYTES + 14,
+];
 
 /// The bytes of a run and what is known of them.
 struct Run<'a> {
@@ -141,9 +157,15 @@ impl<'a> Run<'a> {
     /// Runs the call in both programs with an output of any length.
     fn call(&mut self, call: &Call) -> u32 {
         let len = match call {
-            Call::Write { .. } => self.random.pick(&[0, 23, 24, 27, 28, 32, 55, 56, 57, 70]),
-            Call::Ask { .. } => self.random.pick(&[0, 16, 23, 24, 25, 32, 70]),
-            Call::Fewest => self.random.pick(&[0, 8, 15, 16, 17, 24, 70]),
+            Call::Write { .. } => self.random.pick(&WRITE_LENGTHS),
+            Call::Ask { .. } => {
+                let most = ANSWER_BYTES;
+                self.random.pick(&[0, 16, most - 1, most, most + 1, 32, 70])
+            }
+            Call::Fewest => {
+                let most = FEWEST_BYTES;
+                self.random.pick(&[0, 8, most - 1, most, most + 1, 24, 70])
+            }
             _ => 0,
         };
         let filled = self.random.bytes(len);

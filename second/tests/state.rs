@@ -4,12 +4,16 @@
 use second::calls::Call;
 use second::instants::{Interval, GREATEST_END};
 use second::lent::Lent;
-use second::message::Message;
-use second::predicates::{Predicate, Term};
+use second::message::{Message, MESSAGE_BYTES};
+use second::predicates::{Predicate, Term, ALL_NAMES, GREATEST_NAME, NAMES};
 use second::random::Random;
 use second::receiving::Branches;
 use second::samples::states;
-use second::state::{Datum, State, STATE_BYTES};
+use second::state::{
+    datum_at, entry_at, Datum, State, DATUM_BYTES, DATUM_TERMS, DRIFT_AT, ENTRY_BYTES,
+    ENTRY_COUNT_AT, ENTRY_TERMS, GREATEST_DRIFT, GREATEST_READING, HELD_COUNT_AT, MASKS_AT,
+    MASK_BYTES, MOST_DATA, MOST_ENTRIES, OWN_AT, READING_AT, RIGHT_AT, STATE_BYTES, TERM_COUNT_AT,
+};
 use std::collections::BTreeMap;
 
 // ---- what is compared
@@ -25,8 +29,8 @@ fn number(bytes: &[u8], call: &Call, len: usize) -> u32 {
 
 /// Those that look at the state, with arguments that any state in form takes.
 fn sound_calls(bytes: &[u8]) -> [Call; 2] {
-    let reading = u64::from_le_bytes(bytes[8..16].try_into().expect("eight bytes"));
-    let sender = u32::from(bytes[0] == 1) + 1;
+    let reading = u64::from_le_bytes(*bytes[READING_AT..].first_chunk().expect("eight bytes"));
+    let sender = u32::from(bytes[OWN_AT] == 1) + 1;
     let interval = Interval { left: 0, right: 9 };
     let message = Message { sender, interval, terms: Predicate::of(&[0]) }.bytes();
     [Call::Age { reading }, Call::Receive { least: 0, greatest: 0, message }]
@@ -35,7 +39,7 @@ fn sound_calls(bytes: &[u8]) -> [Call; 2] {
 /// Those that look at the state, with flaws that are tested later.
 fn flawed_calls() -> [Call; 3] {
     [
-        Call::Age { reading: 1 << 58 },
+        Call::Age { reading: GREATEST_READING + 1 },
         Call::Receive { least: 1, greatest: 0, message: vec![] },
         Call::Write { position: 99 },
     ]
@@ -45,7 +49,7 @@ fn refused(bytes: &[u8], wanted: u32) {
     for call in sound_calls(bytes).into_iter().chain(flawed_calls()) {
         assert_eq!(number(bytes, &call, 0), wanted, "{call:?}");
     }
-    for len in [0, 56] {
+    for len in [0, MESSAGE_BYTES] {
         assert_eq!(number(bytes, &Call::Write { position: 0 }, len), wanted, "monitor_write");
     }
 }
@@ -60,25 +64,25 @@ fn out_of_form(bytes: &[u8]) {
 }
 
 fn in_form(bytes: &[u8]) {
-    let held = bytes[16].into();
+    let held = bytes[HELD_COUNT_AT].into();
     for call in sound_calls(bytes) {
         assert_eq!(number(bytes, &call, 0), 0, "{call:?}");
     }
-    for position in 0..=16 {
+    for position in 0..=MOST_DATA as u64 {
         let wanted = if position < held { 0 } else { 23 };
-        assert_eq!(number(bytes, &Call::Write { position }, 56), wanted);
+        assert_eq!(number(bytes, &Call::Write { position }, MESSAGE_BYTES), wanted);
     }
 }
 
 // ---- states to start with
 
 /// Pairs of name 1 with others: so many terms in normal form, without name 5.
-fn terms(count: u32) -> Vec<Term> {
+fn terms(count: usize) -> Vec<Term> {
     (8..8 + count).map(|n| 2 | 1 << n).collect()
 }
 
 /// Own name 5, with a datum and an entry for each term count.
-fn rows(data: &[u32], entries: &[u32]) -> State {
+fn rows(data: &[usize], entries: &[usize]) -> State {
     State {
         held: data.iter().map(|&count| Datum::of(10, 20, &terms(count))).collect(),
         entries: entries.iter().map(|&count| Predicate::of(&terms(count))).collect(),
@@ -87,29 +91,25 @@ fn rows(data: &[u32], entries: &[u32]) -> State {
 }
 
 fn some() -> State {
-    rows(&[8, 3, 1], &[16, 2, 1])
+    rows(&[DATUM_TERMS, 3, 1], &[ENTRY_TERMS, 2, 1])
 }
 
 fn full() -> State {
-    rows(&[8; 16], &[16; 32])
+    rows(&[DATUM_TERMS; MOST_DATA], &[ENTRY_TERMS; MOST_ENTRIES])
 }
 
 /// As many rows as there are places, with unused masks.
 fn full_of_few() -> State {
-    rows(&[3; 16], &[2; 32])
+    rows(&[3; MOST_DATA], &[2; MOST_ENTRIES])
 }
 
 fn all() -> [State; 4] {
     [State::fresh(0, 0, 0), some(), full(), full_of_few()]
 }
 
-/// The place of a datum and of an entry.
-fn datum_at(i: usize) -> usize {
-    24 + 52 * i
-}
-
-fn entry_at(i: usize) -> usize {
-    24 + 16 * 52 + 68 * i
+/// The place of a datum's term count.
+fn term_count_at(i: usize) -> usize {
+    datum_at(i) + TERM_COUNT_AT
 }
 
 /// The bytes with others put in.
@@ -134,19 +134,23 @@ fn state_all_zero_is_in_form() {
 #[test]
 fn state_with_every_count_of_data_and_entries_is_in_form() {
     all().iter().for_each(|state| in_form(&state.bytes()));
-    for count in 0..=16 {
-        in_form(&rows(&[8; 16][..count], &[16; 32][..2 * count]).bytes());
-        in_form(&rows(&[1; 16][..count], &[]).bytes());
+    let State { held, entries, .. } = full();
+    for count in 0..=MOST_DATA {
+        let held = held[..count].to_vec();
+        let entries = entries[..count * MOST_ENTRIES / MOST_DATA].to_vec();
+        in_form(&State { held, entries, ..full() }.bytes());
+        in_form(&rows(&[1; MOST_DATA][..count], &[]).bytes());
     }
-    (1..=8).for_each(|count| in_form(&rows(&[count], &[]).bytes()));
-    (1..=16).for_each(|count| in_form(&rows(&[], &[count]).bytes()));
+    (1..=DATUM_TERMS).for_each(|count| in_form(&rows(&[count], &[]).bytes()));
+    (1..=ENTRY_TERMS).for_each(|count| in_form(&rows(&[], &[count]).bytes()));
 }
 
 #[test]
 fn state_with_numbers_at_their_edges_is_in_form() {
-    let edges = [(0, 0, 0), (28, 1_000, GREATEST_END), (28, 0, 0), (0, 1_000, 0)];
+    let (name, drift) = (GREATEST_NAME, GREATEST_DRIFT);
+    let edges = [(0, 0, 0), (name, drift, GREATEST_READING), (name, 0, 0), (0, drift, 0)];
     for (own, drift, reading) in edges {
-        let all = ((1 << 29) - 1) & !(1 << own);
+        let all = ALL_NAMES & !(1 << own);
         for (left, right) in [(0, 0), (0, GREATEST_END), (GREATEST_END, GREATEST_END)] {
             let held = vec![Datum::of(left, right, &[all])];
             let entries = vec![Predicate::of(&[all])];
@@ -175,54 +179,61 @@ fn state_any_in_form_is_taken_as_such() {
 
 #[test]
 fn state_own_name_above_28_is_25() {
-    for own in [29u32, 30, 31, 32, 33, 64, 255, 256, 256 + 5, 65_536 + 5, 1 << 31, u32::MAX] {
+    let near = (NAMES..NAMES + 5).collect::<Vec<_>>();
+    let far = [64, 255, 256, 256 + 5, 65_536 + 5, 1 << 31, u32::MAX];
+    for own in [&near[..], &far].concat() {
         for state in all() {
-            out_of_form(&changed(&state, 0, &own.to_le_bytes()));
+            out_of_form(&changed(&state, OWN_AT, &own.to_le_bytes()));
         }
     }
 }
 
 #[test]
 fn state_drift_above_1000_is_25() {
-    for drift in [1_001u32, 1_002, 1_024, 65_536, 65_536 + 5, 1 << 31, u32::MAX] {
+    let most = GREATEST_DRIFT;
+    for drift in [most + 1, most + 2, 1_024, 65_536, 65_536 + 5, 1 << 31, u32::MAX] {
         for state in all() {
-            out_of_form(&changed(&state, 4, &drift.to_le_bytes()));
+            out_of_form(&changed(&state, DRIFT_AT, &drift.to_le_bytes()));
         }
     }
 }
 
 #[test]
 fn state_reading_of_2_to_the_58_is_25() {
-    for reading in [1u64 << 58, (1 << 58) + 1, 1 << 59, 1 << 63, u64::MAX] {
+    for reading in [GREATEST_READING + 1, GREATEST_READING + 2, 1 << 59, 1 << 63, u64::MAX] {
         for state in all() {
-            out_of_form(&changed(&state, 8, &reading.to_le_bytes()));
+            out_of_form(&changed(&state, READING_AT, &reading.to_le_bytes()));
         }
     }
 }
 
 #[test]
 fn state_held_count_above_16_or_not_that_of_the_rows_is_25() {
-    for count in [17u32, 18, 32, 255, 256, 256 + 3, 65_536 + 3, 1 << 31, u32::MAX] {
+    let most = MOST_DATA as u32;
+    let put = |state: &State, count: u32| changed(state, HELD_COUNT_AT, &count.to_le_bytes());
+    for count in [most + 1, most + 2, 2 * most, 255, 256, 256 + 3, 65_536 + 3, 1 << 31, u32::MAX] {
         for state in all() {
-            out_of_form(&changed(&state, 16, &count.to_le_bytes()));
+            out_of_form(&put(&state, count));
         }
     }
-    (0..16u32).for_each(|count| out_of_form(&changed(&full(), 16, &count.to_le_bytes())));
-    for count in [0u32, 1, 2, 4, 5, 16] {
-        out_of_form(&changed(&some(), 16, &count.to_le_bytes()));
+    (0..most).for_each(|count| out_of_form(&put(&full(), count)));
+    for count in [0, 1, 2, 4, 5, most] {
+        out_of_form(&put(&some(), count));
     }
 }
 
 #[test]
 fn state_entry_count_above_32_or_not_that_of_the_rows_is_25() {
-    for count in [33u32, 34, 64, 255, 256, 256 + 3, 65_536 + 3, 1 << 31, u32::MAX] {
+    let most = MOST_ENTRIES as u32;
+    let put = |state: &State, count: u32| changed(state, ENTRY_COUNT_AT, &count.to_le_bytes());
+    for count in [most + 1, most + 2, 2 * most, 255, 256, 256 + 3, 65_536 + 3, 1 << 31, u32::MAX] {
         for state in all() {
-            out_of_form(&changed(&state, 20, &count.to_le_bytes()));
+            out_of_form(&put(&state, count));
         }
     }
-    (0..32u32).for_each(|count| out_of_form(&changed(&full(), 20, &count.to_le_bytes())));
-    for count in [0u32, 1, 2, 4, 5, 32] {
-        out_of_form(&changed(&some(), 20, &count.to_le_bytes()));
+    (0..most).for_each(|count| out_of_form(&put(&full(), count)));
+    for count in [0, 1, 2, 4, 5, most] {
+        out_of_form(&put(&some(), count));
     }
 }
 
@@ -244,18 +255,18 @@ fn state_ends_out_of_order_or_range_are_25() {
     for (left, right) in ends {
         let put = [u64::to_le_bytes(left), u64::to_le_bytes(right)].concat();
         (0..3).for_each(|i| out_of_form(&changed(&some(), datum_at(i), &put)));
-        (0..16).for_each(|i| out_of_form(&changed(&full(), datum_at(i), &put)));
+        (0..MOST_DATA).for_each(|i| out_of_form(&changed(&full(), datum_at(i), &put)));
     }
 }
 
 #[test]
 fn state_term_count_of_0_is_25() {
-    for i in 0..16 {
+    for i in 0..MOST_DATA {
         let mut state = full();
         state.held[i].predicate = Predicate::of(&[]);
         out_of_form(&state.bytes());
     }
-    for i in 0..32 {
+    for i in 0..MOST_ENTRIES {
         let mut state = full();
         state.entries[i] = Predicate::of(&[]);
         out_of_form(&state.bytes());
@@ -266,14 +277,18 @@ fn state_term_count_of_0_is_25() {
 
 #[test]
 fn state_term_count_above_8_or_16_is_25() {
-    for count in [9u32, 10, 16, 17, 255, 256, 256 + 8, 65_536 + 8, 1 << 31, u32::MAX] {
-        for i in [0, 7, 15] {
-            out_of_form(&changed(&full(), datum_at(i) + 16, &count.to_le_bytes()));
-            out_of_form(&changed(&full_of_few(), datum_at(i) + 16, &count.to_le_bytes()));
+    let [in_datum, in_entry] = [DATUM_TERMS, ENTRY_TERMS].map(|most| {
+        let most = most as u32;
+        [most + 1, most + 2, 2 * most, 255, 256, 256 + most, 65_536 + most, 1 << 31, u32::MAX]
+    });
+    for count in in_datum.into_iter().chain([2 * DATUM_TERMS as u32 + 1]) {
+        for i in [0, 7, MOST_DATA - 1] {
+            out_of_form(&changed(&full(), term_count_at(i), &count.to_le_bytes()));
+            out_of_form(&changed(&full_of_few(), term_count_at(i), &count.to_le_bytes()));
         }
     }
-    for count in [17u32, 18, 32, 255, 256, 256 + 16, 65_536 + 16, 1 << 31, u32::MAX] {
-        for i in [0, 7, 31] {
+    for count in in_entry {
+        for i in [0, 7, MOST_ENTRIES - 1] {
             out_of_form(&changed(&full(), entry_at(i), &count.to_le_bytes()));
             out_of_form(&changed(&full_of_few(), entry_at(i), &count.to_le_bytes()));
         }
@@ -283,34 +298,36 @@ fn state_term_count_above_8_or_16_is_25() {
 #[test]
 fn state_ninth_term_that_fits_is_25() {
     // Behind a datum's masks stands the next one's left end, which would do as a ninth term.
-    for i in 0..15 {
+    let ninth = DATUM_TERMS as u32 + 1;
+    for i in 0..MOST_DATA - 1 {
         let mut state = full();
         state.held[i + 1].interval = Interval { left: 1 << 20, right: 1 << 20 };
         in_form(&state.bytes());
-        out_of_form(&changed(&state, datum_at(i) + 16, &9u32.to_le_bytes()));
+        out_of_form(&changed(&state, term_count_at(i), &ninth.to_le_bytes()));
     }
     // Behind the last one stands the first entry's count, behind the last entry any byte.
     let few: Vec<Term> = [3, 5, 6, 9, 10, 12].to_vec();
-    let mut state = rows(&[1; 16], &[16]);
-    state.own = 28;
-    state.held[15].predicate = Predicate::of(&few);
+    let mut state = rows(&[1; MOST_DATA], &[ENTRY_TERMS]);
+    state.own = GREATEST_NAME;
+    state.held[MOST_DATA - 1].predicate = Predicate::of(&few);
     in_form(&state.bytes());
-    for count in [7u32, 8, 9] {
-        out_of_form(&changed(&state, datum_at(15) + 16, &count.to_le_bytes()));
+    for count in few.len() as u32 + 1..=ninth {
+        out_of_form(&changed(&state, term_count_at(MOST_DATA - 1), &count.to_le_bytes()));
     }
-    let bytes = changed(&full(), entry_at(31), &17u32.to_le_bytes());
+    let seventeenth = ENTRY_TERMS as u32 + 1;
+    let bytes = changed(&full(), entry_at(MOST_ENTRIES - 1), &seventeenth.to_le_bytes());
     refused(&[&bytes[..], &(1u32 << 25).to_le_bytes()].concat(), 25);
 }
 
 #[test]
 fn state_term_count_not_that_of_the_masks_is_25() {
-    for count in (1..=8u32).filter(|&count| count != 3) {
-        for i in [0, 7, 15] {
-            out_of_form(&changed(&full_of_few(), datum_at(i) + 16, &count.to_le_bytes()));
+    for count in (1..=DATUM_TERMS as u32).filter(|&count| count != 3) {
+        for i in [0, 7, MOST_DATA - 1] {
+            out_of_form(&changed(&full_of_few(), term_count_at(i), &count.to_le_bytes()));
         }
     }
-    for count in (1..=16u32).filter(|&count| count != 2) {
-        for i in [0, 7, 31] {
+    for count in (1..=ENTRY_TERMS as u32).filter(|&count| count != 2) {
+        for i in [0, 7, MOST_ENTRIES - 1] {
             out_of_form(&changed(&full_of_few(), entry_at(i), &count.to_le_bytes()));
         }
     }
@@ -319,12 +336,12 @@ fn state_term_count_not_that_of_the_masks_is_25() {
 /// The predicate in any place, in a state with few terms elsewhere and in one with many.
 fn out_of_form_terms(p: &[Term]) {
     for state in [full(), full_of_few()] {
-        for i in (0..16).filter(|_| p.len() <= 8) {
+        for i in (0..MOST_DATA).filter(|_| p.len() <= DATUM_TERMS) {
             let mut state = state.clone();
             state.held[i].predicate = Predicate::of(p);
             out_of_form(&state.bytes());
         }
-        for i in [0, 1, 30, 31] {
+        for i in [0, 1, MOST_ENTRIES - 2, MOST_ENTRIES - 1] {
             let mut state = state.clone();
             state.entries[i] = Predicate::of(p);
             out_of_form(&state.bytes());
@@ -345,13 +362,13 @@ fn state_terms_not_in_normal_form_are_25() {
     for bad in [&[4, 2][..], &[2, 2], &[2, 6], &[4, 6], &[2, 8, 4], &[2, 4, 8, 18]] {
         out_of_form_terms(bad);
     }
-    for count in [8, 16] {
+    for count in [DATUM_TERMS, ENTRY_TERMS] {
         let swapped = |i: usize, j: usize| {
             let mut terms = terms(count);
             terms.swap(i, j);
             terms
         };
-        let last = count as usize - 1;
+        let last = count - 1;
         out_of_form_terms(&swapped(0, 1));
         out_of_form_terms(&swapped(last - 1, last));
         let mut equal = terms(count);
@@ -360,14 +377,14 @@ fn state_terms_not_in_normal_form_are_25() {
         let mut containing = terms(count);
         containing[last] |= containing[0];
         out_of_form_terms(&containing);
-        containing[last] = 1 << 28 | containing[last - 1];
+        containing[last] = 1 << GREATEST_NAME | containing[last - 1];
         out_of_form_terms(&containing);
     }
 }
 
 #[test]
 fn state_term_of_2_to_the_29_or_more_is_25() {
-    for bit in 29..32 {
+    for bit in NAMES..32 {
         out_of_form_terms(&[1 << bit]);
         out_of_form_terms(&[2, 4, 1 << bit]);
         out_of_form_terms(&[2, 4, 1 << bit | 1]);
@@ -383,22 +400,25 @@ fn state_term_naming_the_own_is_25() {
     }
     // The others may be as they are: only the own name is another one.
     for name in [1u32, 8, 15] {
-        out_of_form(&changed(&rows(&[8], &[]), 0, &name.to_le_bytes()));
-        out_of_form(&changed(&rows(&[], &[16]), 0, &name.to_le_bytes()));
+        out_of_form(&changed(&rows(&[DATUM_TERMS], &[]), OWN_AT, &name.to_le_bytes()));
+        out_of_form(&changed(&rows(&[], &[ENTRY_TERMS]), OWN_AT, &name.to_le_bytes()));
     }
-    out_of_form(&changed(&rows(&[], &[16]), 0, &23u32.to_le_bytes()));
-    in_form(&changed(&rows(&[8], &[16]), 0, &28u32.to_le_bytes()));
+    out_of_form(&changed(&rows(&[], &[ENTRY_TERMS]), OWN_AT, &23u32.to_le_bytes()));
+    let both = rows(&[DATUM_TERMS], &[ENTRY_TERMS]);
+    in_form(&changed(&both, OWN_AT, &GREATEST_NAME.to_le_bytes()));
 }
 
 /// Every byte of a place or a mask that is not used.
 fn unused(state: &State) -> Vec<usize> {
     let (data, entries) = (datum_at(state.held.len()), entry_at(state.entries.len()));
-    let mut places: Vec<usize> = (data..datum_at(16)).chain(entries..entry_at(32)).collect();
+    let (no_data, no_entries) = (data..datum_at(MOST_DATA), entries..entry_at(MOST_ENTRIES));
+    let mut places: Vec<usize> = no_data.chain(no_entries).collect();
+    let behind = |count_at: usize, p: &[Term]| count_at + MASKS_AT + MASK_BYTES * p.len();
     for (i, datum) in state.held.iter().enumerate() {
-        places.extend(datum_at(i) + 20 + 4 * datum.predicate.len()..datum_at(i + 1));
+        places.extend(behind(term_count_at(i), &datum.predicate)..datum_at(i + 1));
     }
     for (i, entry) in state.entries.iter().enumerate() {
-        places.extend(entry_at(i) + 4 + 4 * entry.len()..entry_at(i + 1));
+        places.extend(behind(entry_at(i), entry)..entry_at(i + 1));
     }
     places
 }
@@ -406,8 +426,13 @@ fn unused(state: &State) -> Vec<usize> {
 #[test]
 fn state_any_byte_in_an_unused_place_is_25() {
     let counts = all().map(|state| unused(&state).len());
-    let in_some = 13 * 52 + 29 * 68 + 4 * (5 + 7) + 4 * (14 + 15);
-    assert_eq!(counts, [16 * 52 + 32 * 68, in_some, 0, 16 * 4 * 5 + 32 * 4 * 14]);
+    let rows = |data: usize, entries: usize| data * DATUM_BYTES + entries * ENTRY_BYTES;
+    // By how many masks in the data and in the entries.
+    let masks = |data: usize, entries: usize| MASK_BYTES * (data + entries);
+    let (d, e) = (DATUM_TERMS, ENTRY_TERMS);
+    let in_some = rows(MOST_DATA - 3, MOST_ENTRIES - 3) + masks(d - 3 + d - 1, e - 2 + e - 1);
+    let in_few = masks(MOST_DATA * (d - 3), MOST_ENTRIES * (e - 2));
+    assert_eq!(counts, [rows(MOST_DATA, MOST_ENTRIES), in_some, 0, in_few]);
     for state in all() {
         for at in unused(&state) {
             for byte in [1, 128] {
@@ -415,7 +440,8 @@ fn state_any_byte_in_an_unused_place_is_25() {
                 for call in sound_calls(&bytes) {
                     assert_eq!(number(&bytes, &call, 0), 25, "byte {at}");
                 }
-                assert_eq!(number(&bytes, &Call::Write { position: 0 }, 56), 25, "byte {at}");
+                let write = Call::Write { position: 0 };
+                assert_eq!(number(&bytes, &write, MESSAGE_BYTES), 25, "byte {at}");
             }
         }
     }
@@ -430,7 +456,7 @@ fn every_flipped_bit_is_answered_alike() {
         let whole = state.bytes();
         let mut random = Random::new(0);
         let mut lent = Lent::new(&whole, &mut random);
-        let mut out = Lent::new(&[7; 56], &mut random);
+        let mut out = Lent::new(&[7; MESSAGE_BYTES], &mut random);
         for bit in 0..8 * STATE_BYTES {
             let bytes = changed(&state, bit / 8, &[whole[bit / 8] ^ 1 << (bit % 8)]);
             let [_, receive] = sound_calls(&whole);
@@ -457,17 +483,24 @@ fn any_bytes_are_25() {
 #[test]
 fn few_numbers_among_zeros_are_answered_alike() {
     let mut counts = BTreeMap::new();
+    // Those of the head, of the first datum and of the first entry; of long ones both halves.
+    let head = [OWN_AT, DRIFT_AT, READING_AT, READING_AT + 4, HELD_COUNT_AT, ENTRY_COUNT_AT];
+    let masks = [MASKS_AT, MASKS_AT + MASK_BYTES];
+    let datum = [0, RIGHT_AT, RIGHT_AT + 4, TERM_COUNT_AT].map(|at| datum_at(0) + at);
+    let datum_masks = masks.map(|at| term_count_at(0) + at);
+    let entry = [0, masks[0], masks[1]].map(|at| entry_at(0) + at);
+    let places = [&head[..], &datum, &datum_masks, &entry].concat();
     for seed in 0..20_000 {
         let mut random = Random::new(seed);
         let mut bytes = vec![0; STATE_BYTES];
         for _ in 0..1 + random.below(4) {
-            let place = random.pick(&[0, 4, 8, 12, 16, 20, 24, 32, 36, 40, 44, 48, 856, 860, 864]);
+            let place = random.pick(&places);
             let bound = random.pick(&[2, 3, 10, 30, 1_100]);
             let number = random.below(bound);
             bytes[place..place + 2].copy_from_slice(&(number as u16).to_le_bytes());
         }
         for call in [Call::Age { reading: 1 << 40 }, Call::Write { position: 0 }] {
-            *counts.entry(number(&bytes, &call, 56)).or_insert(0) += 1;
+            *counts.entry(number(&bytes, &call, MESSAGE_BYTES)).or_insert(0) += 1;
         }
     }
     assert!(counts[&0] > 1_000 && counts[&25] > 1_000, "{counts:?}");
@@ -477,14 +510,16 @@ fn few_numbers_among_zeros_are_answered_alike() {
 
 #[test]
 fn state_short_is_24_and_longer_is_as_it_is() {
+    let about = STATE_BYTES - 32;
     for state in all() {
         let longer = [&state.bytes()[..], &vec![3; 66_000]].concat();
         let sound = sound_calls(&longer).into_iter().chain([Call::Write { position: 0 }]);
         for call in sound.chain(flawed_calls()) {
-            let wanted = number(&longer[..STATE_BYTES], &call, 56);
-            for len in (0..30).chain(3_000..3_070).chain([4_096, 65_536, 65_536 + 3_000]) {
-                let got = number(&longer[..len], &call, 56);
-                assert_eq!(got, if len < 3_032 { 24 } else { wanted }, "{call:?}, {len} bytes");
+            let wanted = number(&longer[..STATE_BYTES], &call, MESSAGE_BYTES);
+            for len in (0..30).chain(about..about + 70).chain([4_096, 65_536, 65_536 + about]) {
+                let got = number(&longer[..len], &call, MESSAGE_BYTES);
+                let wanted = if len < STATE_BYTES { 24 } else { wanted };
+                assert_eq!(got, wanted, "{call:?}, {len} bytes");
             }
         }
     }

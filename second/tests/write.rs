@@ -2,10 +2,11 @@
 
 use second::instants::GREATEST_END;
 use second::lent::{compare, Lent};
-use second::message::{self, Message};
+use second::message::{self, ends_form_bytes, Message, MESSAGE_BYTES};
+use second::predicates::GREATEST_NAME;
 use second::random::Random;
 use second::samples::states;
-use second::state::{Datum, State, STATE_BYTES};
+use second::state::{Datum, State, DATUM_TERMS, MOST_DATA, MOST_ENTRIES, OWN_AT, STATE_BYTES};
 use second::{engine, writing};
 
 /// Writes in both programs to an output of so many filled bytes. A taken call may change `written`
@@ -26,7 +27,8 @@ fn write_in(bytes: &[u8], position: u64, len: usize, written: usize) -> (u32, Ve
 }
 
 fn refused(state: &State, position: u64, number: u32) {
-    for len in [0, 23, 24, 56, 100] {
+    let shortest = ends_form_bytes(0);
+    for len in [0, shortest - 1, shortest, MESSAGE_BYTES, MESSAGE_BYTES + 44] {
         assert_eq!(write_in(&state.bytes(), position, len, 0).0, number, "{len} bytes");
     }
 }
@@ -34,7 +36,7 @@ fn refused(state: &State, position: u64, number: u32) {
 /// The words that the datum at a position is written as, into an output of just their length.
 fn written(state: &State, position: u64) -> Vec<u32> {
     let terms = state.held[position as usize].predicate.len();
-    let len = 4 * (6 + terms);
+    let len = ends_form_bytes(terms);
     let (number, out) = write_in(&state.bytes(), position, len, len);
     assert_eq!(number, 0, "{position} in {state:?}");
     message::words_of(&out).expect("whole words").to_vec()
@@ -44,10 +46,15 @@ fn holding(own: u32, held: Vec<Datum>) -> State {
     State { held, ..State::fresh(own, 100, 1_000) }
 }
 
-/// Sixteen data with 1 to 8 terms.
-fn sixteen() -> State {
-    let terms = |count: u64| (0..count).map(|n| 1 << (n + 3)).collect::<Vec<u32>>();
-    let held = (0..16).map(|i| Datum::of(i, 1_000 * i, &terms(i % 8 + 1)));
+/// How many terms the datum at a position of a full state has: 1 to the most.
+fn terms_at(position: u64) -> usize {
+    position as usize % DATUM_TERMS + 1
+}
+
+/// The most data.
+fn full() -> State {
+    let terms = |count: usize| (0..count).map(|n| 1 << (n + 3)).collect::<Vec<u32>>();
+    let held = (0..MOST_DATA as u64).map(|i| Datum::of(i, 1_000 * i, &terms(terms_at(i))));
     holding(0, held.collect())
 }
 
@@ -74,8 +81,8 @@ fn write_high_and_low_words_of_the_ends() {
 
 #[test]
 fn write_least_and_greatest_ends_and_names() {
-    for own in [0, 28] {
-        let name = 1 << (28 - own);
+    for own in [0, GREATEST_NAME] {
+        let name = 1 << (GREATEST_NAME - own);
         let state = holding(own, vec![Datum::of(0, GREATEST_END, &[name])]);
         let message = message::read(&written(&state, 0)).expect("a sound message");
         assert_eq!((message.sender, &message.terms[..]), (own, &[name][..]));
@@ -85,8 +92,8 @@ fn write_least_and_greatest_ends_and_names() {
 
 #[test]
 fn write_position_0_is_the_oldest() {
-    let state = sixteen();
-    for position in 0..16 {
+    let state = full();
+    for position in 0..MOST_DATA as u64 {
         let message = message::read(&written(&state, position)).expect("a sound message");
         let datum = state.held[position as usize];
         assert_eq!(message.interval, datum.interval);
@@ -96,24 +103,27 @@ fn write_position_0_is_the_oldest() {
 
 #[test]
 fn write_position_without_a_held_datum_is_23() {
-    for held in 0..=16 {
-        let state = holding(0, sixteen().held[..held].to_vec());
+    let most = MOST_DATA as u64;
+    for held in 0..=MOST_DATA {
+        let state = holding(0, full().held[..held].to_vec());
         let held = held as u64;
-        for position in [held, held + 1, 16, 17, 255, 256, 1 << 16, 1 << 32, 1 << 63, u64::MAX] {
+        for position in
+            [held, held + 1, most, most + 1, 255, 256, 1 << 16, 1 << 32, 1 << 63, u64::MAX]
+        {
             refused(&state, position, 23);
         }
     }
     // Entries are no data.
-    let entries = vec![sixteen().held[0].predicate; 32];
+    let entries = vec![full().held[0].predicate; MOST_ENTRIES];
     refused(&State { entries, ..State::fresh(0, 0, 0) }, 0, 23);
 }
 
 #[test]
 fn write_output_one_byte_short_is_24_and_longer_is_taken() {
-    let bytes = sixteen().bytes();
-    for position in 0..16 {
-        let needed = 4 * (6 + position as usize % 8 + 1);
-        for len in (0..=70).chain([255, 256, 65_536, 65_540]) {
+    let bytes = full().bytes();
+    for position in 0..MOST_DATA as u64 {
+        let needed = ends_form_bytes(terms_at(position));
+        for len in (0..=MESSAGE_BYTES + 14).chain([255, 256, 65_536, 65_540]) {
             let (number, _) = write_in(&bytes, position, len, needed);
             assert_eq!(number, if len < needed { 24 } else { 0 }, "{position}, {len} bytes");
         }
@@ -122,21 +132,23 @@ fn write_output_one_byte_short_is_24_and_longer_is_taken() {
 
 #[test]
 fn write_bytes_beyond_the_state_play_no_part() {
-    let state = sixteen();
-    let longer = [&state.bytes()[..], &[255; 40]].concat();
-    assert_eq!(write_in(&longer, 15, 56, 56), write_in(&state.bytes(), 15, 56, 56));
+    let bytes = full().bytes();
+    let longer = [&bytes[..], &[255; 40]].concat();
+    let (last, len) = (MOST_DATA as u64 - 1, MESSAGE_BYTES);
+    assert_eq!(write_in(&longer, last, len, len), write_in(&bytes, last, len, len));
 }
 
 #[test]
 fn write_several_flaws_is_the_first_of_24_25_23_24() {
-    let mut broken = sixteen().bytes();
-    broken[0] = 29;
-    for (position, len) in [(0, 56), (0, 0), (16, 56), (16, 0)] {
+    let mut broken = full().bytes();
+    broken[OWN_AT] = GREATEST_NAME as u8 + 1;
+    let most = MOST_DATA as u64;
+    for (position, len) in [(0, MESSAGE_BYTES), (0, 0), (most, MESSAGE_BYTES), (most, 0)] {
         assert_eq!(write_in(&broken[..STATE_BYTES - 1], position, len, 0).0, 24);
         assert_eq!(write_in(&broken, position, len, 0).0, 25);
     }
-    refused(&sixteen(), 16, 23);
-    assert_eq!(write_in(&sixteen().bytes(), 0, 27, 0).0, 24);
+    refused(&full(), most, 23);
+    assert_eq!(write_in(&full().bytes(), 0, ends_form_bytes(1) - 1, 0).0, 24);
 }
 
 #[test]

@@ -5,8 +5,16 @@
 #include <stdint.h>
 #include <stdio.h>
 
+#include "monitor.h"
+
 #define GUARD 16
-#define MOST 3072
+#define MOST (MONITOR_STATE_BYTES + 40)
+
+/* Places in a state, as docs/layouts.md has them: the counts, and the ends of the oldest datum. */
+#define HELD_COUNT 16
+#define ENTRY_COUNT 20
+#define OLDEST_LEFT 24
+#define OLDEST_RIGHT 32
 
 static int passed, failed;
 

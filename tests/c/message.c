@@ -14,13 +14,13 @@ static const uint32_t centre_form[] = {536870978u, 2147483648u, 2148483748u, 268
 static void reading(void)
 {
     struct lent m, r;
-    uint8_t *message = lend(&m, 24), *out = lend(&r, MONITOR_READING_BYTES);
+    uint8_t *message = lend(&m, sizeof ends_form), *out = lend(&r, MONITOR_READING_BYTES);
     size_t len = bytes_of(message, ends_form, 6);
 
     check(message_read(message, len, out, r.n) == MONITOR_TAKEN, "document 01's first message is taken");
     check(number(out) == 1 && number(out + 8) == 1000000 && number(out + 16) == 1000200 && number(out + 24) == 0,
           "sender, left, right and term count");
-    check(untouched(&r, 32), "nothing beside the 32 bytes is written");
+    check(untouched(&r, MONITOR_READING_BYTES), "nothing beside the reading is written");
 
     for (size_t n = 0; n < MONITOR_READING_BYTES; n++) {
         out = lend(&r, n);
@@ -31,33 +31,34 @@ static void reading(void)
         check(message_read(message, len - cut, out, 0) == MONITOR_WORD_COUNT, "a length that leaves a rest is 10, before 24");
     }
     message[0] ^= 2; /* another sender, the old check word */
-    out = lend(&r, 32);
+    out = lend(&r, MONITOR_READING_BYTES);
     check(message_read(message, len, out, r.n) == MONITOR_CHECK && untouched(&r, 0), "a changed head is 15, output unchanged");
 }
 
 static void rewriting(void)
 {
     struct lent m, r;
-    uint8_t *message = lend(&m, 24), *out = lend(&r, 24);
+    uint8_t *message = lend(&m, sizeof ends_form), *out = lend(&r, sizeof ends_form);
     size_t len = bytes_of(message, ends_form, 6);
 
     check(message_rewrite(message, len, out, r.n) == MONITOR_TAKEN, "an ends form message is taken");
     check(memcmp(out, message, len) == 0 && untouched(&r, len), "and comes out as the same words");
 
-    message = lend(&m, 28);
+    const size_t written = 4 * 8;
+    message = lend(&m, sizeof centre_form);
     len = bytes_of(message, centre_form, 7);
-    for (size_t n = 0; n < 32; n++) {
+    for (size_t n = 0; n < written; n++) {
         out = lend(&r, n);
         check(message_rewrite(message, len, out, n) == MONITOR_BUFFER && untouched(&r, 0), "8 words do not fit, nothing is written");
     }
     out = lend(&r, MONITOR_MESSAGE_BYTES);
-    check(message_rewrite(message, len, out, r.n) == MONITOR_TAKEN && untouched(&r, 32), "a centre form message is written as 8 words");
+    check(message_rewrite(message, len, out, r.n) == MONITOR_TAKEN && untouched(&r, written), "a centre form message is written as 8 words");
 
     struct lent a, b;
-    uint8_t *before = lend(&a, 32), *after = lend(&b, 32);
-    check(message_read(message, len, before, 32) == MONITOR_TAKEN && message_read(out, 32, after, 32) == MONITOR_TAKEN,
+    uint8_t *before = lend(&a, MONITOR_READING_BYTES), *after = lend(&b, MONITOR_READING_BYTES);
+    check(message_read(message, len, before, a.n) == MONITOR_TAKEN && message_read(out, written, after, b.n) == MONITOR_TAKEN,
           "both forms are read");
-    check(memcmp(before, after, 32) == 0 && number(before + 8) == 1000000 && number(before + 16) == 1000200,
+    check(memcmp(before, after, MONITOR_READING_BYTES) == 0 && number(before + 8) == 1000000 && number(before + 16) == 1000200,
           "with the same sender, interval and term count");
     check(memcmp(out + 20, message + 16, 8) == 0, "and the same term words");
 }

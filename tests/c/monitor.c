@@ -14,9 +14,10 @@ static void set_up_refuses(void)
     struct lent s;
     uint8_t *state = lend(&s, MONITOR_STATE_BYTES);
     check(monitor_set_up(state, MONITOR_STATE_BYTES - 1, 5, 100, 0) == MONITOR_BUFFER && untouched(&s, 0), "a state one byte short is 24");
-    check(monitor_set_up(state, s.n, 29, 100, 0) == MONITOR_OWN_NAME && untouched(&s, 0), "own name 29 is 1");
-    check(monitor_set_up(state, s.n, 5, 1001, 0) == MONITOR_DRIFT && untouched(&s, 0), "drift 1,001 is 2");
-    check(monitor_set_up(state, s.n, 5, 100, UINT64_C(1) << 58) == MONITOR_READING && untouched(&s, 0), "a reading of 2^58 is 3");
+    check(monitor_set_up(state, s.n, MONITOR_GREATEST_NAME + 1, 100, 0) == MONITOR_OWN_NAME && untouched(&s, 0), "own name 29 is 1");
+    check(monitor_set_up(state, s.n, 5, MONITOR_GREATEST_DRIFT + 1, 0) == MONITOR_DRIFT && untouched(&s, 0), "drift 1,001 is 2");
+    check(monitor_set_up(state, s.n, 5, 100, MONITOR_GREATEST_READING + 1) == MONITOR_READING && untouched(&s, 0),
+          "a reading of 2^58 is 3");
     check(monitor_age(state, s.n, 0) == MONITOR_STATE_FORM && untouched(&s, 0), "bytes that are no state are 25");
 }
 
@@ -64,8 +65,10 @@ static void questions_refuse(const uint8_t *state)
     uint8_t *answer = lend(&a, MONITOR_ANSWER_BYTES), *broken = lend(&b, MONITOR_STATE_BYTES);
     check(monitor_ask(state, MONITOR_STATE_BYTES, MONITOR_GREATEST_LIMIT + 1, answer, a.n) == MONITOR_LIMIT, "limit 5 is 22");
     check(monitor_ask(state, MONITOR_STATE_BYTES, UINT64_MAX, answer, 0) == MONITOR_LIMIT, "22 comes before 24 for the answer");
-    check(monitor_ask(state, MONITOR_STATE_BYTES - 1, 5, answer, a.n) == MONITOR_BUFFER, "a short state is 24, before 22");
-    check(monitor_ask(broken, b.n, 5, answer, a.n) == MONITOR_STATE_FORM, "bytes that are no state are 25, before 22");
+    check(monitor_ask(state, MONITOR_STATE_BYTES - 1, MONITOR_GREATEST_LIMIT + 1, answer, a.n) == MONITOR_BUFFER,
+          "a short state is 24, before 22");
+    check(monitor_ask(broken, b.n, MONITOR_GREATEST_LIMIT + 1, answer, a.n) == MONITOR_STATE_FORM,
+          "bytes that are no state are 25, before 22");
     check(monitor_fewest(state, MONITOR_STATE_BYTES - 1, answer, a.n) == MONITOR_BUFFER, "a short state is 24");
     check(monitor_fewest(broken, b.n, answer, 0) == MONITOR_STATE_FORM, "25 comes before 24 for the answer");
     check(untouched(&a, 0) && untouched(&b, 0), "and the refusals left every byte");
@@ -77,34 +80,36 @@ static void questions_refuse(const uint8_t *state)
         answer = lend(&a, n);
         check(monitor_fewest(state, MONITOR_STATE_BYTES, answer, n) == MONITOR_BUFFER && untouched(&a, 0), "a short answer is 24, unchanged");
     }
-    answer = lend(&a, 100);
-    check(monitor_ask(state, MONITOR_STATE_BYTES, 1, answer, a.n) == MONITOR_TAKEN && untouched(&a, 24), "a longer answer keeps what is beyond");
-    answer = lend(&a, 100);
-    check(monitor_fewest(state, MONITOR_STATE_BYTES, answer, a.n) == MONITOR_TAKEN && untouched(&a, 16), "and so for the fewest failures");
+    answer = lend(&a, MONITOR_ANSWER_BYTES + 76);
+    check(monitor_ask(state, MONITOR_STATE_BYTES, 1, answer, a.n) == MONITOR_TAKEN && untouched(&a, MONITOR_ANSWER_BYTES),
+          "a longer answer keeps what is beyond");
+    answer = lend(&a, MONITOR_FEWEST_BYTES + 84);
+    check(monitor_fewest(state, MONITOR_STATE_BYTES, answer, a.n) == MONITOR_TAKEN && untouched(&a, MONITOR_FEWEST_BYTES),
+          "and so for the fewest failures");
 }
 
 static void listing(void)
 {
     struct lent s, o;
-    uint8_t *state = lend(&s, MONITOR_STATE_BYTES), *out = lend(&o, MONITOR_MESSAGE_BYTES), message[24];
+    uint8_t *state = lend(&s, MONITOR_STATE_BYTES), *out = lend(&o, MONITOR_MESSAGE_BYTES), message[sizeof first];
 
     check(monitor_set_up(state, s.n, 5, 100, 0) == MONITOR_TAKEN && untouched(&s, MONITOR_STATE_BYTES), "set 5 100 0");
     check(monitor_write(state, s.n, 0, out, o.n) == MONITOR_POSITION && untouched(&o, 0), "a fresh state holds nothing: 23");
-    check(answers(state, 0, MONITOR_OPEN, 0, 0) && answers(state, 4, MONITOR_OPEN, 0, 0), "a fresh state is open");
+    check(answers(state, 0, MONITOR_OPEN, 0, 0) && answers(state, MONITOR_GREATEST_LIMIT, MONITOR_OPEN, 0, 0), "a fresh state is open");
     check(fewest(state, 0, 0), "and nobody need have failed");
 
     size_t len = bytes_of(message, first, 6);
     check(monitor_receive(state, s.n, 0, 50, message, len) == MONITOR_TAKEN, "get 0 50 of the first message");
-    check(number(state + 24) == 1000000 && number(state + 32) == 1000250, "its interval has grown by the delays");
+    check(number(state + OLDEST_LEFT) == 1000000 && number(state + OLDEST_RIGHT) == 1000250, "its interval has grown by the delays");
     check(answers(state, 0, MONITOR_BETWEEN, 1000000, 1000250), "ask 0 is that interval");
     check(monitor_age(state, s.n, 2000000) == MONITOR_TAKEN, "age 2000000");
-    check(number(state + 24) == 2999800 && number(state + 32) == 3000450, "it has widened by the drift");
+    check(number(state + OLDEST_LEFT) == 2999800 && number(state + OLDEST_RIGHT) == 3000450, "it has widened by the drift");
     check(answers(state, 0, MONITOR_BETWEEN, 2999800, 3000450), "and so has the answer");
     refusals_leave(state, message, len);
 
     len = bytes_of(message, second, 6);
     check(monitor_receive(state, s.n, 0, 0, message, len) == MONITOR_TAKEN, "get 0 0 of the second message");
-    check(state[16] == 2 && state[20] == 1, "two data are held, and that they are disjoint is known");
+    check(state[HELD_COUNT] == 2 && state[ENTRY_COUNT] == 1, "two data are held, and that they are disjoint is known");
     check(answers(state, 0, MONITOR_CONTRADICTED, 0, 0), "ask 0 is contradicted");
     check(answers(state, 1, MONITOR_BETWEEN, 2999800, 3001000), "ask 1 is between");
     check(answers(state, 2, MONITOR_OPEN, 0, 0), "ask 2 is open");
@@ -115,16 +120,17 @@ static void listing(void)
 }
 
 /* Sender n at its own place, so that no two of them agree. */
-static void over_4(void)
+static void over_limit(void)
 {
     struct lent s;
-    uint8_t *state = lend(&s, MONITOR_STATE_BYTES), message[24];
+    uint8_t *state = lend(&s, MONITOR_STATE_BYTES), message[sizeof first];
     check(monitor_set_up(state, s.n, 0, 0, 0) == MONITOR_TAKEN, "a monitor is set up");
-    for (uint32_t n = 1; n <= 6; n++) {
+    for (uint32_t n = 1; n <= MONITOR_GREATEST_LIMIT + 2; n++) {
         uint32_t words[] = {1u << 29 | n, 2u << 29, 2u << 29 | 100 * n, 3u << 29, 3u << 29 | (100 * n + 9), 7u << 29 | (201 * n + 9)};
         size_t len = bytes_of(message, words, 6);
         check(monitor_receive(state, s.n, 0, 0, message, len) == MONITOR_TAKEN, "senders 1 to 6, all apart");
-        check(n > 5 ? fewest(state, MONITOR_FEWEST_OVER, 0) : fewest(state, n - 1, (1u << n) - 2), "all but one of them have failed");
+        int over = n > MONITOR_GREATEST_LIMIT + 1;
+        check(over ? fewest(state, MONITOR_FEWEST_OVER, 0) : fewest(state, n - 1, (1u << n) - 2), "all but one of them have failed");
     }
     check(answers(state, MONITOR_GREATEST_LIMIT, MONITOR_CONTRADICTED, 0, 0), "which is more than the greatest limit");
 }
@@ -133,6 +139,6 @@ int main(void)
 {
     set_up_refuses();
     listing();
-    over_4();
+    over_limit();
     return report();
 }

@@ -3,9 +3,10 @@
 //!
 //! States are quiet, usual, full and the dearest that hill climbing finds for either program. Each
 //! line has the median times, and the engine's as a multiple of the second program's and of the
-//! time that copying a state's 3,032 bytes takes.
+//! time that copying a state's bytes takes.
 
-use second::asking::{ANSWER_BYTES, FEWEST_BYTES};
+use second::asking::{ANSWER_BYTES, FEWEST_BYTES, GREATEST_LIMIT};
+use second::message::MESSAGE_BYTES;
 use second::samples::climbing::Climb;
 use second::samples::loads::{Filling, Load, FULL, QUIET, USUAL};
 use second::state::{State, STATE_BYTES};
@@ -29,7 +30,8 @@ impl Case {
 
     fn of(state: &[u8], message: &[u8]) -> Case {
         let reading = State::of(state).expect("a state in form").reading;
-        Case { state: state.to_vec(), message: message.to_vec(), reading, out: vec![0; 64] }
+        let out = vec![0; MESSAGE_BYTES];
+        Case { state: state.to_vec(), message: message.to_vec(), reading, out }
     }
 }
 
@@ -95,7 +97,7 @@ const REWRITE: Call = Call {
 };
 
 /// Asking at each limit.
-const ASK: [Call; 5] = [
+const ASK: [Call; GREATEST_LIMIT as usize + 1] = [
     asking_at::<0>("ask 0"),
     asking_at::<1>("ask 1"),
     asking_at::<2>("ask 2"),
@@ -181,7 +183,7 @@ fn filled(effort: Effort, count: usize, filling: Filling, goals: Goals) {
 
 /// The lines of the dearest states that are found for either program.
 fn worst(effort: Effort, climb: Climb) {
-    for call in [&ASK[4], &FEWEST] {
+    for call in [&ASK[GREATEST_LIMIT as usize], &FEWEST] {
         for (name, run) in [("worst for the engine", call.engine), ("worst for Rust", call.second)]
         {
             let mut case = Case::of(&State::fresh(0, 0, 0).bytes(), &[]);

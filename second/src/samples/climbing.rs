@@ -2,7 +2,7 @@
 //! or not.
 
 use crate::instants::Interval;
-use crate::predicates::{normal, Predicate, Term};
+use crate::predicates::{normal, Predicate, Term, GREATEST_NAME};
 use crate::random::Random;
 use crate::state::{Datum, State, DATUM_TERMS, ENTRY_TERMS, MOST_DATA, MOST_ENTRIES};
 
@@ -15,8 +15,8 @@ pub struct Climb {
     pub steps: usize,
 }
 
-/// The names of terms; the own name is the one above them.
-const NAMES: u64 = 28;
+/// The own name; terms have those below it.
+const OWN: u32 = GREATEST_NAME;
 /// Ends lie below it.
 const SPAN: u64 = 64;
 
@@ -63,7 +63,7 @@ fn climbed(
 
 /// A state with all places in use, its terms of sizes that differ from start to start.
 fn first(random: &mut Random) -> State {
-    let mut state = State::fresh(NAMES as u32, 0, 0);
+    let mut state = State::fresh(OWN, 0, 0);
     let most = 1 + random.below(4);
     state.held = (0..MOST_DATA).map(|_| datum(random, most)).collect();
     let entries = random.pick(&[0, 4, MOST_ENTRIES, MOST_ENTRIES]);
@@ -87,7 +87,7 @@ fn predicate(random: &mut Random, most: u64, count: usize) -> Predicate {
 }
 
 fn term(random: &mut Random, most: u64) -> Term {
-    (0..1 + random.below(most)).fold(0, |t, _| t | 1 << random.below(NAMES))
+    (0..1 + random.below(most)).fold(0, |t, _| t | 1 << random.below(OWN.into()))
 }
 
 /// The terms in normal form, so many at most; there is one that is not empty.

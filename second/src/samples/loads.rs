@@ -3,10 +3,10 @@
 
 use crate::instants::Interval;
 use crate::message::Message;
-use crate::predicates::{normal, Predicate, Term};
+use crate::predicates::{normal, Predicate, Term, GREATEST_NAME, NAMES};
 use crate::random::Random;
 use crate::receiving;
-use crate::state::{State, STATE_BYTES};
+use crate::state::{State, MOST_DATA, MOST_ENTRIES, STATE_BYTES};
 
 /// A state and a message that it has just received: to receive it again changes nothing.
 pub struct Load {
@@ -28,7 +28,8 @@ pub struct Filling {
 
 pub const QUIET: Filling = Filling { name: "quiet", data: 3, entries: 0, terms: 1, astray: 0 };
 pub const USUAL: Filling = Filling { name: "usual", data: 8, entries: 4, terms: 2, astray: 1 };
-pub const FULL: Filling = Filling { name: "full", data: 16, entries: 32, terms: 7, astray: 3 };
+pub const FULL: Filling =
+    Filling { name: "full", data: MOST_DATA, entries: MOST_ENTRIES, terms: 7, astray: 3 };
 
 /// The own name; senders are the others.
 const OWN: u32 = 5;
@@ -64,8 +65,8 @@ impl Filling {
 
     /// A message, and whether its sender is far off.
     fn message(self, random: &mut Random) -> (Message, bool) {
-        let sender = (OWN + 1 + random.below(28) as u32) % 29;
-        let astray = (sender + 29 - OWN - 1) % 29 < self.astray;
+        let sender = other(random);
+        let astray = (sender + NAMES - OWN - 1) % NAMES < self.astray;
         let shift = if astray { 1_000_000 * u64::from(sender + 1) } else { 0 };
         let centre = INSTANT + shift + random.below(100);
         let (low, high) = (100 + random.below(1_000), 100 + random.below(1_000));
@@ -79,9 +80,11 @@ impl Filling {
     /// One to three names that a message came through, seldom one that is far off.
     fn term(self, random: &mut Random) -> Term {
         let size = random.pick(&[1, 2, 2, 3]);
-        (0..size).fold(0, |t, _| {
-            let n = OWN + 1 + random.below(28) as u32;
-            t | 1 << (n % 29)
-        })
+        (0..size).fold(0, |t, _| t | 1 << other(random))
     }
+}
+
+/// Any name but the own one.
+fn other(random: &mut Random) -> u32 {
+    (OWN + 1 + random.below(GREATEST_NAME.into()) as u32) % NAMES
 }

@@ -1,9 +1,10 @@
 //! Seeded runs: worlds in which data often meet, contradict, explain and better each other.
 
+use crate::asking::GREATEST_LIMIT;
 use crate::calls::Call;
 use crate::instants::{Interval, GREATEST_END};
 use crate::message::{bytes_of, MOST_TERMS};
-use crate::predicates::{normal, Term};
+use crate::predicates::{normal, Term, GREATEST_NAME, NAMES};
 use crate::random::Random;
 use crate::receiving::GREATEST_DELAY;
 use crate::state::{State, GREATEST_DRIFT, GREATEST_READING};
@@ -26,7 +27,7 @@ pub struct World {
 impl World {
     /// Few names and small numbers, sometimes close to the greatest end.
     pub fn small(random: &mut Random) -> World {
-        let names = random.pick(&[3, 3, 4, 4, 5, 6, 9, 29]);
+        let names = random.pick(&[3, 3, 4, 4, 5, 6, 9, NAMES]).into();
         let span = random.pick(&[6, 12, 12, 30, 1000]);
         let drift = random.below(u64::from(GREATEST_DRIFT) + 1) as u32;
         World {
@@ -43,10 +44,10 @@ impl World {
     /// Many names and disjoint places, so that all rows fill.
     pub fn crowded(random: &mut Random) -> World {
         World {
-            own: random.below(29) as u32,
+            own: random.below(NAMES.into()) as u32,
             drift: random.pick(&[0, 1, 100]),
             reading: random.below(1_000_000),
-            names: random.pick(&[12, 20, 29]),
+            names: random.pick(&[12, 20, NAMES]).into(),
             base: random.pick(&[0, 1 << 29, 1 << 40]),
             span: 1000,
             places: random.pick(&[8, 9, 10]),
@@ -60,7 +61,7 @@ impl World {
             own: state.own,
             drift: state.drift,
             reading: state.reading,
-            names: random.pick(&[3, 4, 5, 8, 29]),
+            names: random.pick(&[3, 4, 5, 8, NAMES]).into(),
             base: random.pick(&[0, 0, left]),
             span: random.pick(&[12, 40]),
             places: 0,
@@ -148,13 +149,13 @@ impl World {
         (sender, self.terms(random))
     }
 
-    /// Mostly none or few terms, also those of all 8 and the empty one.
+    /// Mostly none or few terms, also the most and the empty one.
     fn terms(&self, random: &mut Random) -> Vec<Term> {
         let count = match random.below(16) {
             0..=7 => 0,
             8..=12 => 1 + random.index(3),
-            13 => 8,
-            14 => 16,
+            13 => MOST_TERMS as usize,
+            14 => 2 * MOST_TERMS as usize,
             _ => return vec![0],
         };
         let terms: Vec<Term> = (0..count).map(|_| super::term(random, self.names)).collect();
@@ -237,16 +238,16 @@ fn position(random: &mut Random, state: &State) -> u64 {
 
 /// Every limit, and one past them.
 fn limit(random: &mut Random) -> u64 {
-    let any = random.bits();
-    random.pick(&[0, 1, 2, 3, 4, 5, 1 << 32, any])
+    let (any, most) = (random.bits(), u64::from(GREATEST_LIMIT));
+    random.pick(&[0, 1, 2, 3, most, most + 1, 1 << 32, any])
 }
 
 /// Numbers at the edges of what is taken, and past them.
 fn flawed_set_up(random: &mut Random) -> Call {
-    let low = random.bits() as u32;
+    let (name, drift, low) = (GREATEST_NAME, GREATEST_DRIFT, random.bits() as u32);
     Call::SetUp {
-        own: random.pick(&[0, 2, 28, 28, 29, 256, low]),
-        drift: random.pick(&[0, 1, 1_000, 1_000, 1_001, 65_536, low]),
+        own: random.pick(&[0, 2, name, name, name + 1, 256, low]),
+        drift: random.pick(&[0, 1, drift, drift, drift + 1, 65_536, low]),
         reading: random.pick(&[0, 9, GREATEST_READING, GREATEST_READING + 1, u64::MAX]),
     }
 }

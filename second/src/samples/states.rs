@@ -1,20 +1,21 @@
 //! Seeded states: in form, whether calls would reach them or not, and damaged ones.
 
 use crate::instants::{Interval, GREATEST_END};
-use crate::predicates::{normal, Predicate, Term, ALL_NAMES, GREATEST_NAME};
+use crate::predicates::{normal, Predicate, Term, ALL_NAMES, GREATEST_NAME, NAMES};
 use crate::random::Random;
 use crate::state::{
-    Datum, State, DATUM_TERMS, ENTRY_TERMS, GREATEST_DRIFT, GREATEST_READING, MOST_DATA,
-    MOST_ENTRIES, STATE_BYTES,
+    Datum, State, DATA_AT, DATUM_BYTES, DATUM_TERMS, DRIFT_AT, ENTRIES_AT, ENTRY_BYTES,
+    ENTRY_COUNT_AT, ENTRY_TERMS, GREATEST_DRIFT, GREATEST_READING, HELD_COUNT_AT, MOST_DATA,
+    MOST_ENTRIES, OWN_AT, READING_AT, STATE_BYTES, TERM_COUNT_AT,
 };
 
 /// Any state in form: data under one predicate, entries that imply each other or data, disjoint
 /// data without an entry are all in form.
 pub fn in_form(random: &mut Random) -> State {
-    let own = random.below(29) as u32;
+    let own = random.below(NAMES.into()) as u32;
     let drift = random.below(u64::from(GREATEST_DRIFT) + 1) as u32;
     let reading = random.below(GREATEST_READING + 1);
-    let names = random.pick(&[3, 4, 5, 8, 29]);
+    let names = random.pick(&[3, 4, 5, 8, NAMES]).into();
     let small = random.once_in(2);
     // Entries of few names would explain most data away.
     let most_entries = random.pick(&[0, MOST_ENTRIES]);
@@ -53,7 +54,7 @@ fn predicate(random: &mut Random, own: u32, names: u64, most: usize) -> Predicat
     let mut terms = normal(&terms.filter(|&t| t != 0).collect::<Vec<Term>>());
     terms.truncate(most);
     if terms.is_empty() {
-        terms.push(1 << ((own + 1) % 29));
+        terms.push(1 << ((own + 1) % NAMES));
     }
     Predicate::of(&terms)
 }
@@ -75,7 +76,7 @@ struct Suspects {
 impl Suspects {
     fn new(random: &mut Random, own: u32) -> Suspects {
         let mut others: Vec<u32> = (0..=GREATEST_NAME).filter(|&n| n != own).collect();
-        let count = random.pick(&[2, 3, 4, 5, 6, 6, 8, 8, 12, 28]);
+        let count = random.pick(&[2, 3, 4, 5, 6, 6, 8, 8, 12, others.len()]);
         let names = (0..count).map(|_| others.swap_remove(random.index(others.len())));
         let names = names.collect();
         let base = random.pick(&[0, 0, 1 << 29, GREATEST_END - 40]);
@@ -126,9 +127,10 @@ impl Suspects {
 /// Any state in form, made so that its answers differ. Now and then a predicate is one of those
 /// before it, or implies it, or is implied by it.
 pub fn to_ask(random: &mut Random) -> State {
-    let own = random.below(29) as u32;
+    let own = random.below(NAMES.into()) as u32;
     let suspects = Suspects::new(random, own);
-    let mut state = State::fresh(own, random.below(1_001) as u32, random.below(1_000));
+    let drift = random.below(u64::from(GREATEST_DRIFT) + 1) as u32;
+    let mut state = State::fresh(own, drift, random.below(1_000));
     let most_entries = random.pick(&[0, 3, MOST_ENTRIES]);
     for _ in 0..count(random, most_entries) {
         let explained = !random.once_in(60);
@@ -162,17 +164,28 @@ fn related(random: &mut Random, p: Predicate, state: &State, most: usize) -> Pre
 
 // ---- damage
 
+/// Places of numbers: those of the head, and the first term counts.
+const NUMBERS: [usize; 7] = [
+    OWN_AT,
+    DRIFT_AT,
+    READING_AT + 4,
+    HELD_COUNT_AT,
+    ENTRY_COUNT_AT,
+    DATA_AT + TERM_COUNT_AT,
+    ENTRIES_AT,
+];
+
 /// One damage to the bytes of a state; it may leave them in form.
 pub fn damage(random: &mut Random, bytes: &mut [u8]) {
     let at = place(random, bytes);
     let word = at / 4 * 4;
-    let small = random.below(34) as u32;
+    let small = random.index(MOST_ENTRIES + 2) as u32;
     match random.below(7) {
         0 | 1 => bytes[at] ^= 1 << random.below(8),
         2 => bytes[at] = bytes[at].wrapping_add(random.pick(&[1, 255])),
         3 => put(bytes, word, random.pick(&[0, 1, small, 1 << 28, 1 << 29, u32::MAX])),
         4 => put(bytes, word, random.bits() as u32),
-        5 => put(bytes, random.pick(&[0, 4, 12, 16, 20, 40, 856]), small),
+        5 => put(bytes, random.pick(&NUMBERS), small),
         _ => {
             let from = place(random, bytes) / 4 * 4;
             bytes.copy_within(from..from + 4, word);
@@ -182,9 +195,10 @@ pub fn damage(random: &mut Random, bytes: &mut [u8]) {
 
 /// A place in the head, in the data or entries that are held, or anywhere.
 fn place(random: &mut Random, bytes: &[u8]) -> usize {
-    let data = 52 * usize::from(bytes[16].clamp(1, 16));
-    let entries = 68 * usize::from(bytes[20].clamp(1, 32));
-    let (from, len) = random.pick(&[(0, 24), (24, data), (856, entries), (0, STATE_BYTES)]);
+    let data = DATUM_BYTES * usize::from(bytes[HELD_COUNT_AT]).clamp(1, MOST_DATA);
+    let entries = ENTRY_BYTES * usize::from(bytes[ENTRY_COUNT_AT]).clamp(1, MOST_ENTRIES);
+    let whole = (0, STATE_BYTES);
+    let (from, len) = random.pick(&[(0, DATA_AT), (DATA_AT, data), (ENTRIES_AT, entries), whole]);
     from + random.index(len)
 }
 

@@ -4,9 +4,10 @@
 use super::runs::World;
 use crate::calls::Call;
 use crate::listing::LONGEST_LINE;
+use crate::message::MESSAGE_BYTES;
 use crate::random::Random;
 use crate::receiving::Branches;
-use crate::state::{State, STATE_BYTES};
+use crate::state::{State, GREATEST_READING, STATE_BYTES};
 
 /// Document 01's listing.
 pub const DOCUMENT_01: &str = "\
@@ -78,7 +79,7 @@ pub fn loose(random: &mut Random) -> Vec<u8> {
 
 /// Keeps the state that the next call is drawn from.
 fn take(call: &Call, state: &mut [u8]) {
-    call.second(state, &mut [0; 56], &mut Branches::default());
+    call.second(state, &mut [0; MESSAGE_BYTES], &mut Branches::default());
 }
 
 /// A call as a line. One that the listing does not have is another question.
@@ -140,8 +141,8 @@ fn other_field(random: &mut Random, line: &[u8]) -> Vec<u8> {
     let edges = [
         u128::from(u32::MAX),
         1 << 32,
-        (1 << 58) - 1,
-        1 << 58,
+        GREATEST_READING.into(),
+        u128::from(GREATEST_READING) + 1,
         u128::from(u64::MAX),
         1 << 64,
         99_999_999_999_999_999_999,
