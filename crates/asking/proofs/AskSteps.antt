@@ -19,8 +19,8 @@ use Rattle.names.specs.code.Parts.{others}
 use Rattle.names.proofs.SetLaws.{subset-refl}
 use Rattle.names.proofs.PartLaws.{others-lt}
 use Rattle.predicates.specs.Lists.{In}
-use Rattle.state.specs.Model.{Datum, Store, State, endLimit}
-use Rattle.state.specs.Layout.{datumPlace, heldCount, entryCount, datumAt, headOf, storeOf, stateOf}
+use Rattle.state.specs.Model.{Datum, Store, State, endLimit, nameMost}
+use Rattle.state.specs.Layout.{datumPlace, heldCount, entryCount, datumAt, headOf, storeOf, stateOf, ownAt, rightIn}
 use Rattle.state.specs.Form.{inForm}
 use Rattle.state.proofs.StateLaws.{state-out, length-held, length-entries, form-ok}
 use Rattle.state.proofs.StoreLaws.{column-front, length-column}
@@ -53,7 +53,7 @@ module _ (s : List ℕ) (i : ℕ) (h : i < heldCount s) where
   unfolding greatestLeft datumAt
   greatest-left-turn m l r e f = sym (ap (greatestLeft m) next ∙ ap (λ (x : ℕ). greatestLeft x (drop (i + 1) held)) (sym (f ∙ ap (max m) e)))
 
-  pub least-right-turn : (m l r : ℕ) → l ≡ num (datumPlace i + 8) 8 s → r ≡ min m l → leastRight r (drop (i + 1) held) ≡ leastRight m (drop i held)
+  pub least-right-turn : (m l r : ℕ) → l ≡ num (datumPlace i + rightIn) 8 s → r ≡ min m l → leastRight r (drop (i + 1) held) ≡ leastRight m (drop i held)
   unfolding leastRight datumAt
   least-right-turn m l r e f = sym (ap (leastRight m) next ∙ ap (λ (x : ℕ). leastRight x (drop (i + 1) held)) (sym (f ∙ ap (min m) e)))
 
@@ -227,7 +227,7 @@ module _ (s : List ℕ) (t : T (inForm s)) (n rows : ℕ) (table : Rows) (order 
   rows-fit = rows-most (stateOf s) (form-ok s t) loaded
 
   -- the search over all claims
-  module _ (limit free r : ℕ) (g : free ≡ others (num 0 4 s)) (b : Best noSet limit 0 free (preds rows order table) noSet r) where
+  module _ (limit free r : ℕ) (g : free ≡ others (num ownAt 4 s)) (b : Best noSet limit 0 free (preds rows order table) noSet r) where
     pub asked-open : r < noSet → Open ≡ answer limit (stateOf s)
     unfolding stateOf headOf
     asked-open h = open-found limit (stateOf s) n rows table order loaded complete r (rw g at b) h
@@ -277,7 +277,7 @@ module _ (s : List ℕ) (t : T (inForm s)) (n rows : ℕ) (table : Rows) (order 
             parted = w .parted;
           }
 
-      module _ (limit free : ℕ) (g : free ≡ others (num 0 4 s)) (every : Explained limit (stateOf s) (everything (storeOf s)) → ⊥)
+      module _ (limit free : ℕ) (g : free ≡ others (num ownAt 4 s)) (every : Explained limit (stateOf s) (everything (storeOf s)) → ⊥)
           (end set end′ set′ : ℕ) (first : FirstEnd n rows l r table order limit free end set) (some : set < noSet)
           (first′ : FirstEnd n rows low high table order limit free end′ set′) where
         pub between-room : end′ ≤ last
@@ -292,13 +292,13 @@ module _ (s : List ℕ) (t : T (inForm s)) (n rows : ℕ) (table : Rows) (order 
             ends-between limit (stateOf s) n rows table order loaded complete every l r ends-bounded end set (rw g at first) some last low high low-is
             high-is ends-low end′ set′ (rw g at first′)
 
-    pub between-none : (limit free : ℕ) → free ≡ others (num 0 4 s) → (Explained limit (stateOf s) (everything (storeOf s)) → ⊥) → (end set : ℕ)
+    pub between-none : (limit free : ℕ) → free ≡ others (num ownAt 4 s) → (Explained limit (stateOf s) (everything (storeOf s)) → ⊥) → (end set : ℕ)
         → FirstEnd n rows l r table order limit free end set → noSet ≤ set → Contradicted ≡ answer limit (stateOf s)
     unfolding stateOf headOf
     between-none limit free g every end set first h =
         ends-contradicted limit (stateOf s) n rows table order loaded complete every l r ends-bounded end set (rw g at first) h
 
-pub own-fits : (s : List ℕ) → T (inForm s) → num 0 4 s ≤ 28
+pub own-fits : (s : List ℕ) → T (inForm s) → num ownAt 4 s ≤ nameMost
 unfolding stateOf headOf
 own-fits s t = state-out (stateOf s) (form-ok s t) .own-le
 

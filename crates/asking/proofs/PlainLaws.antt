@@ -24,6 +24,7 @@ use Rattle.asking.specs.declared.Answer.the-variants.{Contradicted, Open
 use Rattle.asking.specs.Asking.{interval, cut, common, greatestLeft, leastRight, active, leaves, setsOf, sets, either, leftBy, answer}
 use Rattle.asking.specs.code.Claims.{everything}
 use Rattle.asking.proofs.ClaimLaws.{claims-in, claims-out}
+use Rattle.state.specs.Layout.{entryTerms}
 
 -- ---- the common part of some intervals
 
@@ -137,7 +138,7 @@ module _ (st : State) (ok : T (stateOk st)) where
       let o = state-out st ok in
       let own = st .head .own in
       claims-in (λ p. not (holds 0 p)) (st .store .entries) (st .store .held)
-      (all-mono (termsFit own 16) (λ p. not (holds 0 p)) (st .store .entries) (fit-bare own 16) (o .entries))
+      (all-mono (termsFit own entryTerms) (λ p. not (holds 0 p)) (st .store .entries) (fit-bare own 16) (o .entries))
       (λ d m. let h = all-out (datumOk own) (st .store .held) (o .held) d m in fit-bare own 8 (d .terms) (search (both-l, both-r) depth 9))
 
   pub form-right : (d : Datum) → In d (st .store .held) → d .right < endLimit

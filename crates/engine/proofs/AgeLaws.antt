@@ -11,8 +11,8 @@ use borrow.Author.Tests.{ltb-true, ltb-false, lt-ltb, le-ltb, lt-leb, le-leb}
 use lib.Dec.{T, leb, ltb, ltb→lt, lit<}
 use Rattle.predicates.specs.Lists.{any, all, allBelow}
 use Rattle.numbers.specs.Numbers.{num, tab}
-use Rattle.state.specs.Model.{Datum, Store, endLimit, readingLimit}
-use Rattle.state.specs.Layout.{datumAt, heldCount, headOf, storeOf, stateOf}
+use Rattle.state.specs.Model.{Datum, Store, endLimit, readingLimit, driftMost}
+use Rattle.state.specs.Layout.{datumAt, heldCount, headOf, storeOf, stateOf, driftAt, readingAt}
 use Rattle.state.specs.Form.{inForm}
 use Rattle.state.proofs.LayoutLaws.{below-out}
 use Rattle.state.proofs.StateLaws.{state-out, form-ok}
@@ -35,12 +35,12 @@ drift-split r d =
     ap (λ (x : ℕ). x / 1_000_000) g ∙ add-mul-div-right (m * r + 999_999) (q * r) {z = 1_000_000} (lit< tt) ∙ add-comm _ _
 
 -- the drift is at most 1,000 parts per million
-pub drift-le : (r d : ℕ) → r ≤ 1000 → driftOver r d ≤ d
+pub drift-le : (r d : ℕ) → r ≤ driftMost → driftOver r d ≤ d
 unfolding driftOver
 drift-le r d h = omega (arith, mul-le-mul-left d h)
 
 -- "floor(d × (1,000,000 − r) / 1,000,000)"
-pub least-drift : (r d : ℕ) → r ≤ 1000 → leastAdvance r d ≡ d - driftOver r d
+pub least-drift : (r d : ℕ) → r ≤ driftMost → leastAdvance r d ≡ d - driftOver r d
 unfolding leastAdvance driftOver
 least-drift r d h =
     let rest = 1_000_000 - r in
@@ -100,25 +100,25 @@ pub age-early : (s : List ℕ) (reading : ℕ) → readingLimit ≤ reading → 
 unfolding ageRefusal
 age-early s reading h = rw (le-leb readingLimit reading h)
 
-pub age-back : (s : List ℕ) (reading last : ℕ) → last ≡ num 8 8 s → reading < readingLimit → reading < last → ageRefusal (stateOf s) reading ≡ 20
+pub age-back : (s : List ℕ) (reading last : ℕ) → last ≡ num readingAt 8 s → reading < readingLimit → reading < last → ageRefusal (stateOf s) reading ≡ 20
 unfolding ageRefusal stateOf headOf
 age-back s reading last e h k = rw (lt-leb readingLimit reading h, ← e, lt-ltb reading last k)
 
 -- the drift that the state holds
-pub drift-held : (s : List ℕ) → T (inForm s) → num 4 4 s ≤ 1000
+pub drift-held : (s : List ℕ) → T (inForm s) → num driftAt 4 s ≤ driftMost
 unfolding stateOf headOf
 drift-held s t = state-out (stateOf s) (form-ok s t) .drift-le
 
 -- the code's words for what passed: the last reading, the drift, and what it adds
 module _ (s : List ℕ) (t : T (inForm s)) (reading last drift over : ℕ)
-    (at-last : last ≡ num 8 8 s) (at-drift : drift ≡ num 4 4 s) (drifted : over ≡ driftOver drift (reading - last)) where
+    (at-last : last ≡ num readingAt 8 s) (at-drift : drift ≡ num driftAt 4 s) (drifted : over ≡ driftOver drift (reading - last)) where
   slow-code : slow (headOf s) reading ≡ reading - last - over
   unfolding slow headOf
-  slow-code = rw (drifted, at-last, at-drift) (least-drift (num 4 4 s) (reading - num 8 8 s) (drift-held s t))
+  slow-code = rw (drifted, at-last, at-drift) (least-drift (num driftAt 4 s) (reading - num readingAt 8 s) (drift-held s t))
 
   fast-code : fast (headOf s) reading ≡ reading - last + over
   unfolding fast headOf
-  fast-code = rw (drifted, at-last, at-drift) (greatest-drift (num 4 4 s) (reading - num 8 8 s))
+  fast-code = rw (drifted, at-last, at-drift) (greatest-drift (num driftAt 4 s) (reading - num readingAt 8 s))
 
   pub aged-code : (k : Store) → aged (reading - last - over) (reading - last + over) k ≡ aged (slow (headOf s) reading) (fast (headOf s) reading) k
   aged-code k = rw (slow-code, fast-code)
@@ -128,7 +128,7 @@ module _ (s : List ℕ) (t : T (inForm s)) (reading last drift over : ℕ)
       → ageRefusal (stateOf s) reading ≡ cond b 0 30
   unfolding ageRefusal stateOf headOf
   age-tests b h k e =
-      let later : ltb reading (num 8 8 s) ≡ false = rw at-last at (le-ltb reading last k) in
+      let later : ltb reading (num readingAt 8 s) ≡ false = rw at-last at (le-ltb reading last k) in
       rw (lt-leb readingLimit reading h, later, passes-stays (slow (headOf s) reading) (fast (headOf s) reading) (storeOf s), fast-code, ← e)
       (turned b)
     where

@@ -13,7 +13,7 @@ use lib.ListN.{length, length-map}
 use Rattle.predicates.specs.Lists.{any, all, In}
 use Rattle.predicates.specs.Predicates.{isTrue, isNormal}
 use Rattle.predicates.proofs.ListLaws.{both, both-l, both-r, neither}
-use Rattle.state.specs.Model.{Datum, Head, Store, State, endLimit, readingLimit}
+use Rattle.state.specs.Model.{Datum, Head, Store, State, endLimit, readingLimit, nameMost}
 use Rattle.state.specs.Form.{headOk, datumOk, storeOk, countsOk, stateOk}
 use Rattle.engine.specs.Ageing.{leastAdvance, greatestAdvance, slow, fast, widened, aged}
 use Rattle.engine.specs.Receiving.{Delivery, grown}
@@ -24,6 +24,7 @@ use Rattle.steps.specs.Steps.{tooMany}
 use Rattle.state.proofs.OkLaws.{ok-datum-out, ok-datum-in}
 use Rattle.steps.proofs.ReceiveLaws.{formed-fit, received-ok}
 use Rattle.state.proofs.LentLaws.{refuse-none}
+use Rattle.names.specs.Sets.{noSet}
 
 -- ---- setting up
 
@@ -90,10 +91,10 @@ age-ok st reading h e =
 -- what holds of a message that has been read and of the delays, once 21 and 10 to 17 are passed
 pub record Heard (g : Delivery) : Type 0 where
   pub delays : g .least ≤ g .greatest
-  pub sender-le : g .sender ≤ 28
+  pub sender-le : g .sender ≤ nameMost
   pub ends : g .left ≤ g .right
   pub norm : T (isNormal (g .terms))
-  pub small : (t : ℕ) → In t (g .terms) → t < 2 ^ 29
+  pub small : (t : ℕ) → In t (g .terms) → t < noSet
   pub few : length (g .terms) ≤ 8
 
 -- the new datum has passed 18, 30 and 31

@@ -13,7 +13,7 @@ use Rattle.predicates.proofs.ListLaws.{both-l, both-r}
 use Rattle.numbers.specs.Numbers.{num, bytes, put, tab, Bytes}
 use Rattle.numbers.proofs.NumberLaws.{length-bytes, num-put-apart, put-append, put-num-same, length-tab}
 use Rattle.state.specs.Model.{Datum, endLimit}
-use Rattle.state.specs.Layout.{stateSize, readingAt, heldAt, dataAt, dataMost, datumSize, zeros, joined, rowBytes, datumBytes, dataBytes, parts, stateBytes}
+use Rattle.state.specs.Layout.{stateSize, readingAt, heldAt, dataAt, dataMost, datumSize, zeros, joined, rowBytes, datumBytes, dataBytes, parts, stateBytes, rightIn, rowIn, datumTerms, ownAt}
 use Rattle.state.specs.Layout.{datumPlace, datumAt, heldCount, headOf, storeOf, stateOf}
 use Rattle.state.specs.Form.{termsFit, datumFits, dataFit, inForm, datumOk}
 use Rattle.state.proofs.LayoutLaws.{below-out, part, At, length-datum}
@@ -59,7 +59,7 @@ module _ (s : List ℕ) (t : T (inForm s)) (lo hi : ℕ) where
   unfolding widened
   length-wide i h = length-datum _ (held-at s t i h .few)
 
-  pub length-front : (i : ℕ) → i ≤ heldCount s → length (front s lo hi i) ≡ i * 52
+  pub length-front : (i : ℕ) → i ≤ heldCount s → length (front s lo hi i) ≡ i * datumSize
   length-front i h = length-joined-tab datumBytes 52 i (wide s lo hi) (λ k p. length-wide k (omega arith))
 
   -- a number behind the first i data is as it was
@@ -72,23 +72,23 @@ module _ (s : List ℕ) (t : T (inForm s)) (lo hi : ℕ) where
     unfolding datumAt
     left-there = num-behind i (datumPlace i) u (omega arith) (omega arith) p
 
-    pub right-there : (x : ℕ) (v : List ℕ) → v ≡ put (datumPlace i) (bytes 8 x) u → num (datumPlace i + 8) 8 v ≡ datumAt s i .right
+    pub right-there : (x : ℕ) (v : List ℕ) → v ≡ put (datumPlace i) (bytes 8 x) u → num (datumPlace i + rightIn) 8 v ≡ datumAt s i .right
     unfolding datumAt
     right-there x v q =
-        rw q (num-put-apart 8 (datumPlace i) (datumPlace i + 8) (bytes 8 x) u (inr (omega (arith, length-bytes 8 x))))
-        ∙ num-behind i (datumPlace i + 8) u (omega arith) (omega arith) p
+        rw q (num-put-apart 8 (datumPlace i) (datumPlace i + rightIn) (bytes 8 x) u (inr (omega (arith, length-bytes 8 x))))
+        ∙ num-behind i (datumPlace i + rightIn) u (omega arith) (omega arith) p
 
   module _ (b : Bytes s) (l : stateSize ≤ length s) where
-    row-stands : (i : ℕ) → i < heldCount s → At (datumPlace i + 16) (rowBytes 8 (datumAt s i .terms)) s
+    row-stands : (i : ℕ) → i < heldCount s → At (datumPlace i + rowIn) (rowBytes datumTerms (datumAt s i .terms)) s
     unfolding datumAt inForm dataFit
     row-stands i h =
         let few = held-count-le s t in
-        let fits : T (datumFits (num 0 4 s) s i) = below-out (heldCount s) (datumFits (num 0 4 s) s) (search (both-l, both-r) depth 9) i h in
-        rw (row-part (num 0 4 s) 8 (datumPlace i + 16) s (datum-row (num 0 4 s) s i fits) b (omega arith)) (part-stands (datumPlace i + 16) 36 s)
+        let fits : T (datumFits (num ownAt 4 s) s i) = below-out (heldCount s) (datumFits (num ownAt 4 s) s) (search (both-l, both-r) depth 9) i h in
+        rw (row-part (num ownAt 4 s) datumTerms (datumPlace i + rowIn) s (datum-row (num ownAt 4 s) s i fits) b (omega arith)) (part-stands (datumPlace i + rowIn) 36 s)
 
     -- a turn
     pub widen-next : (i : ℕ) (u v w : List ℕ) → i < heldCount s → u ≡ put dataAt (front s lo hi i) s
-        → v ≡ put (datumPlace i) (bytes 8 (num (datumPlace i) 8 u + lo)) u → w ≡ put (datumPlace i + 8) (bytes 8 (num (datumPlace i + 8) 8 v + hi)) v
+        → v ≡ put (datumPlace i) (bytes 8 (num (datumPlace i) 8 u + lo)) u → w ≡ put (datumPlace i + rightIn) (bytes 8 (num (datumPlace i + rightIn) 8 v + hi)) v
         → w ≡ put dataAt (front s lo hi (i + 1)) s
     unfolding widened
     widen-next i u v w h p q r =
@@ -106,7 +106,7 @@ module _ (s : List ℕ) (t : T (inForm s)) (lo hi : ℕ) where
           p,
           drop-put (at + 16) dataAt (front s lo hi i) s (omega (arith, length-front i (omega arith))),
         ) in
-        let stored : w ≡ put (at + 16) (rowBytes 8 (d .terms)) w = sym (put-stands (at + 16) _ w (row .0, same ∙ row .1)) in
+        let stored : w ≡ put (at + 16) (rowBytes datumTerms (d .terms)) w = sym (put-stands (at + 16) _ w (row .0, same ∙ row .1)) in
         joined-next datumBytes 52 24 i (wide s lo hi) s u w (λ n m. length-wide n (omega arith)) p
         (datum-put at (d .left + lo) (d .right + hi) (d .terms) u v w w a c stored)
 

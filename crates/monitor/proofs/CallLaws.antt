@@ -21,7 +21,7 @@ use Rattle.message.specs.Read.{termWords}
 use Rattle.message.specs.Write.{messageWords}
 use Rattle.message.specs.declared.Reading.the-variants.{Message}
 use Rattle.message.proofs.MessageLaws.{Masks, length-message, words-message, read-write, terms-write}
-use Rattle.state.specs.Layout.{datumPlace, masksAt, rowAt, datumAt, heldCount}
+use Rattle.state.specs.Layout.{datumPlace, masksAt, rowAt, datumAt, heldCount, ownAt, rightIn, rowIn, datumTerms}
 use Rattle.state.specs.Form.{termFits, termsFit, inForm}
 use Rattle.state.proofs.StateLaws.{datum-at-ok, length-datum-at}
 use Rattle.state.specs.Refusal.{after}
@@ -30,6 +30,8 @@ use Rattle.state.proofs.OkLaws.{ok-datum-out, ok-terms-out}
 use Rattle.asking.proofs.AskSteps.{own-fits}
 use Rattle.monitor.specs.Messages.{readBytes, readNumber, readingBytes, answered}
 use Rattle.monitor.specs.Calls.{writtenWords, writtenBytes, writeNumber, writeOutput}
+use Rattle.names.specs.Sets.{noSet}
+use Rattle.state.specs.Model.{endLimit, nameMost}
 
 -- ---- terms of a state
 
@@ -37,7 +39,7 @@ use Rattle.monitor.specs.Calls.{writtenWords, writtenBytes, writeNumber,
 fit-masks : (own : ℕ) (ts : List ℕ) → T (all (termFits own) ts) → Masks ts
 unfolding termFits
 fit-masks own [] t i = omega arith
-fit-masks own (x ∷ ts) t zero = ltb→lt x (2 ^ 29) (search (both-l, both-r) depth 9)
+fit-masks own (x ∷ ts) t zero = ltb→lt x noSet (search (both-l, both-r) depth 9)
 fit-masks own (x ∷ ts) t (suc i) = fit-masks own ts (both-r (termFits own x) (all (termFits own) ts) t) i
 
 -- so the terms that they carry as words are themselves
@@ -50,23 +52,23 @@ masks-same (t ∷ ts) m = let e : payload t ≡ t = omega (arith, m 0) in rw (e,
 
 -- the facts that the message of it asks
 pub record Held (s : List ℕ) (position : ℕ) : Type 0 where
-  pub own-le : num 0 4 s ≤ 28
+  pub own-le : num ownAt 4 s ≤ nameMost
   pub ends : datumAt s position .left ≤ datumAt s position .right
-  pub below : datumAt s position .right < 2 ^ 58
+  pub below : datumAt s position .right < endLimit
   pub few : length (datumAt s position .terms) ≤ 8
   pub norm : T (isNormal (datumAt s position .terms))
   pub small : Masks (datumAt s position .terms)
-  pub count : length (datumAt s position .terms) ≡ num (datumPlace position + 16) 4 s
+  pub count : length (datumAt s position .terms) ≡ num (datumPlace position + rowIn) 4 s
 
 module _ (s : List ℕ) (t : T (inForm s)) (position : ℕ) (h : position < heldCount s) where
-  terms-small : T (termsFit (num 0 4 s) 8 (datumAt s position .terms)) → Masks (datumAt s position .terms)
+  terms-small : T (termsFit (num ownAt 4 s) datumTerms (datumAt s position .terms)) → Masks (datumAt s position .terms)
   unfolding termsFit
-  terms-small f = fit-masks (num 0 4 s) (datumAt s position .terms) (search (both-l, both-r) depth 9)
+  terms-small f = fit-masks (num ownAt 4 s) (datumAt s position .terms) (search (both-l, both-r) depth 9)
 
   pub held-out : Held s position
   held-out =
-      let d = ok-datum-out (num 0 4 s) (datumAt s position) (datum-at-ok s t position h) in
-      let p = ok-terms-out (num 0 4 s) 8 (datumAt s position .terms) (d .fit) in
+      let d = ok-datum-out (num ownAt 4 s) (datumAt s position) (datum-at-ok s t position h) in
+      let p = ok-terms-out (num ownAt 4 s) datumTerms (datumAt s position .terms) (d .fit) in
       record {
         own-le = own-fits s t;
         ends = d .ends;
@@ -92,27 +94,27 @@ module _ (s : List ℕ) (position : ℕ) where
       ap bytesOf (ap (λ (x : List ℕ). take n x) p ∙ take-put n (writtenWords s position) old (sym e) h)
 
 module _ (s : List ℕ) (position : ℕ) (f : Held s position) where
-  pub length-written : length (writtenWords s position) ≡ num (datumPlace position + 16) 4 s + 6
+  pub length-written : length (writtenWords s position) ≡ num (datumPlace position + rowIn) 4 s + 6
   unfolding writtenWords
-  length-written = omega (arith, length-message (num 0 4 s) (datumAt s position .left) (datumAt s position .right) (datumAt s position .terms), f .count)
+  length-written = omega (arith, length-message (num ownAt 4 s) (datumAt s position .left) (datumAt s position .right) (datumAt s position .terms), f .count)
 
   -- the ends that were read
-  pub ends-lt : (left right : ℕ) → left ≡ num (datumPlace position) 8 s → right ≡ num (datumPlace position + 8) 8 s → (left < 2 ^ 58) × (right < 2 ^ 58)
+  pub ends-lt : (left right : ℕ) → left ≡ num (datumPlace position) 8 s → right ≡ num (datumPlace position + rightIn) 8 s → (left < endLimit) × (right < endLimit)
   unfolding datumAt
   ends-lt left right a b = (omega (arith, f .ends, f .below), omega (arith, f .below))
 
   -- the masks in use, of the eight that were read
-  pub terms-taken : (n : ℕ) (words rest : List ℕ) → n ≡ num (datumPlace position + 16) 4 s
-      → words ≡ tab 8 (λ i. num (datumPlace position + 16 + 4 + i * 4) 4 s) ++ rest → take n words ≡ datumAt s position .terms
+  pub terms-taken : (n : ℕ) (words rest : List ℕ) → n ≡ num (datumPlace position + rowIn) 4 s
+      → words ≡ tab 8 (λ i. num (datumPlace position + rowIn + 4 + i * 4) 4 s) ++ rest → take n words ≡ datumAt s position .terms
   unfolding datumAt rowAt masksAt
   terms-taken n words rest e p =
-      let g : ℕ → ℕ = λ i. num (datumPlace position + 16 + 4 + i * 4) 4 s in
+      let g : ℕ → ℕ = λ i. num (datumPlace position + rowIn + 4 + i * 4) 4 s in
       let fits : n ≤ length (tab 8 g) = omega (arith, length-tab 8 g, f .few, f .count) in
       rw (p, take-append-le n (tab 8 g) rest fits, e)
 
   -- the words that are written
-  pub words-written : (own left right : ℕ) (terms : List ℕ) → own ≡ num 0 4 s → left ≡ num (datumPlace position) 8 s
-      → right ≡ num (datumPlace position + 8) 8 s → terms ≡ datumAt s position .terms
+  pub words-written : (own left right : ℕ) (terms : List ℕ) → own ≡ num ownAt 4 s → left ≡ num (datumPlace position) 8 s
+      → right ≡ num (datumPlace position + rightIn) 8 s → terms ≡ datumAt s position .terms
       → messageWords own [] left right (masks terms) ≡ writtenWords s position
   unfolding writtenWords datumAt
   words-written own left right terms a b c d = rw (a, b, c, d, masks-same (datumAt s position .terms) (f .small))
@@ -129,7 +131,7 @@ module _ (s : List ℕ) (position : ℕ) (f : Held s position) where
 
 module _ (s : List ℕ) (t : T (inForm s)) (position : ℕ) (h : position < heldCount s) where
   pub write-reads : readBytes (writtenBytes s position)
-      ≡ Message (num 0 4 s) (datumAt s position .left) (datumAt s position .right) (length (datumAt s position .terms))
+      ≡ Message (num ownAt 4 s) (datumAt s position .left) (datumAt s position .right) (length (datumAt s position .terms))
   unfolding readBytes writtenWords
   write-reads =
       let f = held-out s t position h in
@@ -172,5 +174,5 @@ module _ (s : List ℕ) (position : ℕ) (out : List ℕ) (e : writeNumber s pos
   write-front = rw e (take-put (length (writtenBytes s position)) (writtenBytes s position) out refl (ltb-false _ _ (T-false _ (tests .2))))
 
   pub write-front-reads : readBytes (take (length (writtenBytes s position)) (writeOutput s position out))
-      ≡ Message (num 0 4 s) (datumAt s position .left) (datumAt s position .right) (length (datumAt s position .terms))
+      ≡ Message (num ownAt 4 s) (datumAt s position .left) (datumAt s position .right) (length (datumAt s position .terms))
   write-front-reads = ap readBytes write-front ∙ write-reads s write-form position write-held

@@ -36,6 +36,7 @@ use Rattle.monitor.specs.Messages.{readBytes}
 use Rattle.monitor.specs.Calls.{setUpNumber, setUpState, ageNumber, ageState}
 use Rattle.monitor.specs.Receive.{Receipt, delivered, deliveredAs, deliveredNumber, deliveredState, receiveNumber, receiveState}
 use Rattle.monitor.proofs.MessageCalls.{read-words-in, words-in-taken}
+use Rattle.names.specs.Sets.{noSet}
 
 -- ---- the lent bytes after a call
 
@@ -85,7 +86,7 @@ module _ (s : List ℕ) (reading : ℕ) where
 -- ---- receiving
 
 -- the terms that words carry have 29 bits
-masks-small : (ws : List ℕ) (t : ℕ) → In t (masks ws) → t < 2 ^ 29
+masks-small : (ws : List ℕ) (t : ℕ) → In t (masks ws) → t < noSet
 unfolding masks
 masks-small [] t h = absurd h
 masks-small (w ∷ ws) t (inl e) = omega arith

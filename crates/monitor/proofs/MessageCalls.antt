@@ -18,12 +18,13 @@ use Rattle.message.specs.declared.Reading.{Reading}
 use Rattle.message.specs.declared.Reading.the-variants.{Message, Refused}
 use Rattle.message.proofs.ReadLaws.{read-out, terms-middle, length-middle}
 use Rattle.message.proofs.MessageLaws.{rewrite-length}
-use Rattle.message.specs.Words.{wordsMost, bytesMost}
+use Rattle.message.specs.Words.{wordsMost, bytesMost, endsLimit}
 use Rattle.engine.specs.Refusals.{delayMost}
 use Rattle.state.specs.Refusal.{after}
 use Rattle.state.proofs.LentLaws.{after-refused}
 use Rattle.message.proofs.ReadLaws.{refused-above}
 use Rattle.monitor.specs.Messages.{readBytes, wordsIn, rewrittenBytes}
+use Rattle.state.specs.Model.{nameMost}
 
 -- more than 14 words, or none, are 10
 read-many : (ws : List ℕ) → wordsMost < length ws → readWords ws ≡ Refused 10
@@ -119,7 +120,7 @@ words-in-taken {s} {l} {r} {n} m e = go (eqb (length m % 4) 0) (ltb bytesMost (l
 
 -- what a taken message says
 pub taken-says : {s l r n : ℕ} (m : List ℕ) → readBytes m ≡ Message s l r n →
-    (s ≤ 28) × (l ≤ r) × (r < 2 ^ 58) × (length (termWords (Message s l r n) (wordsIn m)) ≤ 8)
+    (s ≤ nameMost) × (l ≤ r) × (r < endsLimit) × (length (termWords (Message s l r n) (wordsIn m)) ≤ 8)
 taken-says m e =
     let t = read-out (wordsIn m) (read-words-in m ∙ e) in
     (t .sender-le, t .left-le, t .right-lt, omega (arith, ap length (terms-middle t), length-middle t, t .count-le))

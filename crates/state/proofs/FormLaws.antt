@@ -16,9 +16,10 @@ use Rattle.numbers.proofs.NumberLaws.{bytes-num, length-bytes, length-tab, tab-
 use Rattle.predicates.specs.Lists.{all, allBelow, padded}
 use Rattle.predicates.proofs.ListLaws.{both, both-l, both-r}
 use Rattle.state.specs.Model.{Datum, endLimit}
-use Rattle.state.specs.Layout.{zeros, joined, rowBytes, datumBytes, entryBytes, masksAt, rowAt, datumAt, entryAt, datumPlace, entryPlace}
+use Rattle.state.specs.Layout.{zeros, joined, rowBytes, datumBytes, entryBytes, masksAt, rowAt, datumAt, entryAt, datumPlace, entryPlace, datumTerms, entryTerms, rowIn}
 use Rattle.state.specs.Form.{termFits, termsFit, isZero, rowFits, datumFits, entryFits, datumOk}
 use Rattle.state.proofs.LayoutLaws.{all-mono, all-append, all-replicate, all-getD, all-zero, below-in, part, length-part, part-add, slice-part, At, at-first, at-then, at-part, num-at, bytesOf-joined, joined-tab, length-joined, at-joined, length-padded, length-datum, length-entry}
+use Rattle.names.specs.Sets.{noSet}
 
 -- ---- places filled up with zeros
 
@@ -80,8 +81,8 @@ isWord v = ltb v (2 ^ 32)
 term-word : (own v : ℕ) → T (termFits own v) → T (isWord v)
 unfolding isWord termFits
 term-word own v t =
-    let k : T (ltb v (2 ^ 29)) = search (both-l, both-r) in
-    lt→ltb v (2 ^ 32) (omega (arith, ltb→lt v (2 ^ 29) k))
+    let k : T (ltb v noSet) = search (both-l, both-r) in
+    lt→ltb v (2 ^ 32) (omega (arith, ltb→lt v noSet k))
 
 fits-le : (own width : ℕ) (p : List ℕ) → T (termsFit own width p) → length p ≤ width
 unfolding termsFit
@@ -154,7 +155,7 @@ pub datum-size : (own : ℕ) (d : Datum) → T (datumOk own d) → length (datum
 unfolding datumOk
 datum-size own d t = length-datum d (fits-le own 8 (d .terms) (search (both-l, both-r) depth 9))
 
-pub entry-size : (own : ℕ) (e : List ℕ) → T (termsFit own 16 e) → length (entryBytes e) ≡ 68
+pub entry-size : (own : ℕ) (e : List ℕ) → T (termsFit own entryTerms e) → length (entryBytes e) ≡ 68
 entry-size own e t = length-entry e (fits-le own 16 e t)
 
 -- a datum that stands at its place is read, and fits
@@ -165,32 +166,32 @@ datum-in own s i d t h =
     let at = datumPlace i in
     let a : T (leb (d .left) (d .right)) = search both-l in
     let b : T (ltb (d .right) endLimit) = search (both-l, both-r) depth 9 in
-    let c : T (termsFit own 8 (d .terms)) = search (both-l, both-r) depth 9 in
+    let c : T (termsFit own datumTerms (d .terms)) = search (both-l, both-r) depth 9 in
     let end = ltb→lt (d .right) endLimit b in
     let rest = at-then 8 at (bytes 8 (d .left)) _ s (length-bytes 8 (d .left)) h in
     let e : at + 8 + 8 ≡ at + 16 = omega arith in
-    let row : At (at + 16) (rowBytes 8 (d .terms)) s =
-    rw e at (at-then 8 (at + 8) (bytes 8 (d .right)) (rowBytes 8 (d .terms)) s (length-bytes 8 (d .right)) rest) in
+    let row : At (at + 16) (rowBytes datumTerms (d .terms)) s =
+    rw e at (at-then 8 (at + 8) (bytes 8 (d .right)) (rowBytes datumTerms (d .terms)) s (length-bytes 8 (d .right)) rest) in
     let left = num-at 8 at (d .left) s (omega (arith, leb→le (d .left) (d .right) a)) (at-first at (bytes 8 (d .left)) _ s h) in
     let right = num-at 8 (at + 8) (d .right) s (omega arith) (at-first (at + 8) (bytes 8 (d .right)) _ s rest) in (
       rw (left, right, row-read own 8 (at + 16) (d .terms) s (omega arith) c row),
       rw (left, right) (search (both, row-in own 8 (at + 16) (d .terms) s (omega arith) c row)),
     )
 
-pub entry-in : (own : ℕ) (s : List ℕ) (i : ℕ) (e : List ℕ) → T (termsFit own 16 e) → At (entryPlace i) (entryBytes e) s
+pub entry-in : (own : ℕ) (s : List ℕ) (i : ℕ) (e : List ℕ) → T (termsFit own entryTerms e) → At (entryPlace i) (entryBytes e) s
     → (entryAt s i ≡ e) × T (entryFits own s i)
 unfolding entryBytes entryAt entryFits
 entry-in own s i e t h = (row-read own 16 (entryPlace i) e s (omega arith) t h, row-in own 16 (entryPlace i) e s (omega arith) t h)
 
 -- a datum that fits: what is read of it, and its bytes
 module _ (own : ℕ) (s : List ℕ) (i : ℕ) (t : T (datumFits own s i)) where
-  pub datum-row : T (rowFits own 8 (datumPlace i + 16) s)
+  pub datum-row : T (rowFits own datumTerms (datumPlace i + rowIn) s)
   unfolding datumFits
   datum-row = search (both-l, both-r) depth 9
 
   pub datum-out : T (datumOk own (datumAt s i))
   unfolding datumFits datumOk datumAt
-  datum-out = search (both, both-l, both-r, row-out own 8 (datumPlace i + 16) s datum-row) depth 9
+  datum-out = search (both, both-l, both-r, row-out own datumTerms (datumPlace i + rowIn) s datum-row) depth 9
 
   pub datum-part : Bytes s → datumPlace i + 52 ≤ length s → datumBytes (datumAt s i) ≡ part (datumPlace i) 52 s
   unfolding datumBytes datumAt

@@ -19,8 +19,9 @@ use Rattle.predicates.proofs.ListLaws.{both, both-l, both-r, true-T}
 use Rattle.predicates.proofs.LoopLaws.{all-turn}
 use Rattle.numbers.specs.Numbers.{num}
 use Rattle.numbers.proofs.NumberLaws.{length-tab}
-use Rattle.state.specs.Layout.{masksAt, rowAt, heldCount, entryCount}
+use Rattle.state.specs.Layout.{masksAt, rowAt, heldCount, entryCount, ownAt, dataMost, entriesMost}
 use Rattle.state.specs.Form.{termFits, isZero, rowFits, headFits}
+use Rattle.state.specs.Model.{nameMost}
 
 -- ---- zeros: what is or-ed together is zero where all of it is
 
@@ -112,11 +113,11 @@ module _ (own width at n : ℕ) (s : List ℕ) (e : n ≡ num at 4 s) where
 
 -- ---- the head
 
-pub head-out : (s : List ℕ) → headFits s ≡ true → (num 0 4 s ≤ 28) × (heldCount s ≤ 16) × (entryCount s ≤ 32)
+pub head-out : (s : List ℕ) → headFits s ≡ true → (num ownAt 4 s ≤ nameMost) × (heldCount s ≤ dataMost) × (entryCount s ≤ entriesMost)
 unfolding headFits
 head-out s e =
     let t = true-T _ e in
-    let own : T (leb (num 0 4 s) 28) = search both-l in
+    let own : T (leb (num ownAt 4 s) nameMost) = search both-l in
     let held : T (leb (heldCount s) 16) = search (both-l, both-r) depth 9 in
     let entries : T (leb (entryCount s) 32) = search (both-l, both-r) depth 9 in
     (leb→le _ _ own, leb→le _ _ held, leb→le _ _ entries)

@@ -9,6 +9,7 @@ use Rattle.predicates.specs.Predicates.{isNormal}
 use Rattle.predicates.proofs.ListLaws.{both, both-l, both-r, all-in, all-out}
 use Rattle.state.specs.Model.{Datum, endLimit}
 use Rattle.state.specs.Form.{termFits, termsFit, datumOk}
+use Rattle.state.specs.Layout.{datumTerms}
 
 -- ---- right predicates and data, by their facts
 
@@ -39,7 +40,7 @@ ok-terms-in own width p o =
 pub record OkDatum (own : ℕ) (d : Datum) : Type 0 where
   pub ends : d .left ≤ d .right
   pub below : d .right < endLimit
-  pub fit : T (termsFit own 8 (d .terms))
+  pub fit : T (termsFit own datumTerms (d .terms))
 
 pub ok-datum-out : (own : ℕ) (d : Datum) → T (datumOk own d) → OkDatum own d
 unfolding datumOk

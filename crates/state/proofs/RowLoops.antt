@@ -9,7 +9,7 @@ use lib.Seq.{take-length}
 use Rattle.predicates.specs.Lists.{padded}
 use Rattle.numbers.specs.Numbers.{bytes, put, bytesOf}
 use Rattle.numbers.proofs.NumberLaws.{length-bytes, put-then, length-bytesOf, bytesOf-append}
-use Rattle.state.specs.Layout.{zeros, rowBytes, datumBytes}
+use Rattle.state.specs.Layout.{zeros, rowBytes, datumBytes, datumTerms}
 
 -- ---- a row
 
@@ -46,6 +46,6 @@ ends-put at left right row s a b c p q r =
 
 -- the row being that of a predicate
 pub datum-put : (at left right : ℕ) (ts s a b c : List ℕ) → a ≡ put at (bytes 8 left) s → b ≡ put (at + 8) (bytes 8 right) a
-    → c ≡ put (at + 16) (rowBytes 8 ts) b → c ≡ put at (datumBytes (record { left = left; right = right; terms = ts })) s
+    → c ≡ put (at + 16) (rowBytes datumTerms ts) b → c ≡ put at (datumBytes (record { left = left; right = right; terms = ts })) s
 unfolding datumBytes
-datum-put at left right ts s a b c p q r = ends-put at left right (rowBytes 8 ts) s a b c p q r
+datum-put at left right ts s a b c p q r = ends-put at left right (rowBytes datumTerms ts) s a b c p q r

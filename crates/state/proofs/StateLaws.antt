@@ -13,8 +13,8 @@ use Rattle.numbers.specs.Numbers.{num, put, tab, Bytes}
 use Rattle.numbers.proofs.NumberLaws.{bytes-num, put-front, length-bytes, length-tab}
 use Rattle.predicates.specs.Lists.{all, allBelow}
 use Rattle.predicates.proofs.ListLaws.{both, both-l, both-r}
-use Rattle.state.specs.Model.{State, readingLimit}
-use Rattle.state.specs.Layout.{stateSize, ownAt, driftAt, readingAt, heldAt, knownAt, dataAt, dataMost, datumSize, entriesAt, entriesMost, entrySize, entryTerms}
+use Rattle.state.specs.Model.{State, readingLimit, nameMost, driftMost}
+use Rattle.state.specs.Layout.{stateSize, ownAt, driftAt, readingAt, heldAt, knownAt, dataAt, dataMost, datumSize, entriesAt, entriesMost, entrySize, entryTerms, rowIn, datumTerms}
 use Rattle.state.specs.Layout.{datumBytes, entryBytes, dataBytes, entriesBytes, parts, stateBytes, datumAt, entryAt, datumPlace, entryPlace, heldCount, entryCount, headOf, storeOf, stateOf}
 use Rattle.state.specs.Form.{termsFit, isZero, rowFits, datumFits, entryFits, headFits, dataFit, entriesFit, inForm, headOk, datumOk, storeOk, countsOk, stateOk}
 use Rattle.state.proofs.LayoutLaws.{all-tab, below-out, part, At, num-at}
@@ -25,16 +25,16 @@ use Rattle.state.proofs.FormLaws.{length-filled, filled-part, places-in
 
 -- the numbers in the head
 record HeadRead (st : State) (s : List ℕ) : Type 0 where
-  own : num 0 4 s ≡ st .head .own
-  drift : num 4 4 s ≡ st .head .drift
-  reading : num 8 8 s ≡ st .head .reading
+  own : num ownAt 4 s ≡ st .head .own
+  drift : num driftAt 4 s ≡ st .head .drift
+  reading : num readingAt 8 s ≡ st .head .reading
   held : heldCount s ≡ length (st .store .held)
   entries : entryCount s ≡ length (st .store .entries)
 
 -- the facts of a state that is right
 pub record OkState (st : State) : Type 0 where
-  pub own-le : st .head .own ≤ 28
-  pub drift-le : st .head .drift ≤ 1000
+  pub own-le : st .head .own ≤ nameMost
+  pub drift-le : st .head .drift ≤ driftMost
   pub reading-lt : st .head .reading < readingLimit
   pub held : T (all (datumOk (st .head .own)) (st .store .held))
   pub entries : T (all (termsFit (st .head .own) 16) (st .store .entries))
@@ -148,44 +148,44 @@ unfolding storeOf
 length-entries s = length-tab (entryCount s) (entryAt s)
 
 module _ (s : List ℕ) (t : T (inForm s)) where
-  pub held-count-le : heldCount s ≤ 16
+  pub held-count-le : heldCount s ≤ dataMost
   unfolding inForm headFits
   held-count-le = leb→le (heldCount s) 16 (search (both-l, both-r) depth 9)
 
-  pub entry-count-le : entryCount s ≤ 32
+  pub entry-count-le : entryCount s ≤ entriesMost
   unfolding inForm headFits
   entry-count-le = leb→le (entryCount s) 32 (search (both-l, both-r) depth 9)
 
-  form-datum : (i : ℕ) → i < heldCount s → T (datumFits (num 0 4 s) s i)
+  form-datum : (i : ℕ) → i < heldCount s → T (datumFits (num ownAt 4 s) s i)
   unfolding inForm dataFit
-  form-datum i h = below-out (heldCount s) (datumFits (num 0 4 s) s) (search (both-l, both-r) depth 9) i h
+  form-datum i h = below-out (heldCount s) (datumFits (num ownAt 4 s) s) (search (both-l, both-r) depth 9) i h
 
-  form-entry : (i : ℕ) → i < entryCount s → T (rowFits (num 0 4 s) 16 (entryPlace i) s)
+  form-entry : (i : ℕ) → i < entryCount s → T (rowFits (num ownAt 4 s) entryTerms (entryPlace i) s)
   unfolding inForm entriesFit entryFits
-  form-entry i h = below-out (entryCount s) (entryFits (num 0 4 s) s) (search (both-l, both-r) depth 9) i h
+  form-entry i h = below-out (entryCount s) (entryFits (num ownAt 4 s) s) (search (both-l, both-r) depth 9) i h
 
   -- each datum and each entry that is read
-  pub datum-at-ok : (i : ℕ) → i < heldCount s → T (datumOk (num 0 4 s) (datumAt s i))
-  datum-at-ok i h = datum-out (num 0 4 s) s i (form-datum i h)
+  pub datum-at-ok : (i : ℕ) → i < heldCount s → T (datumOk (num ownAt 4 s) (datumAt s i))
+  datum-at-ok i h = datum-out (num ownAt 4 s) s i (form-datum i h)
 
-  pub length-datum-at : (i : ℕ) → i < heldCount s → length (datumAt s i .terms) ≡ num (datumPlace i + 16) 4 s
+  pub length-datum-at : (i : ℕ) → i < heldCount s → length (datumAt s i .terms) ≡ num (datumPlace i + rowIn) 4 s
   unfolding datumAt
-  length-datum-at i h = length-row-at (num 0 4 s) 8 (datumPlace i + 16) s (datum-row (num 0 4 s) s i (form-datum i h))
+  length-datum-at i h = length-row-at (num ownAt 4 s) datumTerms (datumPlace i + rowIn) s (datum-row (num ownAt 4 s) s i (form-datum i h))
 
-  pub entry-at-ok : (i : ℕ) → i < entryCount s → T (termsFit (num 0 4 s) 16 (entryAt s i))
+  pub entry-at-ok : (i : ℕ) → i < entryCount s → T (termsFit (num ownAt 4 s) entryTerms (entryAt s i))
   unfolding entryAt
-  entry-at-ok i h = row-out (num 0 4 s) 16 (entryPlace i) s (form-entry i h)
+  entry-at-ok i h = row-out (num ownAt 4 s) entryTerms (entryPlace i) s (form-entry i h)
 
   pub length-entry-at : (i : ℕ) → i < entryCount s → length (entryAt s i) ≡ num (entryPlace i) 4 s
   unfolding entryAt
-  length-entry-at i h = length-row-at (num 0 4 s) 16 (entryPlace i) s (form-entry i h)
+  length-entry-at i h = length-row-at (num ownAt 4 s) entryTerms (entryPlace i) s (form-entry i h)
 
   -- bytes in form hold a right state
   pub form-ok : T (stateOk (stateOf s))
   unfolding inForm headFits stateOf stateOk headOf headOk storeOf storeOk countsOk
   form-ok =
-      let ds = all-tab (datumOk (num 0 4 s)) (heldCount s) (datumAt s) datum-at-ok in
-      let es = all-tab (termsFit (num 0 4 s) 16) (entryCount s) (entryAt s) entry-at-ok in
+      let ds = all-tab (datumOk (num ownAt 4 s)) (heldCount s) (datumAt s) datum-at-ok in
+      let es = all-tab (termsFit (num ownAt 4 s) entryTerms) (entryCount s) (entryAt s) entry-at-ok in
       rw (length-held s, length-entries s) (search (both, both-l, both-r) depth 12)
 
   -- bytes in form are those of the state that they hold

@@ -18,7 +18,7 @@ use Rattle.numbers.specs.Numbers.{num, put, tab}
 use Rattle.numbers.proofs.NumberLaws.{length-put, put-then, put-front, length-tab, getD-tab, tab-next}
 use Rattle.predicates.specs.Lists.{all, keep}
 use Rattle.predicates.proofs.ListLaws.{all-keep, both-l, both-r}
-use Rattle.state.specs.Layout.{dataAt, dataMost, datumSize, datumTerms, entriesAt, entriesMost, entrySize, entryTerms, dataBytes, entriesBytes, datumPlace, entryPlace, heldCount, entryCount, zeros, joined, datumBytes, entryBytes, masksAt, rowAt, datumAt, entryAt, storeOf, dataBytes, entriesBytes, entryTerms, datumTerms, entriesMost, dataMost, entrySize}
+use Rattle.state.specs.Layout.{dataAt, dataMost, datumSize, datumTerms, entriesAt, entriesMost, entrySize, entryTerms, dataBytes, entriesBytes, datumPlace, entryPlace, heldCount, entryCount, zeros, joined, datumBytes, entryBytes, masksAt, rowAt, datumAt, entryAt, storeOf, dataBytes, entriesBytes, entryTerms, datumTerms, entriesMost, dataMost, entrySize, ownAt, rightIn, rowIn}
 use Rattle.state.specs.Form.{inForm, datumOk, termsFit}
 use Rattle.state.proofs.LayoutLaws.{all-tab, At, length-joined, at-joined, length-datum, length-entry}
 use Rattle.state.proofs.PutLaws.{joined-last}
@@ -271,25 +271,25 @@ module _ (width n : ℕ) (place : ℕ → ℕ) (s c₀ m₀ c m : List ℕ) (p :
 
 -- n data that were read
 module _ (n : ℕ) (s l₀ r₀ c₀ m₀ l r c m : List ℕ) (e : l ≡ tab n (λ i. num (datumPlace i) 8 s) ++ drop n l₀)
-    (f : r ≡ tab n (λ i. num (datumPlace i + 8) 8 s) ++ drop n r₀) (p : c ≡ tab n (λ i. num (datumPlace i + 16) 4 s) ++ drop n c₀)
-    (q : m ≡ joined (λ x. x) (tab n (λ i. masksAt 8 (datumPlace i + 16) s)) ++ drop (n * 8) m₀)
-    (few : (i : ℕ) → i < n → num (datumPlace i + 16) 4 s ≤ 8) where
+    (f : r ≡ tab n (λ i. num (datumPlace i + rightIn) 8 s) ++ drop n r₀) (p : c ≡ tab n (λ i. num (datumPlace i + rowIn) 4 s) ++ drop n c₀)
+    (q : m ≡ joined (λ x. x) (tab n (λ i. masksAt datumTerms (datumPlace i + rowIn) s)) ++ drop (n * 8) m₀)
+    (few : (i : ℕ) → i < n → num (datumPlace i + rowIn) 4 s ≤ 8) where
   pub data-read : tab n (datumIn (columns l r c m)) ≡ tab n (datumAt s)
   unfolding datumIn datumAt
   data-read =
       tab-cong n (datumIn (columns l r c m)) (datumAt s)
       (λ i h. rw (
         column-front (λ k. num (datumPlace k) 8 s) n i l₀ l e h,
-        column-front (λ k. num (datumPlace k + 8) 8 s) n i r₀ r f h,
-        rows-read 8 n (λ k. datumPlace k + 16) s c₀ m₀ c m p q few i h,
+        column-front (λ k. num (datumPlace k + rightIn) 8 s) n i r₀ r f h,
+        rows-read 8 n (λ k. datumPlace k + rowIn) s c₀ m₀ c m p q few i h,
       ))
 
   pub columns-read : (k : ℕ) → n ≤ k → ColumnsFit k (columns l₀ r₀ c₀ m₀) → ColumnsFit k (columns l r c m)
   columns-read k h t =
       record {
-        table = table-read 8 n (λ i. datumPlace i + 16) s c₀ m₀ c m p q few k h (t .table);
+        table = table-read 8 n (λ i. datumPlace i + rowIn) s c₀ m₀ c m p q few k h (t .table);
         lefts-long = omega (arith, t .lefts-long, length-column (λ i. num (datumPlace i) 8 s) n l₀ l e (omega (arith, t .lefts-long)));
-        rights-long = omega (arith, t .rights-long, length-column (λ i. num (datumPlace i + 8) 8 s) n r₀ r f (omega (arith, t .rights-long)));
+        rights-long = omega (arith, t .rights-long, length-column (λ i. num (datumPlace i + rightIn) 8 s) n r₀ r f (omega (arith, t .rights-long)));
       }
 
 -- ---- fresh arrays
@@ -327,7 +327,7 @@ fits-some own width [] t = t
 fits-some own width (x ∷ p) t = tt
 
 module _ (n : ℕ) (s : List ℕ) (t : T (inForm s)) (a : n ≡ entryCount s) (c₀ m₀ c m : List ℕ)
-    (p : c ≡ tab n (λ i. num (entryPlace i) 4 s) ++ drop n c₀) (q : m ≡ joined (λ x. x) (tab n (λ i. masksAt 16 (entryPlace i) s)) ++ drop (n * 16) m₀) where
+    (p : c ≡ tab n (λ i. num (entryPlace i) 4 s) ++ drop n c₀) (q : m ≡ joined (λ x. x) (tab n (λ i. masksAt entryTerms (entryPlace i) s)) ++ drop (n * 16) m₀) where
   entries-few : (i : ℕ) → i < n → num (entryPlace i) 4 s ≤ 16
   unfolding termsFit
   entries-few i h =
@@ -342,16 +342,16 @@ module _ (n : ℕ) (s : List ℕ) (t : T (inForm s)) (a : n ≡ entryCount s) (c
       let read : tab n (rowOf 16 (table c m)) ≡ tab n (entryAt s) =
       tab-cong n (rowOf 16 (table c m)) (entryAt s) (rows-read 16 n entryPlace s c₀ m₀ c m p q entries-few) in
       rw (read, a)
-      (keep-all hasTerms (tab (entryCount s) (entryAt s)) (all-tab hasTerms (entryCount s) (entryAt s) (λ i h. fits-some (num 0 4 s) 16 (entryAt s i) (entry-at-ok s t i h))))
+      (keep-all hasTerms (tab (entryCount s) (entryAt s)) (all-tab hasTerms (entryCount s) (entryAt s) (λ i h. fits-some (num ownAt 4 s) entryTerms (entryAt s i) (entry-at-ok s t i h))))
 
   pub entries-table : (k : ℕ) → n ≤ k → TableFits 16 k (table c₀ m₀) → TableFits 16 k (table c m)
   entries-table = table-read 16 n entryPlace s c₀ m₀ c m p q entries-few
 
 module _ (n : ℕ) (s : List ℕ) (t : T (inForm s)) (a : n ≡ heldCount s) (l₀ r₀ c₀ m₀ l r c m : List ℕ)
-    (e : l ≡ tab n (λ i. num (datumPlace i) 8 s) ++ drop n l₀) (f : r ≡ tab n (λ i. num (datumPlace i + 8) 8 s) ++ drop n r₀)
-    (p : c ≡ tab n (λ i. num (datumPlace i + 16) 4 s) ++ drop n c₀)
-    (q : m ≡ joined (λ x. x) (tab n (λ i. masksAt 8 (datumPlace i + 16) s)) ++ drop (n * 8) m₀) where
-  data-few : (i : ℕ) → i < n → num (datumPlace i + 16) 4 s ≤ 8
+    (e : l ≡ tab n (λ i. num (datumPlace i) 8 s) ++ drop n l₀) (f : r ≡ tab n (λ i. num (datumPlace i + rightIn) 8 s) ++ drop n r₀)
+    (p : c ≡ tab n (λ i. num (datumPlace i + rowIn) 4 s) ++ drop n c₀)
+    (q : m ≡ joined (λ x. x) (tab n (λ i. masksAt datumTerms (datumPlace i + rowIn) s)) ++ drop (n * 8) m₀) where
+  data-few : (i : ℕ) → i < n → num (datumPlace i + rowIn) 4 s ≤ 8
   unfolding datumOk termsFit
   data-few i h =
       let k : i < heldCount s = omega arith in
@@ -367,7 +367,7 @@ module _ (n : ℕ) (s : List ℕ) (t : T (inForm s)) (a : n ≡ heldCount s) (l�
   unfolding dataIn storeOf datumOk
   data-form =
       let some-terms : (i : ℕ) → i < heldCount s → T (hasTerms (datumAt s i .terms)) =
-      λ i h. let ok = datum-at-ok s t i h in fits-some (num 0 4 s) 8 (datumAt s i .terms) (search (both-l, both-r) depth 9) in
+      λ i h. let ok = datum-at-ok s t i h in fits-some (num ownAt 4 s) datumTerms (datumAt s i .terms) (search (both-l, both-r) depth 9) in
       rw data-rows (keep-all (λ d. hasTerms (d .terms)) (tab (heldCount s) (datumAt s)) (all-tab (λ d. hasTerms (d .terms)) (heldCount s) (datumAt s) some-terms))
 
   pub data-columns : (k : ℕ) → n ≤ k → ColumnsFit k (columns l₀ r₀ c₀ m₀) → ColumnsFit k (columns l r c m)

@@ -7,7 +7,7 @@ use native.Mathlib.Omega.{arith}
 use lib.Dec.{T, T-not, not-T, ltb, ltb→lt, lt→ltb}
 use lib.ListN.{length, getD, take, drop, drop-of-length-le, length-drop}
 use lib.Seq.{take-all}
-use Rattle.names.specs.Sets.{subset, has}
+use Rattle.names.specs.Sets.{subset, has, noSet}
 use Rattle.names.proofs.SetLaws.{test-ext}
 use Rattle.predicates.specs.Lists.{any, all, In}
 use Rattle.predicates.specs.Predicates.{precedes, isNormal}
@@ -23,7 +23,7 @@ none b f = T-false b (not-T b f)
 module _ (own : ℕ) where
   -- "no empty term" aside, which is no question where masks rise from 0
   unfoldable pub named : ℕ → Bool
-  named t = ltb t (2 ^ 29) && not (has own t)
+  named t = ltb t noSet && not (has own t)
 
   -- the terms of q rise from `last`, are in normal form and fit
   unfoldable pub following : ℕ → List ℕ → Bool

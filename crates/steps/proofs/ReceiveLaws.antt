@@ -11,7 +11,7 @@ use native.Mathlib.Omega.{arith}
 use lib.Dec.{T, T-not, not-T, eqb, eqb→eq, ltb, lt→ltb, nltb→le}
 use lib.ListN.{length, length-append}
 use lib.Pow.{pow-lt}
-use Rattle.names.specs.Sets.{has}
+use Rattle.names.specs.Sets.{has, noSet}
 use Rattle.names.proofs.SetLaws.{digit-single-other, has-out}
 use Rattle.predicates.specs.Lists.{any, all, keep, In}
 use Rattle.predicates.specs.Predicates.{holds, implies, isTrue, struck, isNormal, normal, formed}
@@ -19,12 +19,13 @@ use Rattle.predicates.proofs.ListLaws.{both, both-l, both-r, or-cases, neither,
 use Rattle.predicates.proofs.ListLaws.{in-l, in-r, in-cases, any-in, any-out, all-out, keep-in, keep-out, all-keep, length-keep}
 use Rattle.predicates.proofs.PredicateLaws.{holds-sum, holds-normal, implies-in, implies-refl, implies-trans, normal-normal, normal-out, normal-some, formed-out}
 use Rattle.predicates.proofs.PlaceLaws.{length-normal}
-use Rattle.state.specs.Model.{Datum, Store}
+use Rattle.state.specs.Model.{Datum, Store, nameMost}
 use Rattle.state.specs.Form.{termFits, termsFit, datumOk, storeOk}
 use Rattle.state.proofs.LayoutLaws.{all-append}
 use Rattle.steps.specs.Steps.{disjoint, learnt, unexplained, same, meet, met, without, betters, stored, heldAfter, received, settled}
 use Rattle.entries.specs.Entries.{explained, learn}
 use Rattle.state.proofs.OkLaws.{OkDatum, ok-datum-in, ok-datum-out, ok-terms-in, ok-terms-out}
+use Rattle.state.specs.Layout.{datumTerms, entryTerms}
 
 -- ---- predicates
 
@@ -58,14 +59,14 @@ single-free : (own sender : ℕ) → (sender ≡ own → ⊥) → T (not (has ow
 single-free own sender f =
     not-T (has own (2 ^ sender)) (λ h. omega (arith, has-out own (2 ^ sender) h, digit-single-other sender own f))
 
-term-fits : (own t : ℕ) → 0 < t → t < 2 ^ 29 → T (not (has own t)) → T (termFits own t)
+term-fits : (own t : ℕ) → 0 < t → t < noSet → T (not (has own t)) → T (termFits own t)
 unfolding termFits
 term-fits own t o l f =
-    both (ltb 0 t) (ltb t (2 ^ 29) && not (has own t)) (lt→ltb 0 t o) (both (ltb t (2 ^ 29)) (not (has own t)) (lt→ltb t (2 ^ 29) l) f)
+    both (ltb 0 t) (ltb t noSet && not (has own t)) (lt→ltb 0 t o) (both (ltb t noSet) (not (has own t)) (lt→ltb t noSet l) f)
 
 -- what is formed of terms below 2 ^ 29 fits, if it is not true and has at most 8 terms
-pub formed-fit : (own sender : ℕ) (p : List ℕ) → sender ≤ 28 → (sender ≡ own → ⊥) → ((t : ℕ) → In t p → t < 2 ^ 29)
-    → T (not (isTrue (formed own sender p))) → length (formed own sender p) ≤ 8 → T (termsFit own 8 (formed own sender p))
+pub formed-fit : (own sender : ℕ) (p : List ℕ) → sender ≤ nameMost → (sender ≡ own → ⊥) → ((t : ℕ) → In t p → t < noSet)
+    → T (not (isTrue (formed own sender p))) → length (formed own sender p) ≤ 8 → T (termsFit own datumTerms (formed own sender p))
 formed-fit own sender p s f small n l =
     ok-terms-in own 8 (formed own sender p)
     record {
@@ -82,10 +83,10 @@ formed-fit own sender p s f small n l =
 
 -- ---- step 1: entries
 
-sum-fit : (own : ℕ) (p q : List ℕ) → T (termsFit own 8 p) → T (termsFit own 8 q) → T (termsFit own 16 (normal (p ++ q)))
+sum-fit : (own : ℕ) (p q : List ℕ) → T (termsFit own datumTerms p) → T (termsFit own datumTerms q) → T (termsFit own entryTerms (normal (p ++ q)))
 sum-fit own p q h k =
-    let a = ok-terms-out own 8 p h in
-    let b = ok-terms-out own 8 q k in
+    let a = ok-terms-out own datumTerms p h in
+    let b = ok-terms-out own datumTerms q k in
     let l = length-append p q in
     ok-terms-in own 16 (normal (p ++ q))
     record {
@@ -119,10 +120,10 @@ learnt-ind P n (d ∷ ds) es f h =
     (cond-ind P (disjoint d n) (learn (normal (d .terms ++ n .terms)) es) es (λ c. f d es (inl refl) c h) (λ _. h))
 
 pub learnt-fit : (own : ℕ) (n : Datum) (ds : List Datum) (es : List (List ℕ)) → T (datumOk own n) → T (all (datumOk own) ds)
-    → T (all (termsFit own 16) es) → T (all (termsFit own 16) (learnt n ds es))
+    → T (all (termsFit own entryTerms) es) → T (all (termsFit own entryTerms) (learnt n ds es))
 learnt-fit own n ds es o h k =
-    learnt-ind (λ fs. T (all (termsFit own 16) fs)) n ds es
-    (λ d fs m c. learn-all (termsFit own 16) (normal (d .terms ++ n .terms)) fs
+    learnt-ind (λ fs. T (all (termsFit own entryTerms) fs)) n ds es
+    (λ d fs m c. learn-all (termsFit own entryTerms) (normal (d .terms ++ n .terms)) fs
     (sum-fit own (d .terms) (n .terms) (ok-datum-out own d (all-out (datumOk own) ds h d m) .fit) (ok-datum-out own n o .fit))) k
 
 -- each held datum teaches at most one entry
@@ -267,9 +268,9 @@ unfolding storeOk settled
 settled-ok own n k h t =
     let ds = k .held in
     let es = k .entries in
-    let held : T (all (datumOk own) ds) = both-l (all (datumOk own) ds) (all (termsFit own 16) es) h in
-    let entries : T (all (termsFit own 16) es) = both-r (all (datumOk own) ds) (all (termsFit own 16) es) h in
-    both (all (datumOk own) (settled n k .held)) (all (termsFit own 16) (settled n k .entries))
+    let held : T (all (datumOk own) ds) = both-l (all (datumOk own) ds) (all (termsFit own entryTerms) es) h in
+    let entries : T (all (termsFit own entryTerms) es) = both-r (all (datumOk own) ds) (all (termsFit own entryTerms) es) h in
+    both (all (datumOk own) (settled n k .held)) (all (termsFit own entryTerms) (settled n k .entries))
     (held-after-ok own n ds es t held) (learnt-fit own n ds es t held entries)
 
 -- a new datum that is true is not looked at

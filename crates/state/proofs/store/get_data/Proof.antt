@@ -2,7 +2,7 @@
 -- Invariant: the arrays are what they were, with what the first i data have stored at their fronts. Measure: the data still to read.
 use Prim.Native.Nat.{_+_, _-_, _≤_}
 use Rattle.numbers.specs.Numbers.{num}
-use Rattle.state.specs.Layout.{datumPlace}
+use Rattle.state.specs.Layout.{datumPlace, rightIn, rowIn}
 use Rattle.state.proofs.StoreLaws.{Column, column-none, column-next, column-done, Masks, masks-none, masks-next, masks-done}
 use borrow.Author.Needs.{needs}
 use Rattle.state.proofs.store.get_data.Statement.{statement}
@@ -10,8 +10,8 @@ use Rattle.state.proofs.store.get_data.Tie as tie
 
 abbrev Inv-loop : tie.InvT-loop
 Inv-loop s n lefts₀ rights₀ counts₀ masks₀ i₀ lefts rights counts masks i =
-    (i ≤ n) × Column (λ k. num (datumPlace k) 8 s) i lefts₀ lefts × Column (λ k. num (datumPlace k + 8) 8 s) i rights₀ rights
-    × Column (λ k. num (datumPlace k + 16) 4 s) i counts₀ counts × Masks 8 (λ k. datumPlace k + 16) s i masks₀ masks
+    (i ≤ n) × Column (λ k. num (datumPlace k) 8 s) i lefts₀ lefts × Column (λ k. num (datumPlace k + rightIn) 8 s) i rights₀ rights
+    × Column (λ k. num (datumPlace k + rowIn) 4 s) i counts₀ counts × Masks 8 (λ k. datumPlace k + rowIn) s i masks₀ masks
 
 abbrev μ-loop : tie.MeasureT-loop
 μ-loop s n lefts₀ rights₀ counts₀ masks₀ i₀ lefts rights counts masks i = n - i
@@ -30,7 +30,7 @@ loop-again c =
       column-next _ _ _ _ _ (at-left .get64 .ensures .0) (head .inv .1),
       column-next _ _ _ _ _ (at-right .get642 .ensures .0) (head .inv .2),
       column-next _ _ _ _ _ (at-count .get32 .ensures .0) (head .inv .3),
-      masks-next 8 (λ k. datumPlace k + 16) _ (head .i) _ _ _ (at-masks .get-masks .ensures) (head .inv .4),
+      masks-next 8 (λ k. datumPlace k + rowIn) _ (head .i) _ _ _ (at-masks .get-masks .ensures) (head .inv .4),
     )
 
 returns : tie.Need-returns Inv-loop μ-loop
@@ -42,7 +42,7 @@ returns c =
         column-done _ _ _ _ _ (head .inv .0) left (search needs) (head .inv .2),
         (
           column-done _ _ _ _ _ (head .inv .0) left (search needs) (head .inv .3),
-          masks-done 8 (λ k. datumPlace k + 16) _ _ _ _ _ (head .inv .0) left (search needs) (head .inv .4),
+          masks-done 8 (λ k. datumPlace k + rowIn) _ _ _ _ _ (head .inv .0) left (search needs) (head .inv .4),
         ),
       ),
     )
