@@ -211,7 +211,7 @@ pub fn data_rows(bytes: &[u8; STATE_BYTES]) -> &[[u8; DATUM_BYTES]] {
 }
 
 pub fn entry_rows(bytes: &[u8; STATE_BYTES]) -> &[[u8; ENTRY_BYTES]] {
-    bytes[ENTRIES_AT..].as_chunks().0
+    bytes[ENTRIES_AT..entry_at(MOST_ENTRIES)].as_chunks().0
 }
 
 /// The rows of the held data in bytes that are in form, to change their ends.

@@ -2,11 +2,10 @@
 -- sets for which those are true that it needs of the store; and the sets that fit are the allowed ones.
 -- The idea: both sides say of every claim by its place that it is true or that the instant is in its interval. No contract cites this file.
 -- Assumes nothing.
-use Prim.Native.Nat.{ℕ, suc, _+_, _-_, _≤_, _<_}
+use Prim.Native.Nat.{ℕ, _+_, _-_, _≤_, _<_}
 use mathlib.Core.Path.{_≡_, sym, ap, _∙_}
-use mathlib.Core.Logic.{inl, inr}
 use mathlib.Core.Bool.{Bool, true, false, _&&_, not}
-use mathlib.Core.List.{List, [], _∷_, _++_, map}
+use mathlib.Core.List.{List, [], _++_, map}
 use native.Mathlib.Decide.{decLt, decLe}
 use native.Mathlib.Omega.{arith}
 use borrow.Author.Tests.{le-leb, lt-leb}
@@ -30,7 +29,7 @@ use Rattle.search.specs.code.Search.{Rows, Fits, RowsFit, rowTerms, predAt, pre
 use Rattle.claims.specs.code.Tables.{entryClaim, claimsOf, claimAt, Loaded, Bounded}
 use Rattle.search.specs.code.LeftEnds.{outside, needs, Complete}
 use Rattle.asking.proofs.ClaimLaws.{claims-in, claims-out}
-use Rattle.search.proofs.EndSteps.{in-take, take-in, at-in, getD-map}
+use Rattle.predicates.proofs.IndexLaws.{in-take, take-in, at-in, getD-map, in-at}
 
 -- ---- sets
 
@@ -51,11 +50,6 @@ allowed-fits limit own u ps a h =
 -- ---- claims by their places
 
 -- an element of a list by its place
-pub in-at : {A : Type 0} (l : List A) (d a : A) → In a l → (j : ℕ) × (j < length l) × (a ≡ getD l j d)
-in-at [] d a m = absurd m
-in-at (x ∷ l) d a (inl e) = (0, omega arith, e)
-in-at (x ∷ l) d a (inr m) = let r = in-at l d a m in (suc (r .0), omega (arith, r .1), r .2)
-
 module _ (k : Store) where
   abbrev entries : List (List ℕ)
   entries = k .entries

@@ -20,8 +20,9 @@ use Rattle.claims.specs.code.Tables.{entryClaim, claimAt, Loaded, Bounded}
 use Rattle.search.specs.code.LeftEnds.{outside, Complete, LeastSet}
 use Rattle.asking.specs.Asking.{answer}
 use Rattle.asking.specs.Fewest.{notContradicted, fewest, Works}
-use Rattle.search.proofs.EndSteps.{at-in}
-use Rattle.asking.proofs.ArrayLaws.{fits-allowed, allowed-fits, in-at, claim-datum, order-everything, everything-order, needs-needed, needed-needs, left-outside}
+use Rattle.predicates.proofs.IndexLaws.{at-in}
+use Rattle.asking.proofs.ArrayLaws.{fits-allowed, allowed-fits, claim-datum, order-everything, everything-order, needs-needed, needed-needs, left-outside}
+use Rattle.predicates.proofs.IndexLaws.{in-at}
 use Rattle.asking.proofs.ReadyLaws.{Prepared}
 use Rattle.asking.proofs.FewestLaws.{Seen, works-ends, ends-works, fewest-found, fewest-over, works-failed}
 use Rattle.search.proofs.LeastLaws.{Tried, least-out}

@@ -17,7 +17,7 @@ use Rattle.predicates.proofs.PredicateLaws.{holds-out}
 use Rattle.predicates.proofs.ListLaws.{both-l, both-r, T-true, T-false, cond-ind, all-out}
 use Rattle.state.specs.Model.{Datum, State, endLimit}
 use Rattle.state.specs.Form.{termFits, termsFit, datumOk, stateOk}
-use Rattle.state.proofs.LayoutLaws.{all-mono}
+use Rattle.predicates.proofs.IndexLaws.{all-mono}
 use Rattle.state.proofs.StateLaws.{state-out}
 use Rattle.asking.specs.declared.Answer.{Answer}
 use Rattle.asking.specs.declared.Answer.the-variants.{Contradicted, Open, Between}

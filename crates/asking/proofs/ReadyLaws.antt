@@ -19,7 +19,7 @@ use Rattle.search.specs.code.Search.{Rows}
 use Rattle.claims.specs.code.Tables.{entryClaim, claimAt, Loaded, Bounded, claimLeft, claimRight}
 use Rattle.search.specs.code.LeftEnds.{noEnd, Ready, Complete}
 use Rattle.claims.proofs.TableLaws.{bounded-in}
-use Rattle.search.proofs.EndSteps.{at-in}
+use Rattle.predicates.proofs.IndexLaws.{at-in}
 use Rattle.asking.proofs.ArrayLaws.{claim-entry, claim-datum}
 
 module _ {k : Store} {n rows : ℕ} {table : Rows} (loaded : Loaded k n rows table) (most : rows ≤ 48) where

@@ -14,7 +14,7 @@ use Rattle.numbers.specs.Numbers.{num, tab}
 use Rattle.state.specs.Model.{Datum, Store, endLimit, readingLimit, driftMost}
 use Rattle.state.specs.Layout.{datumAt, heldCount, headOf, storeOf, stateOf, driftAt, readingAt}
 use Rattle.state.specs.Form.{inForm}
-use Rattle.state.proofs.LayoutLaws.{below-out}
+use Rattle.predicates.proofs.IndexLaws.{below-out}
 use Rattle.state.proofs.StateLaws.{state-out, form-ok}
 use Rattle.engine.specs.Ageing.{leastAdvance, greatestAdvance, slow, fast, widened, aged}
 use Rattle.engine.specs.Refusals.{passesEnd, ageRefusal}

@@ -23,7 +23,7 @@ use Rattle.steps.specs.Steps.{settled, received}
 use Rattle.engine.specs.Calls.{receive, done, moved, made}
 use Rattle.steps.specs.Steps.{tooMany}
 use Rattle.engine.specs.Refusals.{receiptRefusal}
-use Rattle.steps.proofs.ReceiveLaws.{formed-some, formed-normal}
+use Rattle.predicates.proofs.PredicateLaws.{formed-some, formed-normal}
 
 -- ---- the row
 

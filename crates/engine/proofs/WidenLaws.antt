@@ -16,7 +16,8 @@ use Rattle.state.specs.Model.{Datum, endLimit}
 use Rattle.state.specs.Layout.{stateSize, readingAt, heldAt, dataAt, dataMost, datumSize, zeros, joined, rowBytes, datumBytes, dataBytes, parts, stateBytes, rightIn, rowIn, datumTerms, ownAt}
 use Rattle.state.specs.Layout.{datumPlace, datumAt, heldCount, headOf, storeOf, stateOf}
 use Rattle.state.specs.Form.{termsFit, datumFits, dataFit, inForm, datumOk}
-use Rattle.state.proofs.LayoutLaws.{below-out, part, At, length-datum}
+use Rattle.predicates.proofs.IndexLaws.{below-out}
+use Rattle.state.proofs.LayoutLaws.{part, At, length-datum}
 use Rattle.state.proofs.FormLaws.{zeros-out, row-part, datum-row}
 use Rattle.state.proofs.StateLaws.{held-count-le, datum-at-ok, begins-form}
 use Rattle.state.proofs.RowLoops.{datum-put}

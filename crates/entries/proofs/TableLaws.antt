@@ -20,7 +20,7 @@ use Rattle.entries.specs.Entries.{explained, learn}
 use Rattle.state.specs.code.Tables.{table, TableFits, rowOf, hasTerms, entriesIn}
 use Rattle.entries.specs.code.Marks.{Marked, givenUp}
 use Rattle.predicates.proofs.ListLaws.{keep-append, any-append}
-use Rattle.state.proofs.RowLaws.{row-empty}
+use Rattle.state.proofs.RowLaws.{row-empty, table-less}
 
 -- ---- a loop that looks for a row
 
@@ -206,11 +206,7 @@ pub explained-rows : (n : ℕ) (counts masks p : List ℕ) →
 unfolding explained entriesIn
 explained-rows n counts masks p = any-kept hasTerms (λ e. implies e p) n (rowOf 16 (table counts masks))
 
--- a table with rows given up, and with one put last
-pub table-less : (w n m : ℕ) (counts masks : List ℕ) → TableFits w n (table counts masks) → m ≤ n → TableFits w m (table counts masks)
-table-less w n m counts masks t h =
-    record { counted = omega (arith, t .counted); long = omega (arith, t .long, mul-le-mul-right w h); narrow = t .narrow }
-
+-- what lies behind the rows that were given up
 given-up-behind : (m i : ℕ) (test : ℕ → Bool) (counts : List ℕ) → m ≤ i → getD (givenUp m test counts) i 0 ≡ getD counts i 0
 unfolding givenUp
 given-up-behind m i test counts h =

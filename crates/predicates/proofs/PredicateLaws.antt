@@ -322,3 +322,28 @@ normal-some (t ∷ p) h =
     filled : (l : List ℕ) (u : ℕ) → In u l → 0 < length l
     filled [] u m = absurd m
     filled (v ∷ l) u m = omega arith
+
+-- ---- what a receipt forms, and predicates that are not true
+
+pub formed-some : (own sender : ℕ) (p : List ℕ) → 0 < length (formed own sender p)
+unfolding formed
+formed-some own sender p = normal-some (2 ^ sender ∷ struck own p) (omega arith)
+
+pub formed-normal : (own sender : ℕ) (p : List ℕ) → T (isNormal (formed own sender p))
+unfolding formed
+formed-normal own sender p = normal-normal (2 ^ sender ∷ struck own p)
+
+-- a sum of a predicate with itself
+pub sum-twice : (p : List ℕ) → T (implies (normal (p ++ p)) p)
+sum-twice p =
+    implies-in (normal (p ++ p)) p (λ s h.
+    let k : T (holds s p || holds s p) = rw (holds-normal s (p ++ p), holds-sum s p p) at h in
+    ⊎-elim (λ a. a) (λ a. a) (or-cases (holds s p) (holds s p) k))
+
+-- a predicate that is not true has no empty term
+pub not-true-full : (p : List ℕ) → T (not (isTrue p)) → (t : ℕ) → In t p → 0 < t
+unfolding isTrue
+not-true-full p n t m =
+    let full : t ≡ 0 → ⊥ =
+    λ e. T-not (isTrue p) n (any-in (λ u. eqb u 0) p t m (subst (λ (u : ℕ). T (eqb u 0)) (sym e) tt)) in
+    omega arith

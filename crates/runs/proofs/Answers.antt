@@ -21,7 +21,8 @@ use Rattle.state.specs.Model.{Datum, State, endLimit}
 use Rattle.state.specs.Layout.{joined}
 use Rattle.state.specs.Form.{datumOk, stateOk}
 use Rattle.state.proofs.StateLaws.{state-out}
-use Rattle.state.proofs.LayoutLaws.{At, all-getD, at-joined, length-joined, num-at}
+use Rattle.state.proofs.LayoutLaws.{At, at-joined, length-joined, num-at}
+use Rattle.predicates.proofs.IndexLaws.{all-getD}
 use Rattle.state.proofs.OkLaws.{ok-datum-out}
 use Rattle.asking.specs.declared.Answer.{Answer}
 use Rattle.asking.specs.declared.Answer.the-variants.{Contradicted, Open, Between}

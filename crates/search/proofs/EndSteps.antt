@@ -1,30 +1,29 @@
 -- One turn of each loop over the ends, and what the listed rows are to the search. No contract cites this file. Assumes nothing.
-use Prim.Native.Nat.{ℕ, zero, suc, _+_, _*_, _-_, _≤_, _<_}
+use Prim.Native.Nat.{ℕ, _+_, _*_, _-_, _≤_, _<_}
 use mathlib.Core.Path.{_≡_, refl, sym, ap, subst, _∙_}
 use mathlib.Core.Logic.{_⊎_, inl, inr, ⊎-elim}
 use mathlib.Core.Bool.{Bool, true, false, _&&_, _||_, not, cond}
-use mathlib.Core.List.{List, [], _∷_, _++_, map, append-nil}
+use mathlib.Core.List.{List, [], _∷_, _++_, map}
 use native.Mathlib.Nat.{le-refl, le-trans}
-use native.Mathlib.Numerals.{add-one}
 use native.Mathlib.Decide.{decLe, decLt}
 use native.Mathlib.Omega.{arith}
 use borrow.Author.Tests.{le-leb, lt-leb, le-ltb, lt-ltb}
 use lib.Dec.{T, eqb, leb, ltb, leb→le, ltb→lt, nltb→le}
 use lib.ListN.{length, getD, take, drop, set, length-append, length-set, length-map, List·getD-append}
-use lib.Seq.{take-suc}
 use lib.Count.{ones}
 use Rattle.names.specs.Sets.{subset, union, noSet}
 use Rattle.names.specs.code.Parts.{minus}
 use Rattle.names.proofs.SetLaws.{ones-empty}
 use Rattle.numbers.specs.Numbers.{put, tab}
 use Rattle.numbers.proofs.NumberLaws.{put-then, put-front, tab-ext}
-use Rattle.predicates.specs.Lists.{keep, In}
+use Rattle.predicates.specs.Lists.{keep}
 use Rattle.predicates.specs.Predicates.{holds}
-use Rattle.predicates.proofs.ListLaws.{both, both-l, both-r, true-T, split, keep-out, keep-append}
+use Rattle.predicates.proofs.ListLaws.{both, both-l, both-r, true-T, split, keep-out}
 use Rattle.search.specs.code.Search.{Rows, rowWidth, Best, RowsFit, rowTerms, predAt, preds}
 use Rattle.search.specs.code.LeftEnds.{outside, noEnd, Next, Last, Latest, Ready, needs, Trying}
 use Rattle.search.proofs.SearchLaws.{best-done}
 use Rattle.search.proofs.SearchSteps.{rest-next, pred-part, term-none, term-skip, term-stop, term-on}
+use Rattle.predicates.proofs.IndexLaws.{at-in, getD-map, kept-pass, kept-take, in-take}
 
 -- ---- the next end
 
@@ -148,18 +147,6 @@ outside-test lefts rights x k = go (decLe (getD lefts k 0) x) (decLe x (getD rig
         rw (le-ltb x (getD lefts k 0) a, lt-ltb (getD rights k 0) x (omega arith), le-leb (getD lefts k 0) x a, lt-leb x (getD rights k 0) (omega arith))
     go (no a) d = rw (lt-ltb x (getD lefts k 0) (omega arith), lt-leb (getD lefts k 0) x (omega arith))
 
-module _ (f : ℕ → Bool) (order : List ℕ) (i : ℕ) (h : i < length order) where
-  kept-last : keep f (take (i + 1) order) ≡ keep f (take i order) ++ keep f (getD order i 0 ∷ [])
-  kept-last =
-      let more : take (i + 1) order ≡ take i order ++ (getD order i 0 ∷ []) = rw add-one (take-suc order i 0 h) in
-      ap (keep f) more ∙ keep-append f (take i order) (getD order i 0 ∷ [])
-
-  pub kept-take : f (getD order i 0) ≡ true → keep f (take (i + 1) order) ≡ keep f (take i order) ++ (getD order i 0 ∷ [])
-  kept-take e = rw e at kept-last
-
-  pub kept-pass : f (getD order i 0) ≡ false → keep f (take (i + 1) order) ≡ keep f (take i order)
-  kept-pass e = (rw e at kept-last) ∙ append-nil (keep f (take i order))
-
 -- the first i of the order looked at, those that pass stand at the front
 pub record Listing (f : ℕ → Bool) (order : List ℕ) (i : ℕ) (l₀ l : List ℕ) (m : ℕ) : Type 0 where
   pub counted : m ≡ length (keep f (take i order))
@@ -191,29 +178,6 @@ module _ (f : ℕ → Bool) (order : List ℕ) where
         record { counted = rw more (w .counted); few = omega (arith, w .few); same = w .same; stored = rw more (w .stored) }
 
 -- ---- the listed rows
-
--- an element of the front of a list by its place
-pub in-take : (n : ℕ) (l : List ℕ) (x : ℕ) → In x (take n l) → (j : ℕ) × (j < n) × (x ≡ getD l j 0)
-in-take zero l x m = absurd m
-in-take (suc n) [] x m = absurd m
-in-take (suc n) (y ∷ l) x (inl e) = (0, omega arith, e)
-in-take (suc n) (y ∷ l) x (inr m) = let r = in-take n l x m in (suc (r .0), omega (arith, r .1), r .2)
-
-pub take-in : (n : ℕ) (l : List ℕ) → n ≤ length l → {x : ℕ} → (j : ℕ) × (j < n) × (x ≡ getD l j 0) → In x (take n l)
-take-in zero l h w = absurd (omega (arith, w .1))
-take-in (suc n) [] h w = absurd (omega arith)
-take-in (suc n) (y ∷ l) h (zero, _, e) = inl e
-take-in (suc n) (y ∷ l) h (suc j, b, e) = inr (take-in n l (omega arith) (j, omega arith, e))
-
-pub at-in : {A : Type 0} (l : List A) (d : A) (j : ℕ) → j < length l → In (getD l j d) l
-at-in [] d j h = absurd (omega arith)
-at-in (x ∷ l) d zero h = inl refl
-at-in (x ∷ l) d (suc j) h = inr (at-in l d j (omega arith))
-
-pub getD-map : {A B : Type 0} (f : A → B) (l : List A) (a : A) (b : B) (j : ℕ) → j < length l → getD (map f l) j b ≡ f (getD l j a)
-getD-map f [] a b j h = absurd (omega arith)
-getD-map f (x ∷ l) a b zero h = refl
-getD-map f (x ∷ l) a b (suc j) h = getD-map f l a b j (omega arith)
 
 -- what passes a test
 module _ (n rows : ℕ) (lefts rights : List ℕ) (table : Rows) (order l₀ l : List ℕ) (ready : Ready n rows lefts rights table order) (long : rows ≤ length l₀)

@@ -18,7 +18,7 @@ use Rattle.predicates.proofs.ListLaws.{all-in, all-out, keep-in, keep-out, map-
 use Rattle.search.specs.code.Search.{Rows, Fits, Best, RowsFit, rowTerms, predAt, preds}
 use Rattle.names.specs.Sets.{noSet}
 use Rattle.search.specs.code.LeftEnds.{outside, noEnd, Next, IsEnd, Unbroken, Ready, LeastSet, needs}
-use Rattle.search.proofs.EndSteps.{in-take, take-in, at-in}
+use Rattle.predicates.proofs.IndexLaws.{in-take, take-in, at-in}
 use Rattle.search.proofs.StretchLaws.{out-empty, under-floor, stretch-is-end, stretches-room, stretch-needs, all-explains}
 
 -- r is the least of the sets W, or no set

@@ -21,7 +21,8 @@ use Rattle.predicates.specs.Predicates.{holds}
 use Rattle.predicates.proofs.ListLaws.{true-T, or-l, or-r, or-cases, all-in, all-out, keep-in, keep-out, map-in, map-out}
 use Rattle.search.specs.code.Search.{Rows, Fits, Best, rowTerms, predAt, preds}
 use Rattle.search.specs.code.LeftEnds.{outside, noEnd, Next, Last, IsEnd, Unbroken, Latest, Ready, needs, FirstEnd, FirstStretch, Unexplained}
-use Rattle.search.proofs.EndSteps.{in-take, at-in, outside-test, take-in}
+use Rattle.predicates.proofs.IndexLaws.{in-take, at-in, take-in}
+use Rattle.search.proofs.EndSteps.{outside-test}
 
 -- ---- rows that lack an instant
 

@@ -18,7 +18,8 @@ use Rattle.predicates.proofs.ListLaws.{both, both-l, both-r}
 use Rattle.state.specs.Model.{Datum, endLimit}
 use Rattle.state.specs.Layout.{zeros, joined, rowBytes, datumBytes, entryBytes, masksAt, rowAt, datumAt, entryAt, datumPlace, entryPlace, datumTerms, entryTerms, rowIn}
 use Rattle.state.specs.Form.{termFits, termsFit, isZero, rowFits, datumFits, entryFits, datumOk}
-use Rattle.state.proofs.LayoutLaws.{all-mono, all-append, all-replicate, all-getD, all-zero, below-in, part, length-part, part-add, slice-part, At, at-first, at-then, at-part, num-at, bytesOf-joined, joined-tab, length-joined, at-joined, length-padded, length-datum, length-entry}
+use Rattle.predicates.proofs.IndexLaws.{all-mono, all-append, all-replicate, all-getD, below-in}
+use Rattle.state.proofs.LayoutLaws.{all-zero, part, length-part, part-add, slice-part, At, at-first, at-then, at-part, num-at, bytesOf-joined, joined-tab, length-joined, at-joined, length-padded, length-datum, length-entry}
 use Rattle.names.specs.Sets.{noSet}
 
 -- ---- places filled up with zeros

@@ -3,42 +3,25 @@
 -- a list of elements of one size by `at-joined`; the way back goes by `part at n s`, the n bytes that stand there.
 -- No contract cites this file. Assumes nothing.
 use Prim.Native.Nat.{ℕ, zero, suc, _+_, _*_, _-_, _^_, _≤_, _<_}
-use mathlib.Core.Path.{_≡_, refl, sym, ap, subst, _∙_}
+use mathlib.Core.Path.{_≡_, refl, sym, ap, _∙_}
 use mathlib.Core.Bool.{Bool, true}
 use mathlib.Core.List.{List, [], _∷_, _++_, append-assoc, append-nil}
-use mathlib.Core.Logic.{_⊎_, inl, inr}
-use native.Mathlib.Nat.{zero-add, add-zero, add-suc, suc-add, suc-mul, zero-mul, eq-or-lt-of-le, le-of-suc-le-suc}
+use native.Mathlib.Nat.{zero-add, add-zero, add-suc, suc-add, suc-mul, zero-mul}
 use native.Mathlib.Omega.{arith}
 use lib.Dec.{T, eqb, eqb→eq}
-use lib.ListN.{length, getD, take, drop, replicate, length-append, length-replicate, length-drop}
+use lib.ListN.{length, getD, take, drop, length-append, length-replicate, length-drop}
 use lib.Seq.{slice, take-nil, take-add, take-at, drop-at, drop-drop, getD-drop, length-take-le}
 use Rattle.numbers.specs.Numbers.{num, bytes, tab, bytesOf}
 use Rattle.numbers.proofs.NumberLaws.{num-bytes, length-bytes, length-bytesOf}
-use Rattle.predicates.specs.Lists.{all, allBelow, padded}
+use Rattle.predicates.specs.Lists.{all, padded}
 use Rattle.predicates.proofs.ListLaws.{both, both-l, both-r}
 use Rattle.state.specs.Model.{Datum}
 use Rattle.state.specs.Layout.{zeros, joined, rowBytes, datumBytes, entryBytes}
+use Rattle.predicates.proofs.IndexLaws.{all-append}
 
 -- ---- tests over all elements
 
 module _ {A : Type 0} where
-  pub all-mono : (f g : A → Bool) (l : List A) → ((x : A) → T (f x) → T (g x)) → T (all f l) → T (all g l)
-  all-mono f g [] h t = tt
-  all-mono f g (x ∷ l) h t = both (g x) (all g l) (h x (both-l (f x) (all f l) t)) (all-mono f g l h (both-r (f x) (all f l) t))
-
-  pub all-append : (f : A → Bool) (l m : List A) → T (all f l) → T (all f m) → T (all f (l ++ m))
-  all-append f [] m t u = u
-  all-append f (x ∷ l) m t u = both (f x) (all f (l ++ m)) (both-l (f x) (all f l) t) (all-append f l m (both-r (f x) (all f l) t) u)
-
-  pub all-replicate : (f : A → Bool) (n : ℕ) (x : A) → T (f x) → T (all f (replicate n x))
-  all-replicate f zero x t = tt
-  all-replicate f (suc n) x t = both (f x) (all f (replicate n x)) t (all-replicate f n x t)
-
-  pub all-getD : (f : A → Bool) (l : List A) (i : ℕ) (d : A) → T (all f l) → i < length l → T (f (getD l i d))
-  all-getD f [] i d t h = absurd (omega arith)
-  all-getD f (x ∷ l) zero d t h = both-l (f x) (all f l) t
-  all-getD f (x ∷ l) (suc i) d t h = all-getD f l i d (both-r (f x) (all f l) t) (omega arith)
-
   pub all-tab : (f : A → Bool) (n : ℕ) (g : ℕ → A) → ((i : ℕ) → i < n → T (f (g i))) → T (all f (tab n g))
   unfolding tab
   all-tab f zero g h = tt
@@ -51,20 +34,6 @@ all-zero [] t = refl
 all-zero (b ∷ l) t =
     let e : b ≡ 0 = eqb→eq b 0 (both-l (eqb b 0) _ t) in
     rw (e, ← (all-zero l (both-r (eqb b 0) _ t)))
-
-pub below-in : (n : ℕ) (f : ℕ → Bool) → ((i : ℕ) → i < n → T (f i)) → T (allBelow n f)
-unfolding allBelow
-below-in zero f h = tt
-below-in (suc n) f h = both (allBelow n f) (f n) (below-in n f (λ i k. h i (omega arith))) (h n (omega arith))
-
-pub below-out : (n : ℕ) (f : ℕ → Bool) → T (allBelow n f) → (i : ℕ) → i < n → T (f i)
-unfolding allBelow
-below-out zero f t i h = absurd (omega arith)
-below-out (suc n) f t i h = last (eq-or-lt-of-le (le-of-suc-le-suc h)) (below-out n f (both-l (allBelow n f) (f n) t) i)
-  where
-    last : (i ≡ n) ⊎ (i < n) → (i < n → T (f i)) → T (f i)
-    last (inl e) rest = subst (λ (k : ℕ). T (f k)) (sym e) (both-r (allBelow n f) (f n) t)
-    last (inr k) rest = rest k
 
 -- ---- parts of a list
 

@@ -17,7 +17,8 @@ use Rattle.state.specs.Model.{State, readingLimit, nameMost, driftMost}
 use Rattle.state.specs.Layout.{stateSize, ownAt, driftAt, readingAt, heldAt, knownAt, dataAt, dataMost, datumSize, entriesAt, entriesMost, entrySize, entryTerms, rowIn, datumTerms}
 use Rattle.state.specs.Layout.{datumBytes, entryBytes, dataBytes, entriesBytes, parts, stateBytes, datumAt, entryAt, datumPlace, entryPlace, heldCount, entryCount, headOf, storeOf, stateOf}
 use Rattle.state.specs.Form.{termsFit, isZero, rowFits, datumFits, entryFits, headFits, dataFit, entriesFit, inForm, headOk, datumOk, storeOk, countsOk, stateOk}
-use Rattle.state.proofs.LayoutLaws.{all-tab, below-out, part, At, num-at}
+use Rattle.state.proofs.LayoutLaws.{all-tab, part, At, num-at}
+use Rattle.predicates.proofs.IndexLaws.{below-out}
 use Rattle.state.proofs.PartLaws.{Sized, placeIn, partSizes, cutFrom, cut-together, length-together, at-part-in, Begins}
 use Rattle.state.proofs.FormLaws.{length-filled, filled-part, places-in, row-out, row-part, length-row-at, datum-size, entry-size, datum-in, entry-in, datum-row, datum-out, datum-part}
 
@@ -88,7 +89,7 @@ module _ (st : State) (t : T (stateOk st)) where
   -- a state that stands at the front of s is read, and in form
   module _ (s : List ℕ) (h : At 0 (stateBytes st) s) where
     -- part k stands at its place
-    stands : (k : ℕ) → k < 7 → At (0 + placeIn partSizes k) (getD (parts st) k []) s
+    stands : (k : ℕ) → k < length (parts st) → At (0 + placeIn partSizes k) (getD (parts st) k []) s
     unfolding stateBytes parts
     stands k l = at-part-in partSizes (parts st) k 0 s parts-sized l h
 

@@ -13,7 +13,8 @@ use Rattle.predicates.proofs.ListLaws.{keep-append}
 use Rattle.state.specs.Model.{Datum, datum}
 use Rattle.state.specs.Layout.{datumTerms}
 use Rattle.state.specs.code.Tables.{Columns, columns, ColumnsFit, hasTerms, datumIn, dataIn}
-use Rattle.entries.proofs.TableLaws.{table-less, table-appended, rows-before, row-last}
+use Rattle.state.proofs.RowLaws.{table-less}
+use Rattle.entries.proofs.TableLaws.{table-appended, rows-before, row-last}
 
 -- ---- a datum put last
 

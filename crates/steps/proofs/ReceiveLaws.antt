@@ -3,9 +3,9 @@
 -- predicate, and what is explained stays so to the end of the step; so step 2 ends the receipt before rule 15 comes.
 -- No contract cites this file. Assumes nothing.
 use Prim.Native.Nat.{ℕ, _+_, _^_, _≤_, _<_}
-use mathlib.Core.Path.{_≡_, refl, sym, ap₂, subst}
+use mathlib.Core.Path.{_≡_, refl, ap₂}
 use mathlib.Core.Logic.{_⊎_, inl, inr, ⊎-elim}
-use mathlib.Core.Bool.{Bool, true, _&&_, _||_, not, cond}
+use mathlib.Core.Bool.{Bool, true, _&&_, not, cond}
 use mathlib.Core.List.{List, [], _∷_, _++_}
 use native.Mathlib.Omega.{arith}
 use lib.Dec.{T, T-not, not-T, eqb, eqb→eq, ltb, lt→ltb, nltb→le}
@@ -14,45 +14,20 @@ use lib.Pow.{pow-lt}
 use Rattle.names.specs.Sets.{has, noSet}
 use Rattle.names.proofs.SetLaws.{digit-single-other, has-out}
 use Rattle.predicates.specs.Lists.{any, all, keep, In}
-use Rattle.predicates.specs.Predicates.{holds, implies, isTrue, struck, isNormal, normal, formed}
-use Rattle.predicates.proofs.ListLaws.{both, both-l, both-r, or-cases, neither, split, cond-ind}
+use Rattle.predicates.specs.Predicates.{implies, isTrue, normal, formed}
+use Rattle.predicates.proofs.ListLaws.{both, both-l, both-r, neither, split, cond-ind}
 use Rattle.predicates.proofs.ListLaws.{in-l, in-r, in-cases, any-in, any-out, all-out, keep-in, keep-out, all-keep, length-keep}
-use Rattle.predicates.proofs.PredicateLaws.{holds-sum, holds-normal, implies-in, implies-refl, implies-trans, normal-normal, normal-out, normal-some, formed-out}
+use Rattle.predicates.proofs.PredicateLaws.{implies-refl, implies-trans, normal-normal, normal-out, normal-some, formed-out, formed-some, formed-normal, sum-twice, not-true-full}
 use Rattle.predicates.proofs.PlaceLaws.{length-normal}
 use Rattle.state.specs.Model.{Datum, Store, nameMost}
 use Rattle.state.specs.Form.{termFits, termsFit, datumOk, storeOk}
-use Rattle.state.proofs.LayoutLaws.{all-append}
+use Rattle.predicates.proofs.IndexLaws.{all-append}
 use Rattle.steps.specs.Steps.{disjoint, learnt, unexplained, same, meet, met, without, betters, stored, heldAfter, received, settled}
 use Rattle.entries.specs.Entries.{explained, learn}
 use Rattle.state.proofs.OkLaws.{OkDatum, ok-datum-in, ok-datum-out, ok-terms-in, ok-terms-out}
 use Rattle.state.specs.Layout.{datumTerms, entryTerms}
 
--- ---- predicates
-
-pub formed-some : (own sender : ℕ) (p : List ℕ) → 0 < length (formed own sender p)
-unfolding formed
-formed-some own sender p = normal-some (2 ^ sender ∷ struck own p) (omega arith)
-
-pub formed-normal : (own sender : ℕ) (p : List ℕ) → T (isNormal (formed own sender p))
-unfolding formed
-formed-normal own sender p = normal-normal (2 ^ sender ∷ struck own p)
-
--- a sum of a predicate with itself
-sum-twice : (p : List ℕ) → T (implies (normal (p ++ p)) p)
-sum-twice p =
-    implies-in (normal (p ++ p)) p (λ s h.
-    let k : T (holds s p || holds s p) = rw (holds-normal s (p ++ p), holds-sum s p p) at h in
-    ⊎-elim (λ a. a) (λ a. a) (or-cases (holds s p) (holds s p) k))
-
 -- ---- the new datum
-
--- a predicate that is not true has no empty term
-pub not-true-full : (p : List ℕ) → T (not (isTrue p)) → (t : ℕ) → In t p → 0 < t
-unfolding isTrue
-not-true-full p n t m =
-    let full : t ≡ 0 → ⊥ =
-    λ e. T-not (isTrue p) n (any-in (λ u. eqb u 0) p t m (subst (λ (u : ℕ). T (eqb u 0)) (sym e) tt)) in
-    omega arith
 
 -- the sender's term is without the own name
 single-free : (own sender : ℕ) → (sender ≡ own → ⊥) → T (not (has own (2 ^ sender)))

@@ -1,17 +1,16 @@
 -- The four steps on data in columns: what each loop tests, gives up and leaves, as facts on the list of data that the columns hold.
 -- No contract cites this file. Assumes nothing.
-use Prim.Native.Nat.{ℕ, zero, suc, _+_, _*_, _-_, _≤_, _<_}
-use mathlib.Core.Path.{_≡_, refl, sym, ap, ap₂, subst, _∙_}
+use Prim.Native.Nat.{ℕ, zero, suc, _+_, _-_, _≤_, _<_}
+use mathlib.Core.Path.{_≡_, refl, sym, ap, ap₂, _∙_}
 use mathlib.Core.Bool.{Bool, true, false, _&&_, _||_, not, cond}
 use mathlib.Core.List.{List, [], _∷_, _++_, append-assoc, append-nil}
 use native.Mathlib.Nat.{add-zero, add-suc}
 use native.Mathlib.Numerals.{add-one}
 use native.Mathlib.Omega.{arith}
-use native.Mathlib.Decide.{ℕ-discrete, decLt}
 use borrow.Author.Tests.{eq-eqb, ne-eqb, eqb-true}
 use lib.Dec.{eqb}
-use lib.ListN.{length, getD, drop, set, length-append, length-set, drop-of-length-le}
-use lib.Seq.{getD-set-same, getD-set-other, set-out}
+use lib.ListN.{length, getD, drop, set, length-append, drop-of-length-le}
+use lib.Seq.{getD-set-same, getD-set-other}
 use Rattle.numbers.specs.Numbers.{tab}
 use Rattle.predicates.specs.Lists.{any, keep}
 use Rattle.predicates.specs.Predicates.{normal}
@@ -19,7 +18,7 @@ use Rattle.predicates.proofs.LoopLaws.{drop-next}
 use Rattle.state.specs.Model.{Datum, Store}
 use Rattle.steps.specs.Steps.{disjoint, learnt, unexplained, same, meet, met, without, betters, stored, heldAfter, settled}
 use Rattle.entries.specs.Entries.{explained, learn}
-use Rattle.state.specs.code.Tables.{table, columns, TableFits, rowOf, hasTerms, datumIn, dataIn}
+use Rattle.state.specs.code.Tables.{table, columns, rowOf, hasTerms, datumIn, dataIn}
 use Rattle.state.specs.Model.{datum}
 use Rattle.entries.specs.code.Marks.{givenUp}
 use Rattle.steps.specs.code.Rows.{FirstRow, liveBelow}
@@ -264,29 +263,6 @@ pub learnt-last : (n : Datum) (xs : List Datum) (d : Datum) (es : List (List ℕ
 unfolding learnt
 learnt-last n [] d es = refl
 learnt-last n (x ∷ xs) d es = learnt-last n xs d (cond (disjoint x n) (learn (normal (x .terms ++ n .terms)) es) es)
-
--- ---- tables
-
-pub table-more : (w n k : ℕ) (counts masks : List ℕ) → TableFits w n (table counts masks) → k ≤ length counts → k * w ≤ length masks → TableFits w k (table counts masks)
-table-more w n k counts masks t a b = record { counted = a; long = b; narrow = t .narrow }
-
-pub table-zero : (w n i : ℕ) (counts masks : List ℕ) → TableFits w n (table counts masks) → TableFits w n (table (set counts i 0) masks)
-table-zero w n i counts masks t =
-    record { counted = omega (arith, t .counted, length-set counts i 0); long = t .long; narrow = λ k. go k (ℕ-discrete k i) (decLt i (length counts)) }
-  where
-    go : (k : ℕ) → Dec (k ≡ i) → Dec (i < length counts) → getD (set counts i 0) k 0 ≤ w
-    go k (yes p) (yes q) = subst (λ (j : ℕ). getD (set counts i 0) j 0 ≤ w) (sym p) (omega (arith, getD-set-same counts i 0 0 q))
-    go k (yes p) (no q) = subst (λ (l : List ℕ). getD l k 0 ≤ w) (sym (set-out counts i 0 (omega arith))) (t .narrow k)
-    go k (no p) q = omega (arith, getD-set-other counts i k 0 0 p, t .narrow k)
-
--- ---- a test that has failed so far
-
-pub below-next : (f : ℕ → Bool) (i : ℕ) → ((k : ℕ) → k < i → f k ≡ false) → f i ≡ false → (k : ℕ) → k < i + 1 → f k ≡ false
-below-next f i h e k p = go (ℕ-discrete k i)
-  where
-    go : Dec (k ≡ i) → f k ≡ false
-    go (yes q) = ap f q ∙ e
-    go (no q) = h k (omega arith)
 
 -- a turn of step 1
 pub learnt-next : (n : Datum) (d : ℕ → Datum) (i : ℕ) (before after es : List (List ℕ)) → before ≡ learnt n (tab i d) es

@@ -16,7 +16,7 @@ use Rattle.state.specs.Layout.{stateOf, headOf}
 use Rattle.state.specs.Refusal.{after}
 use Rattle.state.proofs.StateLaws.{state-out, form-ok}
 use Rattle.engine.specs.Receiving.{grown}
-use Rattle.steps.proofs.ReceiveLaws.{formed-some}
+use Rattle.predicates.proofs.PredicateLaws.{formed-some}
 use Rattle.engine.proofs.ReceiptCalls.{row-front, first-place, formed-true, receipt-own, receipt-end, receipt-terms, receipt-true, receipt-steps}
 use borrow.Author.Needs.{needs}
 use Rattle.engine.proofs.receipt.deliver.Statement.{statement}

@@ -3,7 +3,8 @@ use mathlib.Core.Path.{refl, sym, _∙_}
 use native.Mathlib.Omega.{arith}
 use native.Mathlib.Nat.{suc-mul}
 use Rattle.entries.specs.Entries.{learn}
-use Rattle.entries.proofs.TableLaws.{table-less, marked-less, learn-table, learn-marked, learn-rows}
+use Rattle.state.proofs.RowLaws.{table-less}
+use Rattle.entries.proofs.TableLaws.{marked-less, learn-table, learn-marked, learn-rows}
 use borrow.Author.Needs.{needs}
 use Rattle.entries.proofs.tables.learn.Statement.{statement}
 use Rattle.entries.proofs.tables.learn.Tie as tie

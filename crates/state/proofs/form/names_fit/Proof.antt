@@ -1,5 +1,4 @@
 -- `state::form::names_fit` meets its contract: the code is the definition.
-use Prim.Native.Nat.{_^_}
 use mathlib.Core.Path.{ap}
 use mathlib.Core.Bool.{Bool, _&&_, not}
 use lib.Dec.{ltb}

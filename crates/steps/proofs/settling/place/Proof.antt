@@ -8,7 +8,8 @@ use Rattle.state.specs.code.Tables.{columns, ColumnsFit, datumOf, dataIn}
 use Rattle.steps.specs.Steps.{met, without, stored}
 use Rattle.entries.proofs.TableLaws.{table-given-up}
 use Rattle.steps.proofs.ColumnLaws.{columns-less, columns-added, data-added}
-use Rattle.steps.proofs.StepLaws.{table-more, data-bettered, stored-kept, stored-new}
+use Rattle.state.proofs.RowLaws.{table-more}
+use Rattle.steps.proofs.StepLaws.{data-bettered, stored-kept, stored-new}
 use borrow.Author.Needs.{needs}
 use Rattle.steps.proofs.settling.place.Statement.{statement}
 use Rattle.steps.proofs.settling.place.Tie as tie

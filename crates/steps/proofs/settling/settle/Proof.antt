@@ -4,7 +4,8 @@ use Prim.Native.Nat.{_+_}
 use mathlib.Core.Path.{sym, _∙_}
 use native.Mathlib.Omega.{arith}
 use Rattle.state.specs.code.Tables.{columns, ColumnsFit, storeIn}
-use Rattle.entries.proofs.TableLaws.{table-less, table-given-up}
+use Rattle.state.proofs.RowLaws.{table-less}
+use Rattle.entries.proofs.TableLaws.{table-given-up}
 use Rattle.steps.proofs.ColumnLaws.{columns-less}
 use Rattle.steps.proofs.StepLaws.{data-unexplained, held-explained, held-placed, settled-by}
 use borrow.Author.Needs.{needs}

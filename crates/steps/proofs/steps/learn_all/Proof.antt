@@ -9,7 +9,8 @@ use Rattle.steps.specs.Steps.{learnt}
 use Rattle.state.specs.code.Tables.{table, columns, TableFits, entriesIn, datumOf, datumIn}
 use Rattle.entries.specs.code.Marks.{Marked}
 use Rattle.state.proofs.RowLaws.{table-room, row-lent, row-length}
-use Rattle.steps.proofs.StepLaws.{table-more, learnt-next}
+use Rattle.state.proofs.RowLaws.{table-more}
+use Rattle.steps.proofs.StepLaws.{learnt-next}
 use borrow.Author.Needs.{needs}
 use Rattle.steps.proofs.steps.learn_all.Statement.{statement}
 use Rattle.steps.proofs.steps.learn_all.Tie as tie

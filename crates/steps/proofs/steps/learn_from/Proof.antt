@@ -9,7 +9,7 @@ use Rattle.predicates.specs.Predicates.{normal}
 use Rattle.predicates.proofs.PredicateLaws.{normal-some}
 use Rattle.predicates.proofs.SumLaws.{padded-front}
 use Rattle.steps.specs.Steps.{disjoint}
-use Rattle.steps.proofs.StepLaws.{table-more}
+use Rattle.state.proofs.RowLaws.{table-more}
 use borrow.Author.Needs.{needs}
 use Rattle.steps.proofs.steps.learn_from.Statement.{statement}
 use Rattle.steps.proofs.steps.learn_from.Tie as tie

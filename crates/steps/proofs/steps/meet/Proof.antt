@@ -6,7 +6,8 @@ use lib.ListN.{length}
 use Rattle.steps.specs.Steps.{meet}
 use Rattle.state.specs.Model.{datum}
 use Rattle.state.specs.code.Tables.{datumOf, datumIn}
-use Rattle.steps.proofs.StepLaws.{meet-none, meet-met, meet-without, table-zero}
+use Rattle.steps.proofs.StepLaws.{meet-none, meet-met, meet-without}
+use Rattle.state.proofs.RowLaws.{table-zero}
 use borrow.Author.Needs.{needs}
 use Rattle.steps.proofs.steps.meet.Statement.{statement}
 use Rattle.steps.proofs.steps.meet.Tie as tie
