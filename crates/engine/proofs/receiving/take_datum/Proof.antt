@@ -41,9 +41,10 @@ settle-requires c κs =
     let form = a .pre .0 .1 in
     let read = c .before .before .before .before .before .before .before .before .before .before .before .before .before .before .before .before .get-data .ensures in
     let entries = c .before .before .before .before .before .before .before .before .get-entries .ensures in
-    let some = few (c .before .before .before .before .before .before .before .before .before .before .before .before .before .before .before .before .before .before .before .before .before .before) in
+    let at-known = c .before .before .before .before .before .before .before .before .before .before .before .before .before .before .before .before .before .before .before .before .before .before in
+    let some = few at-known in
     let h = c .before .before .before .before .before .before .before .before .before .before .before .before .before .before .before .before .before .before .before .before .before .before .before .before .get32 .ensures .0 in
-    let n = c .before .before .before .before .before .before .before .before .before .before .before .before .before .before .before .before .before .before .before .before .before .before .get322 .ensures .0 in
+    let n = at-known .get322 .ensures .0 in
     let rows = data-rows _ s form h _ _ _ _ _ _ _ _ (read .0) (read .1 .0) (read .1 .1 .0) (read .1 .1 .1) in
     let held = data-form _ s form h _ _ _ _ _ _ _ _ (read .0) (read .1 .0) (read .1 .1 .0) (read .1 .1 .1) in (
       data-columns _ s form h _ _ _ _ _ _ _ _ (read .0) (read .1 .0) (read .1 .1 .0) (read .1 .1 .1) _ (omega arith) (columns-fresh _ 17 17 17 136 (omega arith) (omega arith) (omega arith) (omega arith)),
@@ -86,9 +87,10 @@ put-store-requires : tie.Need-put-store-requires
 put-store-requires c κs =
     let a = c .before .before .before .before .before .before .before .before .before .before .before .before .before .before .before .before .before .before .before .before .before .before .before .before .before .before .before .before .before .before .before .before .before .before .before .before .before .before .before .before .before .before .before .before .before .before .before .before in
     let left = c .before .before .before .before .before .before .before .before .before .before .before .before .before .before .before .before .before .before .before .settle .ensures in
-    let counted = c .before .before .before .before .before .before .before .before .before .before .count .ensures in
+    let at-count = c .before .before .before .before .before .before .before .before .before .before in
+    let counted = at-count .count .ensures in
     let some = few (c .before .before .before .before .before .before .before .before .before .before .before .before .before .before .before .before .before .before .before .before .before .before .before .before .before .before .before .before .before .before .before .before .before .before .before .before .before .before .before .before .before .before) in
-    let enough = few-counts (c .before .before .before .before .before .before .before .before .before .before .count .result .held) (c .before .before .before .before .before .before .before .before .before .before .count .result .known) (c .before .before .before .before .before .before .before .if1 .left) in (
+    let enough = few-counts (at-count .count .result .held) (at-count .count .result .known) (c .before .before .before .before .before .before .before .if1 .left) in (
       (left .1 .0, left .1 .1 .0),
       (
         omega (arith, held-live _ _ _ _ (left .1 .0) (left .1 .1 .0), counted .0, enough .0),

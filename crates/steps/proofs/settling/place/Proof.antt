@@ -39,8 +39,9 @@ drop-bettered-requires c κs =
 room : (c : tie.After-drop-bettered) → let a = c .before .before .before .before .before .before .before .before .before .before .before .before .before .before .before .before .before .before .before .before .before .before .before .args in
     ColumnsFit (a .h + 1) (columns (a .lefts .now) (a .rights .now) (c .drop-bettered .last .1 .1 .0) (a .terms .now))
 room c =
-    let fits = c .before .before .before .before .before .before .before .before .before .before .before .before .before .before .before .before .before .before .before .before .before .before .before .pre .0 in
-    let more = table-more 8 _ (c .before .before .before .before .before .before .before .before .before .before .before .before .before .before .before .before .before .before .before .before .before .before .before .args .h + 1) _ _ (c .before .before .before .before .before .before .before .before .before .before .before .before .before .meet .ensures .1 .1) (omega (arith, fits .table .counted)) (fits .table .long) in
+    let start = c .before .before .before .before .before .before .before .before .before .before .before .before .before .before .before .before .before .before .before .before .before .before .before in
+    let fits = start .pre .0 in
+    let more = table-more 8 _ (start .args .h + 1) _ _ (c .before .before .before .before .before .before .before .before .before .before .before .before .before .meet .ensures .1 .1) (omega (arith, fits .table .counted)) (fits .table .long) in
     record {
       table = rw (c .drop-bettered .ensures) (table-given-up 8 _ _ _ _ _ more (omega arith));
       lefts-long = fits .lefts-long;
