@@ -1,10 +1,9 @@
 // In form (document 01, "State bytes"), tested on the bytes: each call makes this test before it reads anything else.
 ghost use mathlib.Core.Path.{_≡_};
-ghost use mathlib.Core.Bool.{_&&_, not};
+ghost use mathlib.Core.Bool.{_&&_};
 ghost use Prim.Native.Nat.{_+_, _*_, _≤_, _<_};
 ghost use lib.ListN.{length};
-ghost use lib.Dec.{eqb, ltb};
-ghost use Rattle.names.specs.Sets.{has, noSet};
+ghost use lib.Dec.{eqb};
 ghost use Rattle.predicates.specs.Lists.{all, allBelow};
 ghost use Rattle.predicates.specs.Predicates.{isNormal};
 ghost use Rattle.state.specs.Layout.{stateSize, dataMost, entriesMost, entryTerms, datumPlace, entryPlace};
@@ -43,38 +42,31 @@ fn all_zero(p: &[u32]) -> bool
     v == 0
 }
 
-// Whether t names none above 28 and not the own one.
-fn names_fit(t: u32, own: u32) -> bool
-    requires { ⌜ own < 32 ⌝ }
-    ensures { λ r. ⌜ r ≡ (ltb t noSet && not (has own t)) ⌝ }
-{
-    (t < names::NO_SET) & !names::has(own, t)
-}
-
-// Whether p is in normal form and each of its terms has a name, none above 28 and not the own one. Masks that rise from 0 have a name, and of those
-// that rise only an earlier one can lie in a later one.
+// Whether p is in normal form and each of its terms has a name, none above 28 and not the own one. From the last term on each is below the one
+// behind it, and lies in none of those: of masks that rise only an earlier one can lie in a later one. A term with a name that is not among those
+// behind it (`all`) lies in none of them, which nearly always decides.
 fn terms_fit(p: &[u32], own: u32) -> bool
     requires { ⌜ own < 32 ⌝ }
     ensures { λ r. ⌜ r ≡ (isNormal (now (p .entry)) && all (termFits own) (now (p .entry))) ⌝ }
 {
-    let mut last: u32 = 0;
-    let mut i: usize = 0;
-    while i < p.len() {
-        let next = i + 1;
-        let t = p[i];
-        if t <= last {
+    let mut next: u32 = names::NO_SET;
+    let mut all: u32 = 0;
+    let mut i: usize = p.len();
+    while 0 < i {
+        let t = p[i - 1];
+        if next <= t {
             return false;
         }
-        if !names_fit(t, own) {
-            return false;
+        if names::subset(t, all) {
+            if predicates::contained(t, &p[i..]) {
+                return false;
+            }
         }
-        if predicates::contained(t, &p[next..]) {
-            return false;
-        }
-        last = t;
-        i = next;
+        all = names::union(all, t);
+        next = t;
+        i -= 1;
     }
-    true
+    (0 < next) & !names::has(own, all)
 }
 
 // Whether the row at `at` fits: its count, the terms in use, and zeros behind them.
