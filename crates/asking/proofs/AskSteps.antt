@@ -19,10 +19,10 @@ use Rattle.names.specs.code.Parts.{others}
 use Rattle.names.proofs.SetLaws.{subset-refl}
 use Rattle.names.proofs.PartLaws.{others-lt}
 use Rattle.predicates.specs.Lists.{In}
-use Rattle.state.specs.Model.{Datum, Store, State, endLimit, nameMost}
+use Rattle.state.specs.Model.{Datum, Store, State, endLimit}
 use Rattle.state.specs.Layout.{datumPlace, heldCount, entryCount, datumAt, headOf, storeOf, stateOf, ownAt, rightIn}
 use Rattle.state.specs.Form.{inForm}
-use Rattle.state.proofs.StateLaws.{state-out, length-held, length-entries, form-ok}
+use Rattle.state.proofs.StateLaws.{length-held, length-entries, form-ok}
 use Rattle.state.proofs.StoreLaws.{column-front, length-column}
 use Rattle.asking.specs.declared.Answer.the-variants.{Contradicted, Open, Between}
 use Rattle.asking.specs.Asking.{interval, greatestLeft, leastRight, answer}
@@ -298,10 +298,6 @@ module _ (s : List ℕ) (t : T (inForm s)) (n rows : ℕ) (table : Rows) (order 
     unfolding stateOf headOf
     between-none limit free g every end set first h =
         ends-contradicted limit (stateOf s) n rows table order loaded complete every l r ends-bounded end set (rw g at first) h
-
-pub own-fits : (s : List ℕ) → T (inForm s) → num ownAt 4 s ≤ nameMost
-unfolding stateOf headOf
-own-fits s t = state-out (stateOf s) (form-ok s t) .own-le
 
 -- no other name is beyond 28
 pub free-lt : (own free : ℕ) → free ≡ others own → free < noSet

@@ -2,3 +2,4 @@
 pub mod TableLaws
 pub mod PartingLaws
 pub mod OrderLaws
+pub mod DegreeLaws

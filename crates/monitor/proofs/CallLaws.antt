@@ -27,7 +27,7 @@ use Rattle.state.proofs.StateLaws.{datum-at-ok, length-datum-at}
 use Rattle.state.specs.Refusal.{after}
 use Rattle.state.proofs.LentLaws.{refuse-none, lent-passed}
 use Rattle.state.proofs.OkLaws.{ok-datum-out, ok-terms-out}
-use Rattle.asking.proofs.AskSteps.{own-fits}
+use Rattle.state.proofs.StateLaws.{own-fits}
 use Rattle.monitor.specs.Messages.{readBytes, readNumber, readingBytes, answered}
 use Rattle.monitor.specs.Calls.{writtenWords, writtenBytes, writeNumber, writeOutput}
 use Rattle.names.specs.Sets.{noSet}

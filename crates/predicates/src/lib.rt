@@ -11,6 +11,9 @@ ghost use Rattle.predicates.specs.Lists.{any, all};
 ghost use Rattle.predicates.specs.Predicates.{degree as Predicates·degree, holds as Predicates·holds, implies as Predicates·implies};
 ghost use Rattle.predicates.specs.Predicates.{precedes, isNormal};
 
+// The degree of false, which has no terms: above every count of names.
+pub const DEGREE_OF_FALSE: u32 = 30;
+
 // Whether the set s makes p true.
 pub fn holds(p: &[u32], s: u32) -> bool
     ensures { λ r. ⌜ r ≡ Predicates·holds s (now (p .entry)) ⌝ }
@@ -39,11 +42,11 @@ pub fn implies(p: &[u32], q: &[u32]) -> bool
     true
 }
 
-// The number of names in the smallest term of p; 30 where there is none.
+// The number of names in the smallest term of p; where there is none, more than there are names.
 pub fn degree(p: &[u32]) -> u32
     ensures { λ r. ⌜ (r ≡ Predicates·degree (now (p .entry))) × (r ≤ 30) ⌝ }
 {
-    let mut least: u32 = 30;
+    let mut least: u32 = DEGREE_OF_FALSE;
     let mut i: usize = 0;
     while i < p.len() {
         let count = names::count(p[i]);

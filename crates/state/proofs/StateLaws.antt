@@ -237,3 +237,8 @@ module _ (s : List ℕ) (t : T (inForm s)) where
     pub begins-form : Begins (parts (stateOf s)) s s
     unfolding stateBytes
     begins-form = record { sized = parts-sized (stateOf s) form-ok; stored = sym put-state-same }
+
+-- the own name of a state in form
+pub own-fits : (s : List ℕ) → T (inForm s) → num ownAt 4 s ≤ nameMost
+unfolding stateOf headOf
+own-fits s t = state-out (stateOf s) (form-ok s t) .own-le

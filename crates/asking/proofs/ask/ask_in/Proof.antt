@@ -6,7 +6,8 @@ use Rattle.names.specs.code.Parts.{others}
 use Rattle.names.proofs.SetLaws.{ones-empty}
 use Rattle.state.proofs.StateLaws.{held-count-le, entry-count-le}
 use Rattle.asking.proofs.ArrayLaws.{order-rows}
-use Rattle.asking.proofs.AskSteps.{own-fits, asked-open, asked-tied}
+use Rattle.state.proofs.StateLaws.{own-fits}
+use Rattle.asking.proofs.AskSteps.{asked-open, asked-tied}
 use borrow.Author.Needs.{needs}
 use Rattle.asking.proofs.ask.ask_in.Statement.{statement}
 use Rattle.asking.proofs.ask.ask_in.Tie as tie

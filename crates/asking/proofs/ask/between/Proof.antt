@@ -2,7 +2,8 @@
 use mathlib.Core.Path.{ap, _∙_}
 use native.Mathlib.Omega.{arith}
 use Rattle.names.specs.code.Parts.{others}
-use Rattle.asking.proofs.AskSteps.{own-fits, rows-fit, ends-bounded, ends-low, ends-ready, mirror-ready, between-none, between-room, between-is, free-lt}
+use Rattle.state.proofs.StateLaws.{own-fits}
+use Rattle.asking.proofs.AskSteps.{rows-fit, ends-bounded, ends-low, ends-ready, mirror-ready, between-none, between-room, between-is, free-lt}
 use borrow.Author.Needs.{needs}
 use Rattle.asking.proofs.ask.between.Statement.{statement}
 use Rattle.asking.proofs.ask.between.Tie as tie
