@@ -72,6 +72,38 @@ module _ (k : Store) where
       not-T (leb 1 x && leb x 0) (λ t.
       absurd (omega (arith, leb→le 1 x (both-l (leb 1 x) (leb x 0) t), leb→le x 0 (both-r (leb 1 x) (leb x 0) t))))
 
+  module _ (rows : ℕ) (r : rows ≡ length entries + length (k .held)) (f : List ℕ → Bool) where
+    -- what is true of the predicates is true of the claims
+    pub everything-at : T (all f (everything k)) → (i : ℕ) → i < rows → T (f (claimAt k i .terms))
+    unfolding everything
+    everything-at h i l = go (decLt i (length entries))
+      where
+        parts : T (all f entries) × ((d : Datum) → In d (k .held) → T (f (d .terms)))
+        parts = claims-out f entries (k .held) h
+
+        go : Dec (i < length entries) → T (f (claimAt k i .terms))
+        go (yes a) = rw (claim-entry i a) (all-out f entries (parts .0) (getD entries i []) (at-in entries [] i a))
+        go (no a) =
+            let place : i ≡ length entries + (i - length entries) = omega arith in
+            let same : claimAt k i ≡ getD (k .held) (i - length entries) (entryClaim []) = ap (claimAt k) place ∙ claim-datum (i - length entries) in
+            rw same (parts .1 _ (at-in (k .held) (entryClaim []) (i - length entries) (omega arith)))
+
+    pub at-everything : ((i : ℕ) → i < rows → T (f (claimAt k i .terms))) → T (all f (everything k))
+    unfolding everything
+    at-everything g = claims-in f entries (k .held) (all-in f entries entry) datum
+      where
+        entry : (e : List ℕ) → In e entries → T (f e)
+        entry e m =
+            let w = in-at entries [] e m in
+            let t : T (f (getD entries (w .0) [])) = rw (claim-entry (w .0) (w .1)) at (g (w .0) (omega (arith, w .1))) in
+            rw (w .2) t
+
+        datum : (d : Datum) → In d (k .held) → T (f (d .terms))
+        datum d m =
+            let w = in-at (k .held) (entryClaim []) d m in
+            let c : claimAt k (length entries + w .0) ≡ d = claim-datum (w .0) ∙ sym (w .2) in
+            rw c at (g (length entries + w .0) (omega (arith, w .1)))
+
   module _ (rows : ℕ) (r : rows ≡ length entries + length (k .held)) (u : ℕ) where
     -- u makes each claim true whose interval lacks the instant
     abbrev Each : ℕ → Type 0
@@ -110,36 +142,11 @@ module _ (k : Store) where
             let c : claimAt k (length entries + w .0) ≡ d = claim-datum (w .0) ∙ sym (w .2) in
             (rw c at (f (length entries + w .0) (omega (arith, w .1)))) (m .1)
 
-    -- u makes every claim true
     pub everything-each : T (all (holds u) (everything k)) → (i : ℕ) → i < rows → T (holds u (claimAt k i .terms))
-    unfolding everything
-    everything-each h i l = go (decLt i (length entries))
-      where
-        parts : T (all (holds u) entries) × ((d : Datum) → In d (k .held) → T (holds u (d .terms)))
-        parts = claims-out (holds u) entries (k .held) h
-
-        go : Dec (i < length entries) → T (holds u (claimAt k i .terms))
-        go (yes a) = rw (claim-entry i a) (all-out (holds u) entries (parts .0) (getD entries i []) (at-in entries [] i a))
-        go (no a) =
-            let place : i ≡ length entries + (i - length entries) = omega arith in
-            let same : claimAt k i ≡ getD (k .held) (i - length entries) (entryClaim []) = ap (claimAt k) place ∙ claim-datum (i - length entries) in
-            rw same (parts .1 _ (at-in (k .held) (entryClaim []) (i - length entries) (omega arith)))
+    everything-each = everything-at rows r (holds u)
 
     pub each-everything : ((i : ℕ) → i < rows → T (holds u (claimAt k i .terms))) → T (all (holds u) (everything k))
-    unfolding everything
-    each-everything f = claims-in (holds u) entries (k .held) (all-in (holds u) entries entry) datum
-      where
-        entry : (e : List ℕ) → In e entries → T (holds u e)
-        entry e m =
-            let w = in-at entries [] e m in
-            let t : T (holds u (getD entries (w .0) [])) = rw (claim-entry (w .0) (w .1)) at (f (w .0) (omega (arith, w .1))) in
-            rw (w .2) t
-
-        datum : (d : Datum) → In d (k .held) → T (holds u (d .terms))
-        datum d m =
-            let w = in-at (k .held) (entryClaim []) d m in
-            let c : claimAt k (length entries + w .0) ≡ d = claim-datum (w .0) ∙ sym (w .2) in
-            rw c at (f (length entries + w .0) (omega (arith, w .1)))
+    each-everything = at-everything rows r (holds u)
 
 -- ---- the arrays
 

@@ -4,15 +4,17 @@
 use Prim.Native.Nat.{ℕ, _+_, _-_, _≤_, _<_}
 use mathlib.Core.Path.{_≡_, sym, ap, _∙_}
 use mathlib.Core.Bool.{false}
-use mathlib.Core.Logic.{_⊎_, inl, inr, ⊎-elim}
+use mathlib.Core.Logic.{inl, inr, ⊎-elim}
 use mathlib.Core.List.{List, []}
 use native.Mathlib.Decide.{decLt}
 use native.Mathlib.Omega.{arith}
 use lib.Count.{ones}
+use lib.Dec.{T}
 use lib.ListN.{length, getD}
 use Rattle.names.specs.Sets.{noSet}
 use Rattle.names.specs.code.Parts.{others}
 use Rattle.state.specs.Model.{Datum, Store, State}
+use Rattle.state.specs.Form.{stateOk}
 use Rattle.search.specs.code.Search.{Rows}
 use Rattle.asking.specs.declared.Fewest.the-variants.{Over, Few}
 use Rattle.asking.specs.Instants.{Allowed}
@@ -20,6 +22,8 @@ use Rattle.claims.specs.code.Tables.{entryClaim, claimAt, Loaded, Bounded}
 use Rattle.search.specs.code.LeftEnds.{outside, Complete, LeastSet}
 use Rattle.asking.specs.Asking.{answer}
 use Rattle.asking.specs.Fewest.{notContradicted, fewest, Works}
+use Rattle.asking.specs.code.Claims.{FirstLimit, Floor}
+use Rattle.asking.proofs.QuickLaws.{hopeless-none}
 use Rattle.predicates.proofs.IndexLaws.{at-in}
 use Rattle.asking.proofs.ArrayLaws.{fits-allowed, allowed-fits, claim-datum, order-everything, everything-order, needs-needed, needed-needs, left-outside}
 use Rattle.predicates.proofs.IndexLaws.{in-at}
@@ -63,12 +67,18 @@ module _ (k : Store) (n rows : ℕ) (table : Rows) (order lefts rights : List �
 
 -- ---- by rising limits
 
--- every set that works has so many names
-pub record Floor (st : State) (limit : ℕ) : Type 0 where
-  pub under : (s : ℕ) → Works st s → limit ≤ ones s
-
 pub floor-one : (st : State) → notContradicted (answer 0 st) ≡ false → Floor st 1
 floor-one st e = record { under = λ s w. omega (arith, works-failed st e s w) }
+
+-- the limits that the entries rule out are below it
+pub floor-first : (st : State) → T (stateOk st) → notContradicted (answer 0 st) ≡ false → (from : ℕ) → FirstLimit st from → Floor st from
+floor-first st ok e from w = record { under = λ s v. go s v (decLt (ones s) from) }
+  where
+    go : (s : ℕ) → Works st s → Dec (ones s < from) → from ≤ ones s
+    go s v (no l) = omega arith
+    go s v (yes l) =
+        let a : Allowed (ones s) (st .head .own) s = record { names = v .0 .names; few = omega arith; others = v .0 .others } in
+        absurd (hopeless-none (ones s) st ok (w .before (ones s) (floor-one st e .under s v) l) s a (v .1 .1 .0))
 
 pub floor-over : (st : State) → Floor st 5 → Over ≡ fewest st
 floor-over st f = fewest-over st (λ s w. omega (arith, f .under s w, w .0 .few))
@@ -85,12 +95,14 @@ module _ {st : State} {n rows : ℕ} {table : Rows} {order lefts rights : List �
       least-out n rows lefts rights table order limit (others own) r w .least s
       (seen-tried (st .store) n rows table order lefts rights (p .loaded) (p .bounded) (p .complete) limit own s a (works-ends st s v))
 
-  pub floor-found : r < noSet → Few limit r ≡ fewest st
-  floor-found h =
+  pub floor-found : r < noSet → (count : ℕ) → count ≡ ones r → Few count r ≡ fewest st
+  floor-found h count c =
       let t = tried-seen (st .store) n rows table order lefts rights (p .loaded) (p .bounded) (p .complete) limit own r
       (⊎-elim (λ e. absurd (omega arith)) (λ t. t) (w .from)) in
       let a : Allowed 4 own r = record { names = t .0 .names; few = omega (arith, t .0 .few); others = t .0 .others } in
-      fewest-found st limit r (ends-works st r a (t .1)) (t .0 .few) (floor .under) least-works
+      let works = ends-works st r a (t .1) in
+      let size : count ≡ limit = omega (arith, t .0 .few, floor .under r works) in
+      rw size (fewest-found st limit r works (t .0 .few) (floor .under) least-works)
 
   pub floor-next : noSet ≤ r → Floor st (limit + 1)
   floor-next h = record { under = λ s v. go s v (decLt limit (ones s)) }

@@ -4,6 +4,7 @@ pub mod InstantLaws
 pub mod ClaimLaws
 pub mod AnswerLaws
 pub mod PlainLaws
+pub mod QuickLaws
 pub mod EndLaws
 pub mod FewestLaws
 pub mod ArrayLaws

@@ -130,7 +130,21 @@ fit-bare own width p h =
     let some : T (ltb 0 (r .0)) = both-l (ltb 0 (r .0)) _ (all-out (termFits own) p terms (r .0) (r .1)) in
     omega (arith, ltb→lt 0 (r .0) some, subset-empty (r .0) (r .2)))
 
+fit-terms : (own width : ℕ) (p : List ℕ) → T (termsFit own width p) → T (all (termFits own) p)
+unfolding termsFit
+fit-terms own width p h = search (both-l, both-r) depth 9
+
 module _ (st : State) (ok : T (stateOk st)) where
+  -- each term of a predicate fits
+  pub form-terms : T (all (all (termFits (st .head .own))) (everything (st .store)))
+  unfolding everything datumOk
+  form-terms =
+      let o = state-out st ok in
+      let own = st .head .own in
+      claims-in (all (termFits own)) (st .store .entries) (st .store .held)
+      (all-mono (termsFit own entryTerms) (all (termFits own)) (st .store .entries) (fit-terms own entryTerms) (o .entries))
+      (λ d m. let h = all-out (datumOk own) (st .store .held) (o .held) d m in fit-terms own 8 (d .terms) (search (both-l, both-r) depth 9))
+
   -- "no empty term"
   pub form-bare : T (all (λ p. not (holds 0 p)) (everything (st .store)))
   unfolding everything datumOk

@@ -2,14 +2,17 @@
 ghost use mathlib.Core.Path.{_≡_};
 ghost use mathlib.Core.List.{_++_};
 ghost use Prim.Native.Nat.{ℕ, _+_, _-_, _≤_, _<_, min, max};
-ghost use lib.Dec.{T};
+ghost use mathlib.Core.Bool.{_&&_};
+ghost use lib.Dec.{T, leb};
 ghost use lib.ListN.{length, getD, drop};
 ghost use Rattle.numbers.specs.Numbers.{tab};
 ghost use Rattle.state.specs.Layout.{heldCount, entryCount, storeOf, stateOf, stateSize, dataMost, entriesMost};
 ghost use Rattle.state.specs.Form.{inForm};
 ghost use Rattle.asking.specs.Asking.{greatestLeft, leastRight, answer};
 ghost use Rattle.asking.specs.Fewest.{notContradicted};
-ghost use Rattle.asking.specs.code.Claims.{everything, Explained};
+ghost use Rattle.asking.specs.code.Claims.{everything, Explained, hopeless as Claims·hopeless};
+ghost use Rattle.predicates.specs.Lists.{allBelow};
+ghost use Rattle.claims.specs.code.Degrees.{degreeWithin};
 ghost use Rattle.claims.specs.code.Tables.{Loaded, Room};
 ghost use Rattle.asking.specs.code.Sizes.{fewRows, lastEnd};
 ghost use Rattle.search.specs.code.LeftEnds.{Complete};
@@ -280,6 +283,28 @@ fn ask_many(s: &[u8], limit: u32, n: usize, rows: usize) -> Answer
     )
 }
 
+// Whether the entries tell by themselves that no set within the limit makes all of them true.
+pub fn hopeless(s: &[u8], n: usize, limit: u32) -> bool
+    requires { ⌜ (stateSize ≤ length (now s)) × T (inForm (now s)) × (n ≡ entryCount (now s)) ⌝ }
+    ensures { λ r. ⌜ r ≡ Claims·hopeless limit (stateOf (now (s .entry))) ⌝ }
+{
+    if limit == 1 {
+        return claims::degrees::undecided(s, n);
+    }
+    !claims::degrees::within(s, n, n, limit)
+}
+
+// Whether every claim needs one name at most and there are no more claims than the limit has names: then a set within it makes all of them true.
+fn affordable(s: &[u8], n: usize, rows: usize, limit: u32) -> bool
+    requires { ⌜ (stateSize ≤ length (now s)) × T (inForm (now s)) × (n ≡ entryCount (now s)) × (rows ≤ n + heldCount (now s)) ⌝ }
+    ensures { λ r. ⌜ r ≡ (leb rows limit && allBelow rows (degreeWithin (storeOf (now (s .entry))) 1)) ⌝ }
+{
+    if (limit as usize) < rows {
+        return false;
+    }
+    claims::degrees::within(s, n, rows, 1)
+}
+
 // The answer over a state in form.
 pub fn ask(s: &[u8], limit: u32) -> Answer
     requires { ⌜ (stateSize ≤ length (now s)) × T (inForm (now s)) ⌝ }
@@ -290,7 +315,13 @@ pub fn ask(s: &[u8], limit: u32) -> Answer
     }
     let h = numbers::get32(s, state::HELD_AT) as usize;
     let n = numbers::get32(s, state::KNOWN_AT) as usize;
+    if hopeless(s, n, limit) {
+        return Answer::Contradicted;
+    }
     let rows = n + h;
+    if affordable(s, n, rows, limit) {
+        return Answer::Open;
+    }
     if rows <= FEW_ROWS {
         return ask_few(s, limit, n, rows);
     }

@@ -3,19 +3,32 @@ ghost use mathlib.Core.Path.{_≡_};
 ghost use Prim.Native.Nat.{_≤_};
 ghost use lib.Dec.{T};
 ghost use lib.ListN.{length};
-ghost use Rattle.state.specs.Layout.{stateOf, stateSize};
+ghost use Rattle.state.specs.Layout.{stateOf, stateSize, entryCount};
 ghost use Rattle.state.specs.Form.{inForm};
 ghost use Rattle.asking.specs.Fewest.{fewest};
+ghost use Rattle.asking.specs.code.Claims.{FirstLimit, Floor};
 use super::Fewest;
 
-// The fewest failures that explain a state in form.
-pub fn fewest_failures(s: &[u8]) -> Fewest
-    requires { ⌜ (stateSize ≤ length (now s)) × T (inForm (now s)) ⌝ }
+// The first limit that the n entries do not rule out by themselves; 5 where they rule out all.
+fn first_limit(s: &[u8], n: usize) -> u32
+    requires { ⌜ (stateSize ≤ length (now s)) × T (inForm (now s)) × (n ≡ entryCount (now s)) ⌝ }
+    ensures { λ r. ⌜ FirstLimit (stateOf (now (s .entry))) r ⌝ }
+{
+    let mut limit: u32 = 1;
+    while limit < 5 {
+        if !super::ask::hopeless(s, n, limit) {
+            return limit;
+        }
+        limit += 1;
+    }
+    limit
+}
+
+// The fewest failures that explain a state in form, where no set of fewer than `from` names does.
+fn fewest_from(s: &[u8], from: u32) -> Fewest
+    requires { ⌜ (stateSize ≤ length (now s)) × T (inForm (now s)) × (from ≤ 5) × Floor (stateOf (now s)) from ⌝ }
     ensures { λ r. ⌜ r ≡ fewest (stateOf (now (s .entry))) ⌝ }
 {
-    if super::ask::agree(s) {
-        return Fewest::Few(0, 0);
-    }
     let own = numbers::get32(s, state::OWN_AT);
     let h = numbers::get32(s, state::HELD_AT) as usize;
     let n = numbers::get32(s, state::KNOWN_AT) as usize;
@@ -42,7 +55,7 @@ pub fn fewest_failures(s: &[u8]) -> Fewest
     claims::get_ends(s, n, rows, &mut lefts, &mut rights);
     let free = names::others(own);
     let mut listed = [0u32; search::ROWS_MOST];
-    let mut limit: u32 = 1;
+    let mut limit = from;
     while limit < 5 {
         let set = search::least::least_within(
             &lefts,
@@ -60,9 +73,24 @@ pub fn fewest_failures(s: &[u8]) -> Fewest
             free,
         );
         if set < names::NO_SET {
-            return Fewest::Few(limit, set);
+            return Fewest::Few(names::count(set), set);
         }
         limit += 1;
     }
     Fewest::Over
+}
+
+// The fewest failures that explain a state in form.
+pub fn fewest_failures(s: &[u8]) -> Fewest
+    requires { ⌜ (stateSize ≤ length (now s)) × T (inForm (now s)) ⌝ }
+    ensures { λ r. ⌜ r ≡ fewest (stateOf (now (s .entry))) ⌝ }
+{
+    if super::ask::agree(s) {
+        return Fewest::Few(0, 0);
+    }
+    let from = first_limit(s, numbers::get32(s, state::KNOWN_AT) as usize);
+    if 4 < from {
+        return Fewest::Over;
+    }
+    fewest_from(s, from)
 }

@@ -46,7 +46,7 @@ one-not-empty c e z = absurd (omega (arith, e, ap ones z, ones-empty))
 
 -- ---- the mask
 
-singles-in : (p : List ℕ) (t : ℕ) → In t p → T (isSingle t) → T (subset t (singles p))
+pub singles-in : (p : List ℕ) (t : ℕ) → In t p → T (isSingle t) → T (subset t (singles p))
 unfolding singles
 singles-in [] t m h = absurd m
 singles-in (v ∷ p) t (inl e) h =
