@@ -1,4 +1,5 @@
 -- Demand 3 and what it rests on, lowest first: what a receipt and an ageing mean for one set, what a run keeps, the answers, and the table of cases.
+pub mod Demand1
 pub mod ReceiptMeaning
 pub mod AgeingMeaning
 pub mod Agreement

@@ -1,3 +1,4 @@
+pub mod Demand1
 pub mod Book
 pub mod Runs
 pub mod Cases
