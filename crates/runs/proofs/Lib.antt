@@ -1,5 +1,6 @@
 -- Demand 3 and what it rests on, lowest first: what a receipt and an ageing mean for one set, what a run keeps, the answers, and the table of cases.
 pub mod Demand1
+pub mod SameBytes
 pub mod ReceiptMeaning
 pub mod AgeingMeaning
 pub mod Agreement
