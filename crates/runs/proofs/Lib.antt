@@ -8,4 +8,5 @@ pub mod Runs
 pub mod Answers
 pub mod Demand3
 pub mod Further
+pub mod DecodedRuns
 pub mod WorkedCases
