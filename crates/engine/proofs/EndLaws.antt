@@ -1,7 +1,7 @@
 -- "30 an end would pass 2^58 − 1": testing the right ends alone is testing both ends of every datum.
 -- The idea: an ageing and a receipt leave left at most right, so a left end never passes where the right one does not. No contract cites this file.
 -- Assumes nothing.
-use Prim.Native.Nat.{ℕ, _+_, _≤_, _<_}
+use Prim.Native.Nat.{ℕ, _≤_, _<_}
 use mathlib.Core.Path.{_≡_, refl, ap, _∙_}
 use mathlib.Core.Bool.{Bool, true, false, _||_}
 use mathlib.Core.List.{List, [], _∷_, map}
@@ -10,18 +10,14 @@ use borrow.Author.Tests.{lt-leb, leb-false}
 use lib.Dec.{T, leb}
 use Rattle.predicates.specs.Lists.{any, all}
 use Rattle.predicates.proofs.ListLaws.{both-l, both-r}
-use Rattle.state.specs.Model.{Datum, Store, State, endLimit}
+use Rattle.state.specs.Model.{Datum, State, endLimit}
 use Rattle.state.specs.Form.{datumOk, stateOk}
 use Rattle.state.proofs.OkLaws.{ok-datum-out}
 use Rattle.state.proofs.StateLaws.{state-out}
 use Rattle.engine.specs.Ageing.{slow, fast, widened, aged}
 use Rattle.engine.specs.Receiving.{Delivery, grown}
-use Rattle.engine.specs.Refusals.{passesEnd, agesPast, growsPast}
+use Rattle.engine.specs.Refusals.{anEndPasses, passesEnd, agesPast, growsPast}
 use Rattle.engine.proofs.CallLaws.{slow-fast, Heard, grown-ends}
-
--- one of the ends lies beyond 2^58 − 1
-abbrev pub anEndPasses : Datum → Bool
-anEndPasses d = leb endLimit (d .left) || leb endLimit (d .right)
 
 pub right-decides : (d : Datum) → d .left ≤ d .right → leb endLimit (d .right) ≡ anEndPasses d
 right-decides d h = go (leb endLimit (d .right)) refl

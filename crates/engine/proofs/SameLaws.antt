@@ -1,16 +1,16 @@
 -- Two taken calls that change nothing: an ageing to the last reading, and a receipt whose predicate is true.
 -- The idea: no time has passed, so both advances are 0, and every end of a right state fits as it did; a predicate that is true has the empty term
 -- alone in normal form, and the store stays. No contract cites this file. Assumes nothing.
-use Prim.Native.Nat.{ℕ, _+_, _*_, _-_, _/_, _≤_, _<_}
-use mathlib.Core.Path.{_≡_, refl, sym, ap, _∙_}
+use Prim.Native.Nat.{ℕ, _-_, _≤_}
+use mathlib.Core.Path.{_≡_, refl}
 use mathlib.Core.Logic.{⊎-elim}
-use mathlib.Core.Bool.{Bool, true, false, _&&_, _||_, not, cond}
+use mathlib.Core.Bool.{false, not}
 use mathlib.Core.List.{List, [], _∷_, map}
 use native.Mathlib.Nat.{add-zero, zero-mul, sub-self}
 use native.Mathlib.Omega.{arith}
 use borrow.Author.Tests.{lt-leb, le-ltb}
 use lib.Dec.{T, T-not, eqb, eqb→eq, leb, ltb, ltb→lt}
-use lib.ListN.{length, getD}
+use lib.ListN.{length}
 use Rattle.names.specs.Sets.{subset}
 use Rattle.names.proofs.SetLaws.{empty-subset}
 use Rattle.predicates.specs.Lists.{any, all}

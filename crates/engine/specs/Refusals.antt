@@ -6,7 +6,7 @@ use mathlib.Core.Bool.{Bool, _||_}
 use lib.Dec.{eqb, leb, ltb}
 use lib.ListN.{length}
 use Rattle.predicates.specs.Lists.{any}
-use Rattle.state.specs.Model.{Head, Store, State, nameMost, driftMost, endLimit, readingLimit}
+use Rattle.state.specs.Model.{Datum, Head, Store, State, nameMost, driftMost, endLimit, readingLimit}
 use Rattle.state.specs.Layout.{datumTerms}
 use Rattle.state.specs.Refusal.{refuse}
 use Rattle.engine.specs.Ageing.{slow, fast, aged}
@@ -39,7 +39,11 @@ setUpRefusal u =
 abbrev pub goesBack : Head → ℕ → Bool
 goesBack h reading = ltb reading (h .reading)
 
--- "30 an end would pass 2^58 − 1"; a right end decides (`passes-both` of `proofs.EndLaws`)
+-- "30 an end would pass 2^58 − 1": one of the datum's two ends lies beyond it
+abbrev pub anEndPasses : Datum → Bool
+anEndPasses d = leb endLimit (d .left) || leb endLimit (d .right)
+
+-- the same, where left is at most right: the right end decides (`passes-both` and `grown-both` of `proofs.EndLaws`)
 unfoldable pub passesEnd : Store → Bool
 passesEnd k = any (λ d. leb endLimit (d .right)) (k .held)
 
@@ -68,7 +72,7 @@ delaysFail least greatest = ltb greatest least || ltb delayMost greatest
 abbrev pub fromSelf : State → Delivery → Bool
 fromSelf st g = eqb (g .sender) (st .head .own)
 
--- 30: the grown interval's end; the right one decides (`grown-both` of `proofs.EndLaws`)
+-- 30, of the grown interval
 abbrev pub growsPast : State → Delivery → Bool
 growsPast st g = leb endLimit (grown (st .head .own) g .right)
 

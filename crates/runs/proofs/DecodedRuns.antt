@@ -2,7 +2,7 @@
 -- So a run with written-out requests computes on a few numbers instead of 3,032 bytes.
 -- The idea: a taken call stores a right state, which is read back as it was stored (`put-state`); a refused one leaves the bytes. Assumes nothing.
 use Prim.Native.Nat.{ℕ, _≤_}
-use mathlib.Core.Path.{_≡_, refl, sym, ap, _∙_}
+use mathlib.Core.Path.{_≡_, refl, ap, _∙_}
 use mathlib.Core.Bool.{Bool, true, false, cond}
 use mathlib.Core.List.{List, [], _∷_}
 use native.Mathlib.Omega.{arith}
@@ -21,7 +21,8 @@ use Rattle.engine.specs.Refusals.{setUpRefusal, ageRefusal}
 use Rattle.engine.proofs.CallLaws.{set-up-ok, age-ok}
 use Rattle.monitor.specs.Calls.{setUpNumber, setUpState, ageNumber, ageState}
 use Rattle.monitor.specs.Receive.{delivered, deliveredState, receiptNumber, receiveNumber, receiveState}
-use Rattle.monitor.proofs.FormKept.{put-state, set-up-form, length-set-up, age-form, length-age, delivered-ok, receive-passed, receive-form, length-receive}
+use Rattle.monitor.proofs.FormKept.{put-state, set-up-form, length-set-up, age-form, length-age, delivered-ok, receive-passed, receive-form}
+use Rattle.monitor.proofs.FormKept.{length-receive}
 use Rattle.runs.specs.Book.{Request, ageing, receipt, Step}
 use Rattle.runs.specs.Runs.{requestNumber, bytesAfter, bytesRun, steps, Run, begin, stateAfter, stepsOf}
 

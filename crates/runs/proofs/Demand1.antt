@@ -1,65 +1,58 @@
--- Demand 1 over all exported calls, and the two taken calls that leave every byte.
+-- Demand 1 over all exported calls.
 -- The idea: a number is a nest of tests, and so is the first failing test of a list; they are the same nest once a reading is taken apart test by
 -- test. The lent bytes have one shape for all calls (`after`): a refusal leaves them, and a taken call stores as many bytes as its layout
 -- names, since it stores a right state, three or two or four numbers of 8 bytes, or a message in ends form. Assumes nothing.
-use Prim.Native.Nat.{ℕ, _+_, _*_, _-_, _%_, _≤_, _<_}
+use Prim.Native.Nat.{ℕ, _+_, _-_, _%_, _≤_}
 use mathlib.Core.Path.{_≡_, refl, sym, ap, _∙_}
 use mathlib.Core.Bool.{Bool, true, false, not, cond, _||_}
 use mathlib.Core.List.{List, [], _∷_, _++_, map}
+use mathlib.Core.Logic.{inl, inr}
 use native.Mathlib.Omega.{arith}
 use borrow.Author.Tests.{le-ltb, lt-ltb, le-leb, lt-leb, leb-true, leb-false, ltb-true, ltb-false}
-use lib.Dec.{T, ltb, leb, eqb, eqb→eq}
+use lib.Dec.{T, ltb, leb, eqb, eqb→eq, ltb→lt, nltb→le}
 use lib.ListN.{length, getD, drop}
-use Rattle.numbers.specs.Numbers.{Bytes, bytes, bytesOf, wordsOf, put}
+use Rattle.numbers.specs.Numbers.{bytes, bytesOf, wordsOf, put, num}
 use Rattle.predicates.specs.Predicates.{isNormal}
-use Rattle.predicates.proofs.ListLaws.{cond-ind}
+use Rattle.predicates.specs.Lists.{all, In}
+use Rattle.predicates.proofs.ListLaws.{T-false, cond-ind, both-l, both-r}
 use Rattle.message.specs.Words.{payload, masks, endsLimit}
-use Rattle.message.specs.Read.{senderOf, countOf, headWordFits, isEnds, opens, start, span, pair, middle, kindsFit, checkFits, withSpan, readForm, readFrom, readWords}
+use Rattle.message.specs.Read.{senderOf, countOf, headWordFits, isEnds, opens, start, span, pair, middle, kindsFit, checkFits, withSpan, readForm}
+use Rattle.message.specs.Read.{readFrom, readWords}
 use Rattle.message.specs.Write.{rewrittenAs}
 use Rattle.message.specs.declared.Interval.{Interval}
 use Rattle.message.specs.declared.Interval.the-variants.{Span, Bad}
 use Rattle.message.specs.declared.Reading.{Reading}
 use Rattle.message.specs.declared.Reading.the-variants.{Message, Refused}
 use Rattle.message.proofs.ReadLaws.{read-out, refused-above}
-use Rattle.state.specs.Layout.{stateSize, stateOf}
-use Rattle.state.specs.Refusal.{refuse, lent, after}
-use Rattle.state.proofs.PutLaws.{drop-put}
-use Rattle.state.proofs.LentLaws.{after-refused, length-after}
-use Rattle.engine.specs.Refusals.{setUpRefusal, ageRefusal, receiptRefusal}
-use Rattle.monitor.specs.Messages.{readBytes, answered, readingBytes, readNumber, readOutput, rewriteNumber, rewriteOutput}
-use Rattle.runs.specs.Demand1.{Exported, returned, lentBytes, leftBytes, listed, Test, firstFailing, wordsFail, countFails, endsFail, layoutSize, tests, Refuses, Demand1}
-use Rattle.numbers.specs.Numbers.{num}
 use Rattle.message.proofs.MessageLaws.{length-message}
-use Rattle.state.specs.Layout.{ownAt, datumAt}
-use Rattle.engine.specs.Refusals.{delaysFail}
-use Rattle.monitor.specs.Messages.{wordsIn, rewrittenBytes}
-use Rattle.monitor.specs.Calls.{setUpNumber, ageNumber, writeNumber, writtenWords, writtenBytes}
-use Rattle.monitor.specs.Receive.{Receipt, Delivered, delivered, deliveredAs, deliveredNumber, receiveNumber}
-use Rattle.monitor.specs.Ask.{askNumber, fewestNumber}
-use Rattle.monitor.proofs.MessageCalls.{read-words-in, words-in-taken, length-rewritten-bytes}
-use Rattle.monitor.proofs.CallLaws.{length-written-bytes}
-use Rattle.runs.specs.Demand1.{ofDelivered, endsFormSize, outputTests, deliveryTests}
-use mathlib.Core.Logic.{inl, inr}
-use lib.Dec.{ltb→lt, nltb→le}
-use Rattle.predicates.specs.Lists.{all, In}
-use Rattle.predicates.proofs.ListLaws.{both-l, both-r}
-use Rattle.state.specs.Layout.{stateBytes, joined}
+use Rattle.state.specs.Layout.{stateSize, stateOf, ownAt, datumAt, stateBytes, joined}
+use Rattle.state.specs.Refusal.{refuse, lent, after}
+use Rattle.state.specs.Form.{inForm}
+use Rattle.state.proofs.PutLaws.{drop-put}
+use Rattle.state.proofs.LentLaws.{after-refused, length-after, refuse-none, lent-passed}
 use Rattle.state.proofs.StateLaws.{length-state, form-ok}
-use Rattle.state.proofs.LentLaws.{refuse-none, lent-passed}
+use Rattle.engine.specs.Refusals.{setUpRefusal, ageRefusal, receiptRefusal, delaysFail, fromSelf, termsFail, overfills}
 use Rattle.engine.specs.Calls.{setUp, age, done}
-use Rattle.engine.proofs.CallLaws.{set-up-ok, age-ok}
+use Rattle.engine.specs.Receiving.{Delivery}
+use Rattle.engine.proofs.CallLaws.{set-up-ok, age-ok, Heard}
+use Rattle.engine.proofs.EndLaws.{passes-both, grown-both}
 use Rattle.asking.specs.declared.Answer.{Answer}
 use Rattle.asking.specs.declared.Answer.the-variants.{Contradicted, Open, Between}
 use Rattle.asking.specs.declared.Fewest.{Fewest}
 use Rattle.asking.specs.declared.Fewest.the-variants.{Over, Few}
 use Rattle.asking.specs.Asking.{answer, answerNumbers}
 use Rattle.asking.specs.Fewest.{fewest, fewestNumbers}
-use Rattle.monitor.specs.Calls.{setUpState, ageState, writeOutput}
-use Rattle.monitor.specs.Receive.{deliveredState, receiptNumber, receiveState}
-use Rattle.monitor.specs.Ask.{wide, answerSize, fewestSize, askedBytes, askOutput, fewestBytes, fewestOutput}
-use Rattle.monitor.proofs.FormKept.{delivered-ok, receive-passed}
-use Rattle.runs.specs.Demand1.{test, tooShort}
-use Rattle.runs.specs.Demand1.{monitorSetUp, monitorAge, monitorReceive, monitorAsk, monitorFewest, monitorWrite, messageRead, messageRewrite, messageTests}
+use Rattle.monitor.specs.Messages.{readBytes, answered, readingBytes, readNumber, readOutput, rewriteNumber, rewriteOutput, wordsIn, rewrittenBytes}
+use Rattle.monitor.specs.Calls.{setUpNumber, ageNumber, writeNumber, writtenWords, writtenBytes, setUpState, ageState, writeOutput}
+use Rattle.monitor.specs.Receive.{Receipt, brings, delivered, deliveredAs, deliveredNumber, receiveNumber, deliveredState, receiptNumber}
+use Rattle.monitor.specs.Receive.{receiveState}
+use Rattle.monitor.specs.Ask.{askNumber, fewestNumber, wide, answerSize, fewestSize, askedBytes, askOutput, fewestBytes, fewestOutput}
+use Rattle.monitor.proofs.MessageCalls.{delays-fit, read-words-in, words-in-taken, length-rewritten-bytes}
+use Rattle.monitor.proofs.CallLaws.{length-written-bytes}
+use Rattle.monitor.proofs.FormKept.{heard-in, delivered-ok, receive-passed}
+use Rattle.runs.specs.Demand1.{Exported, returned, lentBytes, leftBytes, listed, Test, firstFailing, wordsFail, countFails, endsFail}
+use Rattle.runs.specs.Demand1.{layoutSize, tests, Demand1, ofDelivered, endsFormSize, outputTests, deliveryTests, test, tooShort, monitorSetUp}
+use Rattle.runs.specs.Demand1.{monitorAge, monitorReceive, monitorAsk, monitorFewest, monitorWrite, messageRead, messageRewrite, messageTests}
 
 -- ---- a message's tests
 
@@ -144,21 +137,46 @@ unfolding writtenWords
 written-size s position =
     omega (arith, length-written-bytes s position, length-message (num ownAt 4 s) (datumAt s position .left) (datumAt s position .right) (datumAt s position .terms))
 
+-- what comes behind a test matters only where it lets pass
+refuse-same : (b : Bool) (number m n : ℕ) → (T (not b) → m ≡ n) → refuse b number m ≡ refuse b number n
+refuse-same true number m n h = refl
+refuse-same false number m n h = h tt
+
+lent-same : (s : List ℕ) (m n : ℕ) → (T (inForm s) → m ≡ n) → lent s m ≡ lent s n
+unfolding lent
+lent-same s m n h = refuse-same (ltb (length s) stateSize) 24 _ _ (λ _. go (inForm s) h)
+  where
+    go : (b : Bool) → (T b → m ≡ n) → refuse (not b) 25 m ≡ refuse (not b) 25 n
+    go true f = f tt
+    go false f = refl
+
+-- the tests of a lent state
+lent-nest : (s : List ℕ) (n : ℕ) → lent s n ≡ refuse (tooShort stateSize s) 24 (refuse (not (inForm s)) 25 n)
+unfolding lent
+lent-nest s n = refl
+
+age-number : (s : List ℕ) (reading : ℕ) → returned (monitorAge s reading) ≡ firstFailing (tests (monitorAge s reading))
+unfolding returned tests firstFailing ageNumber ageRefusal stateOf
+age-number s reading = lent-same s _ _ (λ t. rw (passes-both (stateOf s) reading (form-ok s t))) ∙ lent-nest s _
+
 receive-number : (s : List ℕ) (g : Receipt) → returned (monitorReceive s g) ≡ firstFailing (tests (monitorReceive s g))
-unfolding returned tests receiveNumber lent delivered deliveredNumber deliveredAs firstFailing receiptRefusal ofDelivered
+unfolding returned tests receiveNumber delivered deliveredNumber deliveredAs firstFailing receiptRefusal ofDelivered
 receive-number s g =
     let st = stateOf s in
-    ap (λ (k : ℕ). lent s (refuse (delaysFail (g .least) (g .greatest)) 21 k))
-    (read-first (g .message) (λ r. deliveredNumber st (deliveredAs g r)) (deliveryTests st (delivered g)) (λ n. refl)
-    (λ s′ l r n e. rw e (brought s′ l r n)))
+    ap (λ (k : ℕ). lent s k) (refuse-same (delaysFail (g .least) (g .greatest)) 21 _ _ (λ d.
+    read-first (g .message) (λ r. deliveredNumber st (deliveredAs g r)) (deliveryTests st (delivered g)) (λ n. refl)
+    (λ s′ l r n e. rw e (brought _ (heard-in (g .least) (g .greatest) (g .message) (delays-fit (g .least) (g .greatest) (T-false _ d) .0) e)))))
+    ∙ lent-nest s _
   where
-    brought : (s′ l r n : ℕ) → deliveredNumber (stateOf s) (deliveredAs g (Message s′ l r n)) ≡ firstFailing (deliveryTests (stateOf s) (deliveredAs g (Message s′ l r n)))
-    brought s′ l r n = refl
+    brought : (d : Delivery) → Heard d → receiptRefusal (stateOf s) d ≡ firstFailing (deliveryTests (stateOf s) (brings d))
+    brought d h =
+        let st = stateOf s in
+        ap (λ (b : Bool). refuse (fromSelf st d) 18 (refuse b 30 (refuse (termsFail st d) 31 (refuse (overfills st d) 32 0)))) (grown-both st d h)
 
 number-first : (c : Exported) → returned c ≡ firstFailing (tests c)
 unfolding returned tests firstFailing setUpNumber setUpRefusal ageNumber ageRefusal askNumber fewestNumber writeNumber lent layoutSize stateOf
 number-first (monitorSetUp s u) = refl
-number-first (monitorAge s reading) = refl
+number-first (monitorAge s reading) = age-number s reading
 number-first (monitorReceive s g) = receive-number s g
 number-first (monitorAsk s limit out) = refl
 number-first (monitorFewest s out) = refl

@@ -3,22 +3,21 @@
 -- (`put-state-same`). Assumes nothing.
 use Prim.Native.Nat.{ℕ, _≤_}
 use mathlib.Core.Path.{_≡_, refl, ap, _∙_}
-use mathlib.Core.Bool.{Bool, not}
 use mathlib.Core.List.{List}
 use lib.Dec.{T, eqb}
 use lib.ListN.{length}
 use Rattle.numbers.specs.Numbers.{Bytes, put}
 use Rattle.predicates.proofs.ListLaws.{cond-ind, T-false}
 use Rattle.state.specs.Model.{State}
-use Rattle.state.specs.Layout.{stateSize, stateBytes, headOf, stateOf}
+use Rattle.state.specs.Layout.{stateSize, stateBytes, stateOf}
 use Rattle.state.specs.Form.{inForm}
 use Rattle.state.specs.Refusal.{after}
 use Rattle.state.proofs.StateLaws.{form-ok, put-state-same}
 use Rattle.state.proofs.LentLaws.{lent-next}
-use Rattle.engine.specs.Refusals.{ageRefusal, delaysFail}
+use Rattle.engine.specs.Refusals.{delaysFail}
 use Rattle.engine.proofs.SameLaws.{age-same, receive-same, receive-true}
 use Rattle.monitor.specs.Calls.{ageNumber, ageState}
-use Rattle.monitor.specs.Receive.{delivered, deliveredNumber, deliveredState, receiptNumber, receiveNumber, receiveState}
+use Rattle.monitor.specs.Receive.{delivered, deliveredNumber, deliveredState, receiveNumber, receiveState}
 use Rattle.runs.specs.Demand1.{EqualReading, TrueReceipt}
 
 -- the state that is there, stored or not

@@ -2,19 +2,20 @@
 -- The idea: each row is tested on the states that its bytes hold (`proofs.DecodedRuns`), with numbers that are written out, so the whole table
 -- computes, the reading of the messages' bytes too; and a row that passes holds of the bytes. Assumes nothing.
 use Prim.Native.Nat.{ℕ, _≤_}
-use mathlib.Core.Path.{_≡_, refl, sym, ap, subst, _∙_}
+use mathlib.Core.Path.{_≡_, refl, ap, _∙_}
 use mathlib.Core.Bool.{Bool, true, false, _&&_}
 use mathlib.Core.List.{List, [], _∷_}
 use native.Mathlib.Omega.{arith}
-use lib.Dec.{T, eqb, eqb→eq, ltb, nltb→le}
+use lib.Dec.{T, eqb, eqb→eq, nltb→le}
 use lib.ListN.{length}
 use Rattle.names.specs.Sets.{subset, union, has}
 use Rattle.numbers.specs.Numbers.{num, bytes, tab, wordsOf, bytesOf}
 use Rattle.predicates.specs.Lists.{all}
 use Rattle.predicates.specs.Predicates.{holds, implies, isTrue, isNormal, struck, insert, rising, minimal, normal, formed}
-use Rattle.predicates.proofs.ListLaws.{both, both-l, both-r, T-true, all-out}
+use Rattle.predicates.proofs.ListLaws.{both-l, both-r, T-true, all-out}
 use Rattle.message.specs.Words.{ofKind, masks, wordSum, check}
-use Rattle.message.specs.Read.{headWordFits, isEnds, opens, width, spanKinds, middle, kindsFit, checkFits, pair, span, withSpan, readForm, readFrom, readWords, termWords}
+use Rattle.message.specs.Read.{headWordFits, isEnds, opens, width, spanKinds, middle, kindsFit, checkFits, pair, span, withSpan, readForm, readFrom}
+use Rattle.message.specs.Read.{readWords, termWords}
 use Rattle.message.specs.Write.{endWords, front, body, messageWords}
 use Rattle.state.specs.Model.{Datum, datum, State}
 use Rattle.state.specs.Layout.{stateSize, headOf, storeOf, stateOf}
@@ -35,7 +36,7 @@ use Rattle.monitor.specs.Receive.{delivered, deliveredAs, deliveredNumber, deli
 use Rattle.monitor.specs.Calls.{ageNumber}
 use Rattle.monitor.specs.Ask.{limitMost, limitFails, limitRefusal, askNumber}
 use Rattle.runs.specs.Book.{Step}
-use Rattle.runs.specs.Runs.{stateAfter, stepsOf}
+use Rattle.runs.specs.Runs.{stateAfter}
 use Rattle.runs.specs.Cases.{Question, asking, refusing, holding, knowing, forming, advancing, Case, Comes, runOf, CaseComes, cases, EachCase}
 use Rattle.runs.proofs.DecodedRuns.{numberOn, doneBy, next, stepsFrom, stateFrom, set-up-taken, run-steps, run-state}
 use Rattle.runs.proofs.Runs.{reached}

@@ -8,16 +8,18 @@ use mathlib.Core.List.{List, [], _∷_, _++_, map}
 use lib.ListN.{length, getD, drop}
 use lib.Dec.{T, ltb, leb, eqb}
 use Rattle.numbers.specs.Numbers.{Bytes, wordsOf}
+use Rattle.predicates.specs.Lists.{any}
 use Rattle.predicates.specs.Predicates.{isTrue, isNormal}
 use Rattle.message.specs.Words.{payload, masks, endsLimit, wordsLeast, wordsMost}
 use Rattle.message.specs.Read.{countOf, headWordFits, isEnds, opens, start, middle, kindsFit, checkFits, pair}
 use Rattle.state.specs.Model.{State}
-use Rattle.state.specs.Layout.{stateSize, headOf, stateOf, heldCount, datumAt}
+use Rattle.state.specs.Layout.{stateSize, headOf, storeOf, stateOf, heldCount, datumAt}
 use Rattle.state.specs.Form.{inForm}
 use Rattle.state.specs.Refusal.{refuse}
+use Rattle.engine.specs.Ageing.{slow, fast, aged}
 use Rattle.engine.specs.Receiving.{Delivery, grown}
 use Rattle.engine.specs.Calls.{Setup}
-use Rattle.engine.specs.Refusals.{ownFails, driftFails, readingFails, goesBack, agesPast, delaysFail, fromSelf, growsPast, termsFail, overfills}
+use Rattle.engine.specs.Refusals.{ownFails, driftFails, readingFails, goesBack, anEndPasses, delaysFail, fromSelf, growsPast, termsFail, overfills}
 use Rattle.monitor.specs.Messages.{readNumber, readOutput, rewriteNumber, rewriteOutput}
 use Rattle.monitor.specs.Calls.{setUpNumber, setUpState, ageNumber, ageState, writeNumber, writeOutput}
 use Rattle.monitor.specs.Receive.{Receipt, Delivered, refused, brings, delivered, receiveNumber, receiveState}
@@ -152,7 +154,7 @@ ofDelivered f (brings d) = f d
 abbrev pub deliveryTests : State → Delivered → List Test
 deliveryTests st d =
     test (ofDelivered (fromSelf st) d) 18
-    ∷ test (ofDelivered (growsPast st) d) 30
+    ∷ test (ofDelivered (λ g. anEndPasses (grown (st .head .own) g)) d) 30
     ∷ test (ofDelivered (termsFail st) d) 31
     ∷ test (ofDelivered (overfills st) d) 32
     ∷ []
@@ -184,7 +186,11 @@ unfoldable pub tests : Exported → List Test
 tests (monitorSetUp s u) =
     test (tooShort stateSize s) 24 ∷ test (ownFails (u .own)) 1 ∷ test (driftFails (u .drift)) 2 ∷ test (readingFails (u .reading)) 3 ∷ []
 tests (monitorAge s reading) =
-    stateTests s ++ (test (readingFails reading) 3 ∷ test (goesBack (headOf s) reading) 20 ∷ test (agesPast (stateOf s) reading) 30 ∷ [])
+    stateTests s
+    ++ (test (readingFails reading) 3
+    ∷ test (goesBack (headOf s) reading) 20
+    ∷ test (any anEndPasses (aged (slow (headOf s) reading) (fast (headOf s) reading) (storeOf s) .held)) 30
+    ∷ [])
 tests (monitorReceive s g) =
     stateTests s
     ++ (test (delaysFail (g .least) (g .greatest)) 21 ∷ (messageTests (g .message) ++ deliveryTests (stateOf s) (delivered g)))
