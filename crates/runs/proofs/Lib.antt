@@ -1,4 +1,5 @@
--- Demand 3 and what it rests on, lowest first: what a receipt and an ageing mean for one set, what a run keeps, the answers, and the table of cases.
+-- Demand 1 and demand 3 with what they rest on, lowest first: what a receipt and an ageing mean for one set, what a run keeps, the answers; then
+-- runs by the states that their bytes hold, the table of cases and an example.
 pub mod Demand1
 pub mod SameBytes
 pub mod ReceiptMeaning
@@ -10,3 +11,4 @@ pub mod Demand3
 pub mod Further
 pub mod DecodedRuns
 pub mod WorkedCases
+pub mod Example

@@ -2,3 +2,4 @@ pub mod Demand1
 pub mod Book
 pub mod Runs
 pub mod Cases
+pub mod Example

@@ -119,6 +119,10 @@ Demand3·more =
     (P Q : Run) → P .setup ≡ Q .setup → Further (takenOf (stepsOf P)) (takenOf (stepsOf Q)) → (limitP limitQ : ℕ) → limitQ ≤ limitP
     → (x : ℤ) → Possible limitQ (book Q) x → Possible limitP (book P) x
 
+-- "The demand is one statement about the whole list": both halves
+unfoldable pub Demand3·whole : Type 0
+Demand3·whole = Demand3 × Demand3·more
+
 -- ---- set by set
 
 -- the law under it: for every set of names, of any size, the instants that the state leaves it are those on which the book's paths agreeing with it
