@@ -59,7 +59,14 @@ module _ (st : State) (t : T (stateOk st)) where
   age-same =
       let o = state-out st t in
       let last = st .head .reading in (
-        rw (lt-leb readingLimit last (o .reading-lt), le-ltb last last (omega arith), slow-none (st .head), fast-none (st .head), aged-none (st .store), right-below (st .head .own) (st .store .held) (o .held)),
+        rw (
+          lt-leb readingLimit last (o .reading-lt),
+          le-ltb last last (omega arith),
+          slow-none (st .head),
+          fast-none (st .head),
+          aged-none (st .store),
+          right-below (st .head .own) (st .store .held) (o .held),
+        ),
         rw (slow-none (st .head), fast-none (st .head), aged-none (st .store)),
       )
 

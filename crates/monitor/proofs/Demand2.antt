@@ -16,7 +16,8 @@ use Rattle.message.specs.Words.{masks, termsMost}
 use Rattle.message.specs.Read.{isEnds, readWords, termWords}
 use Rattle.message.specs.Write.{messageWords, rewritten}
 use Rattle.message.specs.declared.Reading.the-variants.{Message, Refused}
-use Rattle.message.proofs.MessageLaws.{Masks, words-message, read-write, terms-write, rewrite-ends, rewrite-form, rewrite-reads, rewrite-terms, words-rewritten}
+use Rattle.message.proofs.MessageLaws.{Masks, words-message, read-write, terms-write}
+use Rattle.message.proofs.MessageLaws.{rewrite-ends, rewrite-form, rewrite-reads, rewrite-terms, words-rewritten}
 use Rattle.state.specs.Model.{nameMost, endLimit}
 use Rattle.engine.specs.Receiving.{Delivery}
 use Rattle.monitor.specs.Messages.{readBytes, rewrittenBytes}

@@ -85,7 +85,8 @@ span-bad ws = go (isEnds 1 ws)
 module _ (m : List ℕ) (f : Reading → ℕ) (us : List Test) (plain : (n : ℕ) → f (Refused n) ≡ n)
     (taken : (s l r n : ℕ) → readBytes m ≡ Message s l r n → f (Message s l r n) ≡ firstFailing us) where
   -- one test
-  past : (b : Bool) (k : ℕ) (x : Reading) (n : ℕ) → readBytes m ≡ cond b (Refused k) x → (readBytes m ≡ x → f x ≡ n) → f (cond b (Refused k) x) ≡ refuse b k n
+  past : (b : Bool) (k : ℕ) (x : Reading) (n : ℕ) → readBytes m ≡ cond b (Refused k) x → (readBytes m ≡ x → f x ≡ n)
+      → f (cond b (Refused k) x) ≡ refuse b k n
   past true k x n e h = plain k
   past false k x n e h = h e
 
@@ -111,7 +112,8 @@ module _ (m : List ℕ) (f : Reading → ℕ) (us : List Test) (plain : (n : ℕ
       past (not (eqb (length ws) (start 1 (isEnds 1 ws) + countOf (getD ws 0 0) + 1))) 13 _ _ c (λ d.
       past (not (kindsFit 1 (isEnds 1 ws) ws)) 14 _ _ d (λ e.
       past (not (checkFits ws)) 15 _ _ e (λ g.
-      rw (← (span-bad ws)) (past-span (senderOf (getD ws 0 0)) (countOf (getD ws 0 0)) (isNormal (masks (middle 1 (isEnds 1 ws) ws))) (span 1 (isEnds 1 ws) ws) g)))))))
+      rw (← (span-bad ws))
+      (past-span (senderOf (getD ws 0 0)) (countOf (getD ws 0 0)) (isNormal (masks (middle 1 (isEnds 1 ws) ws))) (span 1 (isEnds 1 ws) ws) g)))))))
 
 -- ---- the numbers
 
@@ -120,7 +122,8 @@ unfolding returned tests readNumber layoutSize answered readingBytes bytes first
 read-number m out = read-first m (λ r. answered r (readingBytes r) out) (outputTests 32 out) (λ n. refl) (λ s l r n e. refl)
 
 -- what is written of a message that is read
-rewritten-size : {s l r n : ℕ} (m : List ℕ) → readBytes m ≡ Message s l r n → length (rewrittenBytes m) ≡ endsFormSize (countOf (getD (wordsOf m) 0 0))
+rewritten-size : {s l r n : ℕ} (m : List ℕ) → readBytes m ≡ Message s l r n
+    → length (rewrittenBytes m) ≡ endsFormSize (countOf (getD (wordsOf m) 0 0))
 rewritten-size {s} {l} {r} {n} m e =
     let read : readWords (wordsOf m) ≡ Message s l r n = rw (words-in-taken m e) at (read-words-in m ∙ e) in
     omega (arith, length-rewritten-bytes m e, read-out (wordsOf m) read .count)
@@ -130,12 +133,15 @@ unfolding returned tests rewriteNumber rewrittenBytes layoutSize answered firstF
 rewrite-number m out =
     let size = endsFormSize (countOf (getD (wordsOf m) 0 0)) in
     read-first m (λ r. answered r (bytesOf (rewrittenAs r (wordsOf m))) out) (outputTests size out) (λ n. refl)
-    (λ s l r n e. ap (λ (k : ℕ). refuse (ltb (length out) k) 24 0) (ap (λ (x : Reading). length (bytesOf (rewrittenAs x (wordsOf m)))) (sym e) ∙ rewritten-size m e))
+    (λ s l r n e.
+    ap (λ (k : ℕ). refuse (ltb (length out) k) 24 0)
+    (ap (λ (x : Reading). length (bytesOf (rewrittenAs x (wordsOf m)))) (sym e) ∙ rewritten-size m e))
 
 written-size : (s : List ℕ) (position : ℕ) → length (writtenBytes s position) ≡ endsFormSize (length (datumAt s position .terms))
 unfolding writtenWords
 written-size s position =
-    omega (arith, length-written-bytes s position, length-message (num ownAt 4 s) (datumAt s position .left) (datumAt s position .right) (datumAt s position .terms))
+    let d = datumAt s position in
+    omega (arith, length-written-bytes s position, length-message (num ownAt 4 s) (d .left) (d .right) (d .terms))
 
 -- what comes behind a test matters only where it lets pass
 refuse-same : (b : Bool) (number m n : ℕ) → (T (not b) → m ≡ n) → refuse b number m ≡ refuse b number n
@@ -200,7 +206,8 @@ numbers-listed (messageRewrite m out) = refl
 no-test-fails : (ts : List Test) → T (all (λ (t : Test). ltb 0 (t .number)) ts) → firstFailing ts ≡ 0 → (t : Test) → In t ts → T (not (t .fails))
 unfolding firstFailing
 no-test-fails [] p e t i = absurd i
-no-test-fails (u ∷ ts) p e t (inl q) = rw q (refuse-none (u .fails) (u .number) (firstFailing ts) (ltb→lt 0 (u .number) (both-l (ltb 0 (u .number)) _ p)) e .0)
+no-test-fails (u ∷ ts) p e t (inl q) =
+    rw q (refuse-none (u .fails) (u .number) (firstFailing ts) (ltb→lt 0 (u .number) (both-l (ltb 0 (u .number)) _ p)) e .0)
 no-test-fails (u ∷ ts) p e t (inr q) =
     let k = refuse-none (u .fails) (u .number) (firstFailing ts) (ltb→lt 0 (u .number) (both-l (ltb 0 (u .number)) _ p)) e in
     no-test-fails ts (both-r (ltb 0 (u .number)) _ p) (k .1) t q
@@ -265,7 +272,8 @@ rewrite-sized : (m out : List ℕ) → rewriteNumber m out ≡ 0 → length (rew
 unfolding rewriteNumber answered
 rewrite-sized m out = go (readBytes m) refl
   where
-    go : (r : Reading) → readBytes m ≡ r → answered r (rewrittenBytes m) out ≡ 0 → length (rewrittenBytes m) ≡ endsFormSize (countOf (getD (wordsOf m) 0 0))
+    go : (r : Reading) → readBytes m ≡ r → answered r (rewrittenBytes m) out ≡ 0
+        → length (rewrittenBytes m) ≡ endsFormSize (countOf (getD (wordsOf m) 0 0))
     go (Refused number) e z = absurd (omega (arith, refused-above (wordsIn m) number (read-words-in m ∙ e)))
     go (Message s l r n) e z = rewritten-size m e
 
@@ -274,9 +282,14 @@ unfolding receiveNumber
 receive-lent s g e = e
 
 stores : (c : Exported) → Stores c
-unfolding leftBytes returned lentBytes layoutSize setUpNumber setUpState ageNumber ageState receiveState askOutput askedBytes fewestOutput fewestBytes writeOutput readOutput rewriteOutput
+unfolding leftBytes returned lentBytes layoutSize setUpNumber setUpState ageNumber ageState receiveState
+    askOutput askedBytes fewestOutput fewestBytes writeOutput readOutput rewriteOutput
 stores (monitorSetUp s u) =
-    record { stored = stateBytes (setUp u); left = refl; sized = λ e. length-state (setUp u) (set-up-ok u (refuse-none (ltb (length s) stateSize) 24 (setUpRefusal u) (omega arith) e .1)) }
+    record {
+      stored = stateBytes (setUp u);
+      left = refl;
+      sized = λ e. length-state (setUp u) (set-up-ok u (refuse-none (tooShort stateSize s) 24 (setUpRefusal u) (omega arith) e .1));
+    }
 stores (monitorAge s reading) =
     record {
       stored = stateBytes (done (stateOf s) (age reading));

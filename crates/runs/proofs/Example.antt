@@ -32,7 +32,8 @@ example-states : (map (λ (p : Step). p .number) (stepsFrom (setUp exampleSetup)
     × (bookOf (opened exampleSetup) (stepsFrom (setUp exampleSetup) exampleRequests) .lines ≡ exampleLines)
 unfolding subset has holds implies isTrue isNormal struck insert rising minimal normal formed
     num bytes tab wordsOf bytesOf
-    ofKind masks wordSum check headWordFits isEnds opens width spanKinds middle kindsFit checkFits pair span withSpan readForm readFrom readWords termWords
+    ofKind masks wordSum check headWordFits isEnds opens width spanKinds middle kindsFit checkFits
+    pair span withSpan readForm readFrom readWords termWords
     endWords front body messageWords readBytes
     leastAdvance greatestAdvance slow fast widened aged
     grown disjoint explained learn learnt unexplained same meet met without betters stored heldAfter settled received

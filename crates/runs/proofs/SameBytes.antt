@@ -21,7 +21,8 @@ use Rattle.monitor.specs.Receive.{delivered, deliveredNumber, deliveredState, r
 use Rattle.runs.specs.Demand1.{EqualReading, TrueReceipt}
 
 -- the state that is there, stored or not
-after-same : (number : ℕ) (st : State) (s : List ℕ) → Bytes s → stateSize ≤ length s → T (inForm s) → st ≡ stateOf s → after number (stateBytes st) s ≡ s
+after-same : (number : ℕ) (st : State) (s : List ℕ) → Bytes s → stateSize ≤ length s → T (inForm s) → st ≡ stateOf s
+    → after number (stateBytes st) s ≡ s
 unfolding after
 after-same number st s b h t e =
     cond-ind (λ (u : List ℕ). u ≡ s) (eqb number 0) (put 0 (stateBytes st) s) s

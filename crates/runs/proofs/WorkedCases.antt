@@ -77,12 +77,14 @@ meets st (advancing reading lo hi) = eqb (ageRefusal st reading) 0 && (eqb (slow
 unfoldable passes : Case → Bool
 passes c =
     eqb (setUpRefusal (c .setup)) 0
-    && (all (λ (p : Step). eqb (p .number) 0) (stepsFrom (setUp (c .setup)) (c .requests)) && meets (stateFrom (setUp (c .setup)) (c .requests)) (c .question))
+    && (all (λ (p : Step). eqb (p .number) 0) (stepsFrom (setUp (c .setup)) (c .requests))
+    && meets (stateFrom (setUp (c .setup)) (c .requests)) (c .question))
 
 each-passes : T (all passes cases)
 unfolding subset union has holds implies isTrue isNormal struck insert rising minimal normal formed
     num bytes tab wordsOf bytesOf
-    ofKind masks wordSum check headWordFits isEnds opens width spanKinds middle kindsFit checkFits pair span withSpan readForm readFrom readWords termWords
+    ofKind masks wordSum check headWordFits isEnds opens width spanKinds middle kindsFit checkFits
+    pair span withSpan readForm readFrom readWords termWords
     endWords front body messageWords readBytes
     leastAdvance greatestAdvance slow fast widened aged
     grown disjoint explained learn learnt unexplained same meet met without betters stored heldAfter settled received
@@ -107,7 +109,8 @@ same-datum-out d e t =
     let l : d .left ≡ e .left = eqb→eq (d .left) (e .left) (search both-l) in
     let r : d .right ≡ e .right = eqb→eq (d .right) (e .right) (search (both-l, both-r) depth 9) in
     let p : d .terms ≡ e .terms = same-out (d .terms) (e .terms) (search (both-l, both-r) depth 9) in
-    ap (λ (x : ℕ). datum x (d .right) (d .terms)) l ∙ ap (λ (x : ℕ). datum (e .left) x (d .terms)) r ∙ ap (λ (x : List ℕ). datum (e .left) (e .right) x) p
+    ap (λ (x : ℕ). datum x (d .right) (d .terms)) l ∙ ap (λ (x : ℕ). datum (e .left) x (d .terms)) r
+    ∙ ap (λ (x : List ℕ). datum (e .left) (e .right) x) p
 
 same-answer-out : (a b : Answer) → T (sameAnswer a b) → a ≡ b
 unfolding sameAnswer

@@ -149,8 +149,8 @@ unfoldable pub ofDelivered : (Delivery → Bool) → Delivered → Bool
 ofDelivered f (refused number) = false
 ofDelivered f (brings d) = f d
 
--- "18 sender is the own name", "30 an end would pass 2^58 − 1; 31 more than 8 terms in the new predicate's normal form, stored or not; 32 too many data
--- or entries"
+-- "18 sender is the own name", "30 an end would pass 2^58 − 1; 31 more than 8 terms in the new predicate's normal form, stored or not; 32 too many
+-- data or entries"
 abbrev pub deliveryTests : State → Delivered → List Test
 deliveryTests st d =
     test (ofDelivered (fromSelf st) d) 18
