@@ -23,7 +23,7 @@ use Rattle.engine.specs.Refusals.{ownFails, driftFails, readingFails, goesBack,
 use Rattle.monitor.specs.Messages.{readNumber, readOutput, rewriteNumber, rewriteOutput}
 use Rattle.monitor.specs.Calls.{setUpNumber, setUpState, ageNumber, ageState, writeNumber, writeOutput}
 use Rattle.monitor.specs.Receive.{Receipt, Delivered, refused, brings, delivered, receiveNumber, receiveState}
-use Rattle.monitor.specs.Ask.{answerSize, fewestSize, limitFails, askNumber, askOutput, fewestNumber, fewestOutput}
+use Rattle.monitor.specs.Ask.{limitFails, askNumber, askOutput, fewestNumber, fewestOutput}
 
 -- ---- the exported calls
 
@@ -170,8 +170,8 @@ unfoldable pub layoutSize : Exported → ℕ
 layoutSize (monitorSetUp s u) = stateSize
 layoutSize (monitorAge s reading) = stateSize
 layoutSize (monitorReceive s g) = stateSize
-layoutSize (monitorAsk s limit out) = answerSize
-layoutSize (monitorFewest s out) = fewestSize
+layoutSize (monitorAsk s limit out) = 24
+layoutSize (monitorFewest s out) = 16
 layoutSize (monitorWrite s position out) = endsFormSize (length (datumAt s position .terms))
 layoutSize (messageRead m out) = 32
 layoutSize (messageRewrite m out) = endsFormSize (countOf (getD (wordsOf m) 0 0))
@@ -194,8 +194,8 @@ tests (monitorAge s reading) =
 tests (monitorReceive s g) =
     stateTests s
     ++ (test (delaysFail (g .least) (g .greatest)) 21 ∷ (messageTests (g .message) ++ deliveryTests (stateOf s) (delivered g)))
-tests (monitorAsk s limit out) = stateTests s ++ (test (limitFails limit) 22 ∷ outputTests answerSize out)
-tests (monitorFewest s out) = stateTests s ++ outputTests fewestSize out
+tests (monitorAsk s limit out) = stateTests s ++ (test (limitFails limit) 22 ∷ outputTests (layoutSize (monitorAsk s limit out)) out)
+tests (monitorFewest s out) = stateTests s ++ outputTests (layoutSize (monitorFewest s out)) out
 tests (monitorWrite s position out) =
     stateTests s
     ++ (test (leb (heldCount s) position) 23 ∷ outputTests (layoutSize (monitorWrite s position out)) out)
