@@ -2,6 +2,7 @@
 -- runs by the states that their bytes hold, the table of cases and an example.
 pub mod Demand1
 pub mod SameBytes
+pub mod PartsStay
 pub mod ReceiptMeaning
 pub mod AgeingMeaning
 pub mod Agreement

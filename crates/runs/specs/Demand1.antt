@@ -5,7 +5,7 @@ use Prim.Native.Nat.{ℕ, _+_, _*_, _%_, _≤_}
 use mathlib.Core.Path.{_≡_}
 use mathlib.Core.Bool.{Bool, false, not, cond, _||_}
 use mathlib.Core.List.{List, [], _∷_, _++_, map}
-use lib.ListN.{length, getD, drop}
+use lib.ListN.{length, getD, take, drop}
 use lib.Dec.{T, ltb, leb, eqb}
 use Rattle.numbers.specs.Numbers.{Bytes, wordsOf}
 use Rattle.predicates.specs.Lists.{any}
@@ -13,7 +13,7 @@ use Rattle.predicates.specs.Predicates.{isTrue, isNormal}
 use Rattle.message.specs.Words.{payload, masks, endsLimit, wordsLeast, wordsMost}
 use Rattle.message.specs.Read.{countOf, headWordFits, isEnds, opens, start, middle, kindsFit, checkFits, pair}
 use Rattle.state.specs.Model.{State}
-use Rattle.state.specs.Layout.{stateSize, headOf, storeOf, stateOf, heldCount, datumAt}
+use Rattle.state.specs.Layout.{stateSize, heldAt, entriesAt, headOf, storeOf, stateOf, heldCount, datumAt}
 use Rattle.state.specs.Form.{inForm}
 use Rattle.state.specs.Refusal.{refuse}
 use Rattle.engine.specs.Ageing.{slow, fast, aged}
@@ -235,3 +235,13 @@ TrueReceipt =
     → T (isTrue (grown (headOf s .own) d .terms))
     → (receiveState s g ≡ s)
     × (T (not (delaysFail (g .least) (g .greatest))) → T (not (fromSelf (stateOf s) d)) → T (not (growsPast (stateOf s) d)) → receiveNumber s g ≡ 0)
+
+-- ---- what a taken call does not name of the state
+
+-- "Entries stay.": an ageing leaves their bytes, and all behind them
+unfoldable pub EntriesStay : Type 0
+EntriesStay = (s : List ℕ) → Bytes s → (reading : ℕ) → drop entriesAt (ageState s reading) ≡ drop entriesAt s
+
+-- a receipt leaves own name, drift and reading
+unfoldable pub HeadStays : Type 0
+HeadStays = (s : List ℕ) → Bytes s → (g : Receipt) → take heldAt (receiveState s g) ≡ take heldAt s
