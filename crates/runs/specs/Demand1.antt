@@ -13,7 +13,7 @@ use Rattle.predicates.specs.Predicates.{isTrue, isNormal}
 use Rattle.message.specs.Words.{payload, masks, endsLimit, wordsLeast, wordsMost}
 use Rattle.message.specs.Read.{countOf, headWordFits, isEnds, opens, start, middle, kindsFit, checkFits, pair}
 use Rattle.state.specs.Model.{State}
-use Rattle.state.specs.Layout.{stateSize, heldAt, entriesAt, headOf, storeOf, stateOf, heldCount, datumAt}
+use Rattle.state.specs.Layout.{stateSize, heldAt, entriesAt, headOf, storeOf, stateOf, datumAt}
 use Rattle.state.specs.Form.{inForm}
 use Rattle.state.specs.Refusal.{refuse}
 use Rattle.engine.specs.Ageing.{slow, fast, aged}
@@ -21,7 +21,7 @@ use Rattle.engine.specs.Receiving.{Delivery, grown}
 use Rattle.engine.specs.Calls.{Setup}
 use Rattle.engine.specs.Refusals.{ownFails, driftFails, readingFails, goesBack, anEndPasses, delaysFail, fromSelf, growsPast, termsFail, overfills}
 use Rattle.monitor.specs.Messages.{readNumber, readOutput, rewriteNumber, rewriteOutput}
-use Rattle.monitor.specs.Calls.{setUpNumber, setUpState, ageNumber, ageState, writeNumber, writeOutput}
+use Rattle.monitor.specs.Calls.{setUpNumber, setUpState, ageNumber, ageState, noDatumAt, writeNumber, writeOutput}
 use Rattle.monitor.specs.Receive.{Receipt, Delivered, refused, brings, delivered, receiveNumber, receiveState}
 use Rattle.monitor.specs.Ask.{limitFails, askNumber, askOutput, fewestNumber, fewestOutput}
 
@@ -198,7 +198,7 @@ tests (monitorAsk s limit out) = stateTests s ++ (test (limitFails limit) 22 ∷
 tests (monitorFewest s out) = stateTests s ++ outputTests (layoutSize (monitorFewest s out)) out
 tests (monitorWrite s position out) =
     stateTests s
-    ++ (test (leb (heldCount s) position) 23 ∷ outputTests (layoutSize (monitorWrite s position out)) out)
+    ++ (test (noDatumAt s position) 23 ∷ outputTests (layoutSize (monitorWrite s position out)) out)
 tests (messageRead m out) = messageTests m ++ outputTests (layoutSize (messageRead m out)) out
 tests (messageRewrite m out) = messageTests m ++ outputTests (layoutSize (messageRewrite m out)) out
 
