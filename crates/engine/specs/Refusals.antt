@@ -6,7 +6,7 @@ use mathlib.Core.Bool.{Bool, _||_}
 use lib.Dec.{eqb, leb, ltb}
 use lib.ListN.{length}
 use Rattle.predicates.specs.Lists.{any}
-use Rattle.state.specs.Model.{Store, State, nameMost, driftMost, endLimit, readingLimit}
+use Rattle.state.specs.Model.{Datum, Head, Store, State, nameMost, driftMost, endLimit, readingLimit}
 use Rattle.state.specs.Layout.{datumTerms}
 use Rattle.state.specs.Refusal.{refuse}
 use Rattle.engine.specs.Ageing.{slow, fast, aged}
@@ -14,23 +14,51 @@ use Rattle.engine.specs.Receiving.{Delivery, grown}
 use Rattle.steps.specs.Steps.{received, tooMany}
 use Rattle.engine.specs.Calls.{Setup}
 
+-- ---- setting up
+
+-- "1 own name above 28; 2 drift above 1,000; 3 reading 2^58 or more (also in ageing)"
+abbrev pub ownFails : ℕ → Bool
+ownFails own = ltb nameMost own
+
+abbrev pub driftFails : ℕ → Bool
+driftFails drift = ltb driftMost drift
+
+abbrev pub readingFails : ℕ → Bool
+readingFails reading = leb readingLimit reading
+
 -- "setting up 24, 1, 2, 3"
 unfoldable pub setUpRefusal : Setup → ℕ
 setUpRefusal u =
-    refuse (ltb nameMost (u .own)) 1
-    (refuse (ltb driftMost (u .drift)) 2
-    (refuse (leb readingLimit (u .reading)) 3 0))
+    refuse (ownFails (u .own)) 1
+    (refuse (driftFails (u .drift)) 2
+    (refuse (readingFails (u .reading)) 3 0))
 
--- "30 an end would pass 2^58 − 1"
+-- ---- ageing
+
+-- "20 reading below the last"
+abbrev pub goesBack : Head → ℕ → Bool
+goesBack h reading = ltb reading (h .reading)
+
+-- "30 an end would pass 2^58 − 1": one of the datum's two ends lies beyond it
+abbrev pub anEndPasses : Datum → Bool
+anEndPasses d = leb endLimit (d .left) || leb endLimit (d .right)
+
+-- the same, where left is at most right: the right end decides (`passes-both` and `grown-both` of `proofs.EndLaws`)
 unfoldable pub passesEnd : Store → Bool
 passesEnd k = any (λ d. leb endLimit (d .right)) (k .held)
+
+-- an ageing to the reading would pass it
+abbrev pub agesPast : State → ℕ → Bool
+agesPast st reading = passesEnd (aged (slow (st .head) reading) (fast (st .head) reading) (st .store))
 
 -- "Ageing 24, 25, 3, 20, 30"
 unfoldable pub ageRefusal : State → ℕ → ℕ
 ageRefusal st reading =
-    refuse (leb readingLimit reading) 3
-    (refuse (ltb reading (st .head .reading)) 20
-    (refuse (passesEnd (aged (slow (st .head) reading) (fast (st .head) reading) (st .store))) 30 0))
+    refuse (readingFails reading) 3
+    (refuse (goesBack (st .head) reading) 20
+    (refuse (agesPast st reading) 30 0))
+
+-- ---- receiving
 
 -- the greatest delay that a channel may have
 abbrev pub delayMost : ℕ
@@ -40,10 +68,26 @@ delayMost = 60_000_000
 abbrev pub delaysFail : ℕ → ℕ → Bool
 delaysFail least greatest = ltb greatest least || ltb delayMost greatest
 
--- "18, 30, 31, 32; 30 comes also for a predicate that is true"; "31 more than 8 terms in the new predicate's normal form, stored or not"
+-- "18 sender is the own name"
+abbrev pub fromSelf : State → Delivery → Bool
+fromSelf st g = eqb (g .sender) (st .head .own)
+
+-- 30, of the grown interval
+abbrev pub growsPast : State → Delivery → Bool
+growsPast st g = leb endLimit (grown (st .head .own) g .right)
+
+-- "31 more than 8 terms in the new predicate's normal form, stored or not"
+abbrev pub termsFail : State → Delivery → Bool
+termsFail st g = ltb datumTerms (length (grown (st .head .own) g .terms))
+
+-- "32 too many data or entries"
+abbrev pub overfills : State → Delivery → Bool
+overfills st g = tooMany (received (grown (st .head .own) g) (st .store))
+
+-- "18, 30, 31, 32; 30 comes also for a predicate that is true"
 unfoldable pub receiptRefusal : State → Delivery → ℕ
 receiptRefusal st g =
-    refuse (eqb (g .sender) (st .head .own)) 18
-    (refuse (leb endLimit (grown (st .head .own) g .right)) 30
-    (refuse (ltb datumTerms (length (grown (st .head .own) g .terms))) 31
-    (refuse (tooMany (received (grown (st .head .own) g) (st .store))) 32 0)))
+    refuse (fromSelf st g) 18
+    (refuse (growsPast st g) 30
+    (refuse (termsFail st g) 31
+    (refuse (overfills st g) 32 0)))

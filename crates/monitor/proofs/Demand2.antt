@@ -1,22 +1,27 @@
 -- Demand 2 of messages, over the bytes that C hands in and gets: an accepted message in ends form is rewritten as the same bytes, and every accepted
 -- message as one in ends form that reads back to the same sender, interval and terms. The laws over words are `read-write`, `terms-write`,
 -- `rewrite-ends`, `rewrite-reads` and `rewrite-terms` of the crate `message`. Assumes nothing.
-use Prim.Native.Nat.{ℕ, _*_, _%_}
+use Prim.Native.Nat.{ℕ, _*_, _%_, _≤_, _<_}
 use mathlib.Core.Path.{_≡_, refl, ap, _∙_}
 use mathlib.Core.Bool.{Bool, true, false, cond}
-use mathlib.Core.List.{List}
+use mathlib.Core.List.{List, []}
 use native.Mathlib.Omega.{arith}
 use borrow.Author.Tests.{eq-eqb, eqb-true}
 use lib.Dec.{T, eqb}
 use lib.ListN.{length}
 use Rattle.numbers.specs.Numbers.{Bytes, wordsOf, bytesOf}
 use Rattle.numbers.proofs.NumberLaws.{bytes-words, words-bytes, length-bytesOf}
-use Rattle.message.specs.Words.{masks}
+use Rattle.predicates.specs.Predicates.{isNormal}
+use Rattle.message.specs.Words.{masks, termsMost}
 use Rattle.message.specs.Read.{isEnds, readWords, termWords}
-use Rattle.message.specs.Write.{rewritten}
+use Rattle.message.specs.Write.{messageWords, rewritten}
 use Rattle.message.specs.declared.Reading.the-variants.{Message, Refused}
+use Rattle.message.proofs.MessageLaws.{Masks, words-message, read-write, terms-write}
 use Rattle.message.proofs.MessageLaws.{rewrite-ends, rewrite-form, rewrite-reads, rewrite-terms, words-rewritten}
+use Rattle.state.specs.Model.{nameMost, endLimit}
+use Rattle.engine.specs.Receiving.{Delivery}
 use Rattle.monitor.specs.Messages.{readBytes, rewrittenBytes}
+use Rattle.monitor.specs.Receive.{brings, delivered, deliveredAs, receiptOf}
 
 module _ {s l r n : ℕ} (m : List ℕ) (e : readBytes m ≡ Message s l r n) where
   -- a taken message has whole words
@@ -56,3 +61,22 @@ module _ {s l r n : ℕ} (m : List ℕ) (e : readBytes m ≡ Message s l r n) wh
 
   pub rewrite-terms-bytes : masks (termWords (readBytes m) (wordsOf (rewrittenBytes m))) ≡ masks (termWords (readBytes m) (wordsOf m))
   rewrite-terms-bytes = rw (e, back) (rw (rewrite-reads (wordsOf m) words-read, words-read) at (rewrite-terms (wordsOf m) words-read))
+
+-- ---- a message that is written, received
+
+-- "Written messages read back to the same sender, interval and terms", and so a receipt of one brings them
+pub message-brings : (d : Delivery) → d .sender ≤ nameMost → d .left ≤ d .right → d .right < endLimit → length (d .terms) ≤ termsMost
+    → T (isNormal (d .terms)) → Masks (d .terms)
+    → delivered (receiptOf (d .least) (d .greatest) (bytesOf (messageWords (d .sender) [] (d .left) (d .right) (d .terms)))) ≡ brings d
+unfolding delivered deliveredAs readBytes
+message-brings d a b c few norm small =
+    let ws = messageWords (d .sender) [] (d .left) (d .right) (d .terms) in
+    let back : wordsOf (bytesOf ws) ≡ ws = words-bytes ws (words-message (d .sender) (d .left) (d .right) (d .terms) a b c few small) in
+    let whole : length (bytesOf ws) % 4 ≡ 0 = omega (arith, length-bytesOf ws) in
+    rw (
+      eq-eqb (length (bytesOf ws) % 4) 0 whole,
+      back,
+      read-write (d .sender) (d .left) (d .right) (d .terms) a b c few norm small,
+      back,
+      terms-write (d .sender) (d .left) (d .right) (d .terms) a b c few norm small,
+    )

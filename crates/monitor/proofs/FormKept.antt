@@ -119,7 +119,7 @@ receive-passed s g e =
     (a .0, nltb→le (g .greatest) (g .least) (neither (ltb (g .greatest) (g .least)) (ltb delayMost (g .greatest)) (b .0) .0), b .1)
 
 module _ (s : List ℕ) (g : Receipt) where
-  delivered-ok : T (inForm s) → g .least ≤ g .greatest → deliveredNumber (stateOf s) (delivered g) ≡ 0 → T (stateOk (deliveredState (stateOf s) (delivered g)))
+  pub delivered-ok : T (inForm s) → g .least ≤ g .greatest → deliveredNumber (stateOf s) (delivered g) ≡ 0 → T (stateOk (deliveredState (stateOf s) (delivered g)))
   unfolding delivered deliveredAs deliveredNumber deliveredState
   delivered-ok t d = go (readBytes (g .message)) refl
     where

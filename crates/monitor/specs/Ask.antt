@@ -39,10 +39,13 @@ askedBytes s limit = wide (answerNumbers (answer limit (stateOf s)))
 abbrev pub limitFails : ℕ → Bool
 limitFails limit = ltb limitMost limit
 
+-- then what comes next decides
+abbrev pub limitRefusal : ℕ → ℕ → ℕ
+limitRefusal limit next = refuse (limitFails limit) 22 next
+
 -- "Asking 24, 25, 22"; "Where an output is lent, 24 for it comes last."
 unfoldable pub askNumber : List ℕ → ℕ → List ℕ → ℕ
-askNumber s limit out =
-    lent s (refuse (limitFails limit) 22 (refuse (ltb (length out) answerSize) 24 0))
+askNumber s limit out = lent s (limitRefusal limit (refuse (ltb (length out) answerSize) 24 0))
 
 unfoldable pub askOutput : List ℕ → ℕ → List ℕ → List ℕ
 askOutput s limit out = after (askNumber s limit out) (askedBytes s limit) out

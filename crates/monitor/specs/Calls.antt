@@ -2,6 +2,7 @@
 -- "Who can cause which refusal"): for each call the number that it returns and, by that number, the lent bytes afterwards.
 -- Assumes nothing: these are definitions.
 use Prim.Native.Nat.{ℕ}
+use mathlib.Core.Bool.{Bool}
 use mathlib.Core.List.{List, []}
 use lib.ListN.{length}
 use lib.Dec.{ltb, leb}
@@ -38,9 +39,12 @@ unfoldable pub writtenBytes : List ℕ → ℕ → List ℕ
 writtenBytes s position = bytesOf (writtenWords s position)
 
 -- "23 no held datum there"
+abbrev pub noDatumAt : List ℕ → ℕ → Bool
+noDatumAt s position = leb (heldCount s) position
+
 unfoldable pub writeNumber : List ℕ → ℕ → List ℕ → ℕ
 writeNumber s position out =
-    lent s (refuse (leb (heldCount s) position) 23 (refuse (ltb (length out) (length (writtenBytes s position))) 24 0))
+    lent s (refuse (noDatumAt s position) 23 (refuse (ltb (length out) (length (writtenBytes s position))) 24 0))
 
 unfoldable pub writeOutput : List ℕ → ℕ → List ℕ → List ℕ
 writeOutput s position out = after (writeNumber s position out) (writtenBytes s position) out

@@ -47,9 +47,13 @@ unfoldable pub deliveredState : State → Delivered → State
 deliveredState st (refused number) = st
 deliveredState st (brings g) = done st (receive g)
 
+-- on a state in form: "21, 10, 12, 11, 13 to 18, 30, 31, 32"
+abbrev pub receiptNumber : State → Receipt → ℕ
+receiptNumber st g = refuse (delaysFail (g .least) (g .greatest)) 21 (deliveredNumber st (delivered g))
+
 -- "Receiving 24, 25, 21, 10, 12, 11, 13 to 18, 30, 31, 32"
 unfoldable pub receiveNumber : List ℕ → Receipt → ℕ
-receiveNumber s g = lent s (refuse (delaysFail (g .least) (g .greatest)) 21 (deliveredNumber (stateOf s) (delivered g)))
+receiveNumber s g = lent s (receiptNumber (stateOf s) g)
 
 unfoldable pub receiveState : List ℕ → Receipt → List ℕ
 receiveState s g = after (receiveNumber s g) (stateBytes (deliveredState (stateOf s) (delivered g))) s

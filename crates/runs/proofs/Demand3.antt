@@ -18,7 +18,7 @@ use Rattle.asking.proofs.AnswerLaws.{gives-same, answer-given}
 use Rattle.asking.proofs.FewestLaws.{fewest-is}
 use Rattle.state.specs.Refusal.{after}
 use Rattle.state.proofs.LentLaws.{lent-next}
-use Rattle.monitor.specs.Ask.{limitMost, answerSize, fewestSize, askedBytes, askNumber, askOutput, fewestBytes, fewestNumber, fewestOutput}
+use Rattle.monitor.specs.Ask.{limitMost, answerSize, fewestSize, answerIn, askedBytes, askNumber, askOutput, fewestBytes, fewestNumber, fewestOutput}
 use Rattle.runs.specs.Book.{Possible}
 use Rattle.runs.specs.Runs.{stateAfter, book, Demand3, SetBySet, FewestByBook}
 use Rattle.runs.proofs.Runs.{reached, set-by-set, allowed-same, counts-possible}
@@ -35,16 +35,25 @@ module _ (s : List ℕ) (long : stateSize ≤ length s) (form : T (inForm s)) (o
   unfolding fewestNumber
   fewest-taken h = lent-next s _ long form ∙ rw (le-ltb (length out) fewestSize h)
 
+  -- what C reads in the output is the answer over the state
+  pub ask-answers : (limit : ℕ) → limit ≤ limitMost → answerSize ≤ length out
+      → (askNumber s limit out ≡ 0) × (answerIn (askOutput s limit out) ≡ answer limit (stateOf s))
+  unfolding askOutput askedBytes after
+  ask-answers limit l h =
+      let a = answer limit (stateOf s) in
+      let taken = ask-taken limit l h in
+      (taken, rw taken (answer-in a out (answer-fits limit (stateOf s) (form-ok s form) a (answer-given limit (stateOf s))) h))
+
 pub demand3 : Demand3
-unfolding Demand3 askOutput askedBytes after
+unfolding Demand3
 demand3 r limit l out h =
     let s = stateAfter r in
     let so = reached r in
     let a = answer limit (stateOf s) in
     let given = answer-given limit (stateOf s) in
-    let taken = ask-taken s (so .long) (so .form) out limit l h in (
-      taken,
-      rw (taken, answer-in a out (answer-fits limit (stateOf s) (form-ok s (so .form)) a given) h)
+    let told = ask-answers s (so .long) (so .form) out limit l h in (
+      told .0,
+      rw (told .1)
           (gives-tells (Possible limit (book r)) a (gives-same (Counts limit (stateOf s)) (Possible limit (book r)) a (λ x. counts-possible r limit x .0) (λ x. counts-possible r limit x .1) given)),
     )
 

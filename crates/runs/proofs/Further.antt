@@ -1,4 +1,4 @@
--- Demand 3, second half: a run that takes further receipts makes no further instant possible.
+-- Demand 3, second half: a run that takes further receipts makes no further instant possible; and with it the whole demand.
 -- The idea: a book is fed the taken calls alone, so the two books are compared line by line. A line that both have keeps the order of the two
 -- books; one more receipt only takes paths away. Assumes nothing.
 use Prim.Native.Nat.{ℕ, zero, suc}
@@ -14,8 +14,9 @@ use Rattle.engine.specs.Calls.{Setup, Call, age, receive, moved}
 use Rattle.monitor.specs.Receive.{Delivered, refused, brings, delivered}
 use Rattle.runs.specs.Book.{Request, ageing, receipt, Step, Line, Book, opened, linesOf, entered, enteredRequest, noted, bookOf, sees}
 use Rattle.runs.specs.Book.{enteredDelivery, EndsOn}
-use Rattle.runs.specs.Runs.{Run, stepsOf, book, ifTaken, takenOf, Extra, Further, Demand3·more}
+use Rattle.runs.specs.Runs.{Run, stepsOf, book, ifTaken, takenOf, Extra, Further, Demand3·more, Demand3·whole}
 use Rattle.runs.proofs.Agreement.{ends-out, ends-in}
+use Rattle.runs.proofs.Demand3.{demand3}
 
 -- ---- the book of the taken calls
 
@@ -102,3 +103,9 @@ unfolding Demand3·more
 demand3·more P Q e f limitP limitQ le x (s, a, p) =
     let l = books-less P Q e f in
     (s, record { names = a .names; few = le-trans (a .few) le; others = rw (l .head) at (a .others) }, l .ends (sees s) x p)
+
+-- ---- the whole demand
+
+pub demand3·whole : Demand3·whole
+unfolding Demand3·whole
+demand3·whole = (demand3, demand3·more)

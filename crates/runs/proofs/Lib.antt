@@ -1,4 +1,8 @@
--- Demand 3 and what it rests on, lowest first: what a receipt and an ageing mean for one set, what a run keeps, the answers, and the table of cases.
+-- Demand 1 and demand 3 with what they rest on, lowest first: what a receipt and an ageing mean for one set, what a run keeps, the answers; then
+-- runs by the states that their bytes hold, the table of cases and an example.
+pub mod Demand1
+pub mod SameBytes
+pub mod PartsStay
 pub mod ReceiptMeaning
 pub mod AgeingMeaning
 pub mod Agreement
@@ -6,4 +10,6 @@ pub mod Runs
 pub mod Answers
 pub mod Demand3
 pub mod Further
+pub mod DecodedRuns
 pub mod WorkedCases
+pub mod Example

@@ -1,25 +1,161 @@
--- The cases of document 01 ("Cases (P: to be proved)") and the answers of its listing hold: "The cases marked P are proved together, as one table
--- with a common statement." The idea: each row is a test on numbers that are written out, so the whole table computes. Assumes nothing.
-use lib.Dec.{T}
+-- The cases of document 01 ("Cases (P: to be proved)") and the answers of its listing hold of the exported calls.
+-- The idea: each row is tested on the states that its bytes hold (`proofs.DecodedRuns`), with numbers that are written out, so the whole table
+-- computes, the reading of the messages' bytes too; and a row that passes holds of the bytes. Assumes nothing.
+use Prim.Native.Nat.{ℕ, _≤_}
+use mathlib.Core.Path.{_≡_, refl, ap, _∙_}
+use mathlib.Core.Bool.{Bool, true, false, _&&_}
+use mathlib.Core.List.{List, [], _∷_}
+use native.Mathlib.Omega.{arith}
+use lib.Dec.{T, eqb, eqb→eq, nltb→le}
+use lib.ListN.{length}
 use Rattle.names.specs.Sets.{subset, union, has}
+use Rattle.numbers.specs.Numbers.{num, bytes, tab, wordsOf, bytesOf}
 use Rattle.predicates.specs.Lists.{all}
-use Rattle.predicates.specs.Predicates.{holds, implies, isTrue, struck, insert, rising, minimal, normal, formed}
+use Rattle.predicates.specs.Predicates.{holds, implies, isTrue, isNormal, struck, insert, rising, minimal, normal, formed}
+use Rattle.predicates.proofs.ListLaws.{both-l, both-r, T-true, all-out}
+use Rattle.message.specs.Words.{ofKind, masks, wordSum, check}
+use Rattle.message.specs.Read.{headWordFits, isEnds, opens, width, spanKinds, middle, kindsFit, checkFits, pair, span, withSpan, readForm, readFrom}
+use Rattle.message.specs.Read.{readWords, termWords}
+use Rattle.message.specs.Write.{endWords, front, body, messageWords}
+use Rattle.state.specs.Model.{Datum, datum, State}
+use Rattle.state.specs.Layout.{stateSize, headOf, storeOf, stateOf}
+use Rattle.state.specs.Form.{inForm}
+use Rattle.state.proofs.LentLaws.{refuse-none, lent-next}
+use Rattle.entries.specs.Entries.{explained, learn}
+use Rattle.steps.specs.Steps.{disjoint, learnt, unexplained, same, meet, met, without, betters, stored, heldAfter, settled, received, tooMany}
+use Rattle.steps.proofs.ReceiveLaws.{same-out}
 use Rattle.engine.specs.Ageing.{leastAdvance, greatestAdvance, slow, fast, widened, aged}
 use Rattle.engine.specs.Receiving.{grown}
-use Rattle.steps.specs.Steps.{disjoint, learnt, unexplained, same, meet, met, without}
-use Rattle.entries.specs.Entries.{explained, learn}
-use Rattle.steps.specs.Steps.{betters, stored, heldAfter, settled, received}
 use Rattle.engine.specs.Calls.{begun, setUp, moved, made, done}
 use Rattle.engine.specs.Refusals.{setUpRefusal, passesEnd, ageRefusal, receiptRefusal}
-use Rattle.steps.specs.Steps.{tooMany}
-use Rattle.asking.specs.Asking.{cut, common, active, leaves, setsOf, sets, either, leftBy, answer, answerNumbers}
-use Rattle.runs.specs.Cases.{limitRefusal, refusalOf, next, stateFrom, allTaken, sameDatum, sameAnswer, meets, holdsFor, cases}
+use Rattle.asking.specs.declared.Answer.{Answer}
+use Rattle.asking.specs.declared.Answer.the-variants.{Contradicted, Open, Between}
+use Rattle.asking.specs.Asking.{cut, common, active, leaves, setsOf, sets, either, leftBy, answer}
+use Rattle.monitor.specs.Messages.{readBytes}
+use Rattle.monitor.specs.Receive.{delivered, deliveredAs, deliveredNumber, deliveredState}
+use Rattle.monitor.specs.Calls.{ageNumber}
+use Rattle.monitor.specs.Ask.{limitMost, limitFails, limitRefusal, askNumber}
+use Rattle.runs.specs.Book.{Step}
+use Rattle.runs.specs.Runs.{stateAfter}
+use Rattle.runs.specs.Cases.{Question, asking, refusing, holding, knowing, forming, advancing, Case, Comes, runOf, CaseComes, cases, EachCase}
+use Rattle.runs.proofs.DecodedRuns.{numberOn, doneBy, next, stepsFrom, stateFrom, set-up-taken, run-steps, run-state}
+use Rattle.runs.proofs.Runs.{reached}
+use Rattle.runs.proofs.Demand3.{ask-answers}
 
-pub each-case : T (all holdsFor cases)
-unfolding subset union has holds implies isTrue struck insert rising minimal normal formed
+-- ---- a row as a test
+
+module _ {A : Type 0} where
+  -- the same elements in the same order, where f tells which elements are the same
+  abbrev alike : (A → A → Bool) → List A → List A → Bool
+  alike f [] [] = true
+  alike f [] (y ∷ ys) = false
+  alike f (x ∷ xs) [] = false
+  alike f (x ∷ xs) (y ∷ ys) = f x y && alike f xs ys
+
+unfoldable sameDatum : Datum → Datum → Bool
+sameDatum d e = eqb (d .left) (e .left) && (eqb (d .right) (e .right) && same (d .terms) (e .terms))
+
+unfoldable sameAnswer : Answer → Answer → Bool
+sameAnswer Contradicted Contradicted = true
+sameAnswer Contradicted Open = false
+sameAnswer Contradicted (Between m s) = false
+sameAnswer Open Contradicted = false
+sameAnswer Open Open = true
+sameAnswer Open (Between m s) = false
+sameAnswer (Between l r) Contradicted = false
+sameAnswer (Between l r) Open = false
+sameAnswer (Between l r) (Between m s) = eqb l m && eqb r s
+
+unfoldable meets : State → Question → Bool
+meets st (asking limit a) = eqb (limitRefusal limit 0) 0 && sameAnswer (answer limit st) a
+meets st (refusing limit number) = limitFails limit && eqb (limitRefusal limit 0) number
+meets st (holding ds) = alike sameDatum (st .store .held) ds
+meets st (knowing es) = alike same (st .store .entries) es
+meets st (forming sender terms p) = same (formed (st .head .own) sender terms) p
+meets st (advancing reading lo hi) = eqb (ageRefusal st reading) 0 && (eqb (slow (st .head) reading) lo && eqb (fast (st .head) reading) hi)
+
+unfoldable passes : Case → Bool
+passes c =
+    eqb (setUpRefusal (c .setup)) 0
+    && (all (λ (p : Step). eqb (p .number) 0) (stepsFrom (setUp (c .setup)) (c .requests))
+    && meets (stateFrom (setUp (c .setup)) (c .requests)) (c .question))
+
+each-passes : T (all passes cases)
+unfolding subset union has holds implies isTrue isNormal struck insert rising minimal normal formed
+    num bytes tab wordsOf bytesOf
+    ofKind masks wordSum check headWordFits isEnds opens width spanKinds middle kindsFit checkFits
+    pair span withSpan readForm readFrom readWords termWords
+    endWords front body messageWords readBytes
     leastAdvance greatestAdvance slow fast widened aged
     grown disjoint explained learn learnt unexplained same meet met without betters stored heldAfter settled received
     begun setUp moved made done setUpRefusal passesEnd ageRefusal tooMany receiptRefusal
-    cut common active leaves setsOf sets either leftBy answer answerNumbers
-    limitRefusal refusalOf next stateFrom allTaken sameDatum sameAnswer meets holdsFor cases
-each-case = tt
+    delivered deliveredAs deliveredNumber deliveredState
+    cut common active leaves setsOf sets either leftBy answer
+    numberOn doneBy next stepsFrom stateFrom sameDatum sameAnswer meets passes cases
+each-passes = tt
+
+-- ---- what a test tells
+
+module _ {A : Type 0} (f : A → A → Bool) (out : (x y : A) → T (f x y) → x ≡ y) where
+  alike-out : (xs ys : List A) → T (alike f xs ys) → xs ≡ ys
+  alike-out [] [] t = refl
+  alike-out [] (y ∷ ys) t = absurd t
+  alike-out (x ∷ xs) [] t = absurd t
+  alike-out (x ∷ xs) (y ∷ ys) t = rw (out x y (both-l (f x y) (alike f xs ys) t), alike-out xs ys (both-r (f x y) (alike f xs ys) t))
+
+same-datum-out : (d e : Datum) → T (sameDatum d e) → d ≡ e
+unfolding sameDatum
+same-datum-out d e t =
+    let l : d .left ≡ e .left = eqb→eq (d .left) (e .left) (search both-l) in
+    let r : d .right ≡ e .right = eqb→eq (d .right) (e .right) (search (both-l, both-r) depth 9) in
+    let p : d .terms ≡ e .terms = same-out (d .terms) (e .terms) (search (both-l, both-r) depth 9) in
+    ap (λ (x : ℕ). datum x (d .right) (d .terms)) l ∙ ap (λ (x : ℕ). datum (e .left) x (d .terms)) r
+    ∙ ap (λ (x : List ℕ). datum (e .left) (e .right) x) p
+
+same-answer-out : (a b : Answer) → T (sameAnswer a b) → a ≡ b
+unfolding sameAnswer
+same-answer-out Contradicted Contradicted t = refl
+same-answer-out Contradicted Open t = absurd t
+same-answer-out Contradicted (Between m s) t = absurd t
+same-answer-out Open Contradicted t = absurd t
+same-answer-out Open Open t = refl
+same-answer-out Open (Between m s) t = absurd t
+same-answer-out (Between l r) Contradicted t = absurd t
+same-answer-out (Between l r) Open t = absurd t
+same-answer-out (Between l r) (Between m s) t = rw (eqb→eq l m (both-l (eqb l m) (eqb r s) t), eqb→eq r s (both-r (eqb l m) (eqb r s) t))
+
+module _ (s : List ℕ) (h : stateSize ≤ length s) (t : T (inForm s)) where
+  question-comes : (q : Question) → T (meets (stateOf s) q) → Comes s q
+  unfolding meets askNumber ageNumber stateOf
+  question-comes (asking limit a) p = λ out k.
+      let l = refuse-none (limitFails limit) _ 0 (omega arith) (eqb→eq (limitRefusal limit 0) 0 (both-l (eqb (limitRefusal limit 0) 0) _ p)) in
+      let told = ask-answers s h t out limit (nltb→le limitMost limit (l .0)) k in
+      (told .0, told .1 ∙ same-answer-out (answer limit (stateOf s)) a (both-r (eqb (limitRefusal limit 0) 0) _ p))
+  question-comes (refusing limit number) p = λ out.
+      let over = T-true (limitFails limit) (both-l (limitFails limit) _ p) in
+      lent-next s _ h t ∙ rw over (rw over at (eqb→eq (limitRefusal limit 0) number (both-r (limitFails limit) _ p)))
+  question-comes (holding ds) p = alike-out sameDatum same-datum-out (storeOf s .held) ds p
+  question-comes (knowing es) p = alike-out same same-out (storeOf s .entries) es p
+  question-comes (forming sender terms q) p = same-out (formed (headOf s .own) sender terms) q p
+  question-comes (advancing reading lo hi) p = (
+    lent-next s (ageRefusal (stateOf s) reading) h t ∙ eqb→eq (ageRefusal (stateOf s) reading) 0 (search both-l),
+    eqb→eq (slow (headOf s) reading) lo (search (both-l, both-r) depth 9),
+    eqb→eq (fast (headOf s) reading) hi (search (both-l, both-r) depth 9),
+  )
+
+case-comes : (c : Case) → T (passes c) → (buffer : List ℕ) → stateSize ≤ length buffer → CaseComes c buffer
+unfolding passes
+case-comes c p buffer h =
+    let fits : T (eqb (setUpRefusal (c .setup)) 0) = search both-l in
+    let begins = set-up-taken buffer (c .setup) h (eqb→eq (setUpRefusal (c .setup)) 0 fits) in
+    let r = runOf c buffer begins in
+    let so = reached r in
+    record {
+      begins = begins;
+      taken = rw (run-steps r) (search (both-l, both-r) depth 9);
+      comes = question-comes (stateAfter r) (so .long) (so .form) (c .question) (rw (run-state r) (search (both-l, both-r) depth 9));
+    }
+
+pub each-case : EachCase
+unfolding EachCase
+each-case c i = case-comes c (all-out passes cases each-passes c i)

@@ -1,22 +1,25 @@
--- The cases of document 01 ("Cases (P: to be proved)") and the answers of its listing, as one table: what a row is, when it holds, and the rows.
--- Assumes nothing: these are definitions.
-use Prim.Native.Nat.{ℕ, _+_, _^_}
-use mathlib.Core.Bool.{Bool, true, false, _&&_, cond}
+-- The cases of document 01 ("Cases (P: to be proved)") and the answers of its listing, as one table: what a row is, when it holds of the exported
+-- calls' numbers and bytes, and the rows. Assumes nothing: these are definitions.
+use Prim.Native.Nat.{ℕ, _+_, _^_, _≤_}
+use mathlib.Core.Path.{_≡_}
 use mathlib.Core.List.{List, [], _∷_, _++_}
-use lib.Dec.{eqb}
+use lib.Dec.{T, eqb}
+use lib.ListN.{length}
+use Rattle.numbers.specs.Numbers.{bytesOf}
+use Rattle.predicates.specs.Lists.{all, In}
 use Rattle.predicates.specs.Predicates.{formed}
-use Rattle.state.specs.Model.{Datum, State}
+use Rattle.message.specs.Write.{messageWords}
+use Rattle.state.specs.Model.{Datum, datum}
+use Rattle.state.specs.Layout.{stateSize, headOf, storeOf}
 use Rattle.engine.specs.Ageing.{slow, fast}
-use Rattle.engine.specs.Receiving.{delivery}
-use Rattle.steps.specs.Steps.{same}
-use Rattle.engine.specs.Calls.{Setup, setUp, Call, age, receive, done}
-use Rattle.state.specs.Refusal.{refuse}
-use Rattle.engine.specs.Refusals.{setUpRefusal, ageRefusal, delaysFail, receiptRefusal}
-use Rattle.state.specs.Model.{datum}
+use Rattle.engine.specs.Calls.{Setup}
 use Rattle.asking.specs.declared.Answer.{Answer}
 use Rattle.asking.specs.declared.Answer.the-variants.{Contradicted, Open, Between}
-use Rattle.asking.specs.Asking.{answer, answerNumbers}
-use Rattle.monitor.specs.Ask.{limitFails}
+use Rattle.monitor.specs.Calls.{setUpNumber, ageNumber}
+use Rattle.monitor.specs.Receive.{receiptOf}
+use Rattle.monitor.specs.Ask.{answerSize, answerIn, askNumber, askOutput}
+use Rattle.runs.specs.Book.{Request, ageing, receipt, Step}
+use Rattle.runs.specs.Runs.{Run, stateAfter, stepsOf}
 
 -- ---- a row
 
@@ -35,90 +38,59 @@ pub data Question : Type 0 where
   -- an ageing to the reading has this least and this greatest advance
   advancing : ℕ → ℕ → ℕ → Question
 
--- it is put after a setting up and calls
+-- it is put after a setting up and requests
 pub record Case : Type 0 where
   pub setup : Setup
-  pub calls : List Call
+  pub requests : List Request
   pub question : Question
-
--- ---- the state after the calls
-
--- the number of a call whose message could be read; 0 means taken
-unfoldable pub refusalOf : State → Call → ℕ
-refusalOf st (age reading) = ageRefusal st reading
-refusalOf st (receive g) = refuse (delaysFail (g .least) (g .greatest)) 21 (receiptRefusal st g)
-
--- "A refusal is its number alone; state and output stay as they were."
-unfoldable pub next : State → Call → State
-next st c = cond (eqb (refusalOf st c) 0) (done st c) st
-
-unfoldable pub stateFrom : State → List Call → State
-stateFrom st [] = st
-stateFrom st (c ∷ cs) = stateFrom (next st c) cs
-
--- no call is refused
-unfoldable pub allTaken : State → List Call → Bool
-allTaken st [] = true
-allTaken st (c ∷ cs) = eqb (refusalOf st c) 0 && allTaken (next st c) cs
-
--- the number of asking, by its limit alone
-unfoldable pub limitRefusal : ℕ → ℕ
-limitRefusal limit = refuse (limitFails limit) 22 0
 
 -- ---- when a row holds
 
-module _ {A : Type 0} where
-  -- the same elements in the same order, where f tells which elements are the same
-  abbrev pub alike : (A → A → Bool) → List A → List A → Bool
-  alike f [] [] = true
-  alike f [] (y ∷ ys) = false
-  alike f (x ∷ xs) [] = false
-  alike f (x ∷ xs) (y ∷ ys) = f x y && alike f xs ys
+-- what must come comes, on the state bytes s: for asking by the number that it returns and the answer in its output
+abbrev pub Comes : List ℕ → Question → Type 0
+Comes s (asking limit a) = (out : List ℕ) → answerSize ≤ length out → (askNumber s limit out ≡ 0) × (answerIn (askOutput s limit out) ≡ a)
+Comes s (refusing limit number) = (out : List ℕ) → askNumber s limit out ≡ number
+Comes s (holding ds) = storeOf s .held ≡ ds
+Comes s (knowing es) = storeOf s .entries ≡ es
+Comes s (forming sender terms p) = formed (headOf s .own) sender terms ≡ p
+Comes s (advancing reading lo hi) = (ageNumber s reading ≡ 0) × (slow (headOf s) reading ≡ lo) × (fast (headOf s) reading ≡ hi)
 
-unfoldable pub sameDatum : Datum → Datum → Bool
-sameDatum d e = eqb (d .left) (e .left) && (eqb (d .right) (e .right) && same (d .terms) (e .terms))
+-- the row as a run in a buffer
+abbrev pub runOf : (c : Case) (buffer : List ℕ) → setUpNumber buffer (c .setup) ≡ 0 → Run
+runOf c buffer begins = record { buffer = buffer; setup = c .setup; taken = begins; requests = c .requests }
 
--- two answers with the same numbers are one
-unfoldable pub sameAnswer : Answer → Answer → Bool
-sameAnswer a b = same (answerNumbers a) (answerNumbers b)
-
--- what must come comes
-unfoldable pub meets : State → Question → Bool
-meets st (asking limit a) = eqb (limitRefusal limit) 0 && sameAnswer (answer limit st) a
-meets st (refusing limit number) = eqb (limitRefusal limit) number
-meets st (holding ds) = alike sameDatum (st .store .held) ds
-meets st (knowing es) = alike same (st .store .entries) es
-meets st (forming sender terms p) = same (formed (st .head .own) sender terms) p
-meets st (advancing reading lo hi) = eqb (ageRefusal st reading) 0 && (eqb (slow (st .head) reading) lo && eqb (fast (st .head) reading) hi)
-
--- the setting up and every call are taken, since a row about a state that nobody reaches would say nothing; and then what must come comes
-unfoldable pub holdsFor : Case → Bool
-holdsFor c =
-    eqb (setUpRefusal (c .setup)) 0
-    && (allTaken (setUp (c .setup)) (c .calls) && meets (stateFrom (setUp (c .setup)) (c .calls)) (c .question))
+-- the setting up and every request are taken, since a row about a state that nobody reaches would say nothing; and then what must come comes
+pub record CaseComes (c : Case) (buffer : List ℕ) : Type 0 where
+  pub begins : setUpNumber buffer (c .setup) ≡ 0
+  pub taken : T (all (λ (p : Step). eqb (p .number) 0) (stepsOf (runOf c buffer begins)))
+  pub comes : Comes (stateAfter (runOf c buffer begins)) (c .question)
 
 -- ---- the table
 
-abbrev pub given : Setup → List Call → Question → Case
-given u cs q = record { setup = u; calls = cs; question = q }
+abbrev pub given : Setup → List Request → Question → Case
+given u qs q = record { setup = u; requests = qs; question = q }
 
 -- a monitor with this own name, drift 100 and reading 0, as the listing's `set 5 100 0`
 abbrev pub named : ℕ → Setup
 named own = record { own = own; drift = 100; reading = 0 }
 
--- a sender's message of an interval and terms, over a channel without delay
-abbrev pub hear : ℕ → ℕ → ℕ → List ℕ → Call
-hear sender left right terms = receive (delivery 0 0 sender left right terms)
+-- a receipt of a message of these words, "four bytes make a word", as the listing's `get`
+abbrev pub get : ℕ → ℕ → List ℕ → Request
+get least greatest words = receipt (receiptOf least greatest (bytesOf words))
 
--- the calls of the listing, up to its first message, its ageing and its second message
-abbrev pub listingFirst : List Call
-listingFirst = receive (delivery 0 50 1 1_000_000 1_000_200 []) ∷ []
+-- a receipt of a sender's message of an interval and terms, over a channel without delay
+abbrev pub hear : ℕ → ℕ → ℕ → List ℕ → Request
+hear sender left right terms = get 0 0 (messageWords sender [] left right terms)
 
-abbrev pub listingAged : List Call
-listingAged = listingFirst ++ (age 2_000_000 ∷ [])
+-- the requests of the listing, up to its first message, its ageing and its second message
+abbrev pub listingFirst : List Request
+listingFirst = get 0 50 (536870913 ∷ 1073741824 ∷ 1074741824 ∷ 1610612736 ∷ 1611612936 ∷ 3760096585 ∷ []) ∷ []
 
-abbrev pub listingSecond : List Call
-listingSecond = listingAged ++ (receive (delivery 0 0 2 3_001_000 3_001_000 []) ∷ [])
+abbrev pub listingAged : List Request
+listingAged = listingFirst ++ (ageing 2_000_000 ∷ [])
+
+abbrev pub listingSecond : List Request
+listingSecond = listingAged ++ (get 0 0 (536870914 ∷ 1073741824 ∷ 1076742824 ∷ 1610612736 ∷ 1613613736 ∷ 3764098386 ∷ []) ∷ [])
 
 -- "name n being the bit of value 2^n": the predicate 1+3 is `2 ^ 1 ∷ 2 ^ 3 ∷ []`. "Under 1" is sender 1 without terms, "under 1+3" with the term {3}
 unfoldable pub cases : List Case
@@ -144,7 +116,7 @@ cases =
     ∷ given (named 5) (hear 1 0 10 [] ∷ hear 1 11 20 [] ∷ []) (knowing ((2 ^ 1 ∷ []) ∷ []))
     ∷ given (named 5) (hear 1 0 10 [] ∷ hear 1 11 20 [] ∷ []) (asking 0 Contradicted)
     -- the two intervals would by then overlap: each has grown by 200
-    ∷ given (named 5) (hear 1 0 10 [] ∷ hear 1 11 20 [] ∷ age 1_000_000 ∷ []) (asking 0 Contradicted)
+    ∷ given (named 5) (hear 1 0 10 [] ∷ hear 1 11 20 [] ∷ ageing 1_000_000 ∷ []) (asking 0 Contradicted)
     -- "[0,10] and [10,20] under 1 and 2: no entry; limit 0 gives 10 to 10."
     ∷ given (named 5) (hear 1 0 10 [] ∷ hear 2 10 20 [] ∷ []) (knowing [])
     ∷ given (named 5) (hear 1 0 10 [] ∷ hear 2 10 20 [] ∷ []) (asking 0 (Between 10 10))
@@ -152,8 +124,8 @@ cases =
     ∷ given (named 5) [] (advancing 1 0 2)
     ∷ given (named 5) [] (advancing 0 0 0)
     -- the same by an ageing
-    ∷ given (named 5) (hear 1 0 10 [] ∷ age 1 ∷ []) (holding (datum 0 12 (2 ^ 1 ∷ []) ∷ []))
-    ∷ given (named 5) (hear 1 0 10 [] ∷ age 0 ∷ []) (holding (datum 0 10 (2 ^ 1 ∷ []) ∷ []))
+    ∷ given (named 5) (hear 1 0 10 [] ∷ ageing 1 ∷ []) (holding (datum 0 12 (2 ^ 1 ∷ []) ∷ []))
+    ∷ given (named 5) (hear 1 0 10 [] ∷ ageing 0 ∷ []) (holding (datum 0 10 (2 ^ 1 ∷ []) ∷ []))
     -- the listing (its `fewest` is not here: `ones` takes as many steps as the mask is large): "between 1000000 1000250"
     ∷ given (named 5) listingFirst (asking 0 (Between 1_000_000 1_000_250))
     -- "between 2999800 3000450"
@@ -163,3 +135,7 @@ cases =
     ∷ given (named 5) listingSecond (asking 1 (Between 2_999_800 3_001_000))
     ∷ given (named 5) listingSecond (asking 2 Open)
     ∷ []
+
+-- "The cases marked P are proved together, as one table with a common statement": each row holds of the exported calls, in every buffer that has room
+unfoldable pub EachCase : Type 0
+EachCase = (c : Case) → In c cases → (buffer : List ℕ) → stateSize ≤ length buffer → CaseComes c buffer

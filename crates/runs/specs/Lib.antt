@@ -1,3 +1,5 @@
+pub mod Demand1
 pub mod Book
 pub mod Runs
 pub mod Cases
+pub mod Example

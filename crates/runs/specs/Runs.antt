@@ -1,6 +1,7 @@
 -- Runs of one monitor over the bytes that C lends, and demand 3 about them. "This holds for every list of receipts and ageings of one monitor after
 -- a setting up that was taken, whatever messages, delays and readings come, refused steps included; each gets the state the last one left, and
--- nobody else writes it meanwhile." Each call is the one whose number and bytes the exported functions promise. Assumes nothing: these are definitions.
+-- nobody else writes it meanwhile." Each call is the one whose number and bytes the exported functions promise.
+-- Assumes nothing: these are definitions.
 use Prim.Native.Nat.{ℕ, zero, suc, _≤_}
 use mathlib.Core.Path.{_≡_}
 use mathlib.Core.Logic.{_⊎_, _↔_}
@@ -118,6 +119,10 @@ unfoldable pub Demand3·more : Type 0
 Demand3·more =
     (P Q : Run) → P .setup ≡ Q .setup → Further (takenOf (stepsOf P)) (takenOf (stepsOf Q)) → (limitP limitQ : ℕ) → limitQ ≤ limitP
     → (x : ℤ) → Possible limitQ (book Q) x → Possible limitP (book P) x
+
+-- "The demand is one statement about the whole list": both halves
+unfoldable pub Demand3·whole : Type 0
+Demand3·whole = Demand3 × Demand3·more
 
 -- ---- set by set
 

@@ -1,0 +1,67 @@
+-- The example run: its numbers and its book, computed on the states that its bytes hold (`proofs.DecodedRuns`), and the run in a buffer of zeros.
+-- Assumes nothing.
+use Prim.Native.Nat.{ℕ, _≤_}
+use mathlib.Core.Path.{_≡_, refl, ap, _∙_}
+use mathlib.Core.List.{List, map}
+use native.Mathlib.Nat.{le-refl}
+use lib.ListN.{length, length-replicate}
+use Rattle.names.specs.Sets.{subset, has}
+use Rattle.numbers.specs.Numbers.{num, bytes, tab, wordsOf, bytesOf}
+use Rattle.predicates.specs.Predicates.{holds, implies, isTrue, isNormal, struck, insert, rising, minimal, normal, formed}
+use Rattle.message.specs.Words.{ofKind, masks, wordSum, check}
+use Rattle.message.specs.Read.{headWordFits, isEnds, opens, width, spanKinds, middle, kindsFit, checkFits, pair, span, withSpan, readForm, readFrom}
+use Rattle.message.specs.Read.{readWords, termWords}
+use Rattle.message.specs.Write.{endWords, front, body, messageWords}
+use Rattle.state.specs.Layout.{stateSize, zeros}
+use Rattle.entries.specs.Entries.{explained, learn}
+use Rattle.steps.specs.Steps.{disjoint, learnt, unexplained, same, meet, met, without, betters, stored, heldAfter, settled, received, tooMany}
+use Rattle.engine.specs.Ageing.{leastAdvance, greatestAdvance, slow, fast, widened, aged}
+use Rattle.engine.specs.Receiving.{grown}
+use Rattle.engine.specs.Calls.{begun, setUp, moved, made, done}
+use Rattle.engine.specs.Refusals.{setUpRefusal, passesEnd, ageRefusal, receiptRefusal}
+use Rattle.monitor.specs.Messages.{readBytes}
+use Rattle.monitor.specs.Receive.{delivered, deliveredAs, deliveredNumber, deliveredState}
+use Rattle.runs.specs.Book.{Step, opened, linesOf, entered, enteredDelivery, enteredRequest, noted, bookOf}
+use Rattle.runs.specs.Runs.{Run, book}
+use Rattle.runs.specs.Example.{exampleSetup, exampleRequests, exampleNumbers, exampleLines, exampleRun, Example}
+use Rattle.runs.proofs.DecodedRuns.{numberOn, doneBy, next, stepsFrom, set-up-taken, run-steps}
+
+-- ---- on states
+
+example-states : (map (λ (p : Step). p .number) (stepsFrom (setUp exampleSetup) exampleRequests) ≡ exampleNumbers)
+    × (bookOf (opened exampleSetup) (stepsFrom (setUp exampleSetup) exampleRequests) .lines ≡ exampleLines)
+unfolding subset has holds implies isTrue isNormal struck insert rising minimal normal formed
+    num bytes tab wordsOf bytesOf
+    ofKind masks wordSum check headWordFits isEnds opens width spanKinds middle kindsFit checkFits
+    pair span withSpan readForm readFrom readWords termWords
+    endWords front body messageWords readBytes
+    leastAdvance greatestAdvance slow fast widened aged
+    grown disjoint explained learn learnt unexplained same meet met without betters stored heldAfter settled received
+    begun setUp moved made done passesEnd ageRefusal tooMany receiptRefusal
+    delivered deliveredAs deliveredNumber deliveredState
+    opened linesOf entered enteredDelivery enteredRequest noted bookOf
+    numberOn doneBy next stepsFrom exampleRequests exampleNumbers exampleLines
+example-states = (refl, refl)
+
+begins-taken : setUpRefusal exampleSetup ≡ 0
+unfolding setUpRefusal
+begins-taken = refl
+
+-- ---- on bytes
+
+pub example-holds : Example
+unfolding Example book
+example-holds buffer h =
+    let begins = set-up-taken buffer exampleSetup h begins-taken in
+    let r = exampleRun buffer begins in (
+      begins,
+      ap (λ (ps : List Step). map (λ (p : Step). p .number) ps) (run-steps r) ∙ example-states .0,
+      ap (λ (ps : List Step). bookOf (opened exampleSetup) ps .lines) (run-steps r) ∙ example-states .1,
+    )
+
+-- the run in 3,032 zeros
+pub example : Run
+unfolding Example
+example =
+    let room : stateSize ≤ length (zeros stateSize) = rw (length-replicate {A = ℕ} stateSize 0) (le-refl stateSize) in
+    exampleRun (zeros stateSize) (example-holds (zeros stateSize) room .0)
