@@ -39,7 +39,7 @@ fn of_kind(words: &[u32], k: u32) -> bool
 }
 
 // The check word's payload: the sum of the words, wrapping, modulo 2^29.
-pub fn check_of(words: &[u32]) -> u32
+pub(crate) fn check_of(words: &[u32]) -> u32
     ensures { λ r. ⌜ (r ≡ check (now (words .entry))) × (r < payloadSize) ⌝ }
 {
     let mut sum: u32 = 0;
@@ -159,7 +159,7 @@ fn read_form(words: &[u32], at: usize, ends: bool) -> Reading
 }
 
 // The message in the words, or its first refusal, from the head on; the interval begins at place `at`.
-pub fn read_from(words: &[u32], at: usize) -> Reading
+fn read_from(words: &[u32], at: usize) -> Reading
     requires { ⌜ at < length (now words) ⌝ }
     ensures { λ r. ⌜ r ≡ readFrom at (now (words .entry)) ⌝ }
 {

@@ -2,7 +2,7 @@
 use Prim.Native.Nat.{ℕ, _+_, _-_, _≤_, _<_, min}
 use mathlib.Core.Path.{_≡_, sym, ap, _∙_}
 use mathlib.Core.Bool.{Bool, true, false, _&&_, and-assoc}
-use mathlib.Core.List.{List, [], _∷_}
+use mathlib.Core.List.{List, _∷_}
 use native.Mathlib.Numerals.{add-one}
 use native.Mathlib.Omega.{arith}
 use lib.ListN.{length, getD, take, drop, drop-of-length-le, length-drop}
@@ -41,11 +41,6 @@ module _ (f : ℕ → Bool) (l : List ℕ) (i : ℕ) where
   all-done h = rw (drop-of-length-le l {i = i} h)
 
 -- ---- the smallest term
-
-pub degree-le : (p : List ℕ) → degree p ≤ 30
-unfolding degree
-degree-le [] = omega arith
-degree-le (t ∷ p) = omega (arith, degree-le p)
 
 pub degree-next : (p : List ℕ) (i : ℕ) → i < length p → degree (drop i p) ≡ min (ones (getD p i 0)) (degree (drop (i + 1) p))
 unfolding degree

@@ -5,10 +5,9 @@ pub mod normal;
 pub mod sums;
 
 ghost use mathlib.Core.Path.{_≡_};
-ghost use Prim.Native.Nat.{_≤_};
 ghost use Rattle.names.specs.Sets.{subset};
 ghost use Rattle.predicates.specs.Lists.{any, all};
-ghost use Rattle.predicates.specs.Predicates.{degree as Predicates·degree, holds as Predicates·holds, implies as Predicates·implies};
+ghost use Rattle.predicates.specs.Predicates.{holds as Predicates·holds, implies as Predicates·implies};
 ghost use Rattle.predicates.specs.Predicates.{precedes, isNormal};
 
 // The degree of false, which has no terms: above every count of names.
@@ -40,22 +39,6 @@ pub fn implies(p: &[u32], q: &[u32]) -> bool
         i += 1;
     }
     true
-}
-
-// The number of names in the smallest term of p; where there is none, more than there are names.
-pub fn degree(p: &[u32]) -> u32
-    ensures { λ r. ⌜ (r ≡ Predicates·degree (now (p .entry))) × (r ≤ 30) ⌝ }
-{
-    let mut least: u32 = DEGREE_OF_FALSE;
-    let mut i: usize = 0;
-    while i < p.len() {
-        let count = names::count(p[i]);
-        if count < least {
-            least = count;
-        }
-        i += 1;
-    }
-    least
 }
 
 // Whether a term of p contains t.

@@ -20,7 +20,7 @@ fn clear(terms: &mut [u32], from: usize, n: usize)
 }
 
 // Strikes out, of the first n terms, those that name `name`, with zeros in the places given up. Answers how many are left.
-pub fn strike(terms: &mut [u32], n: usize, name: u32) -> usize
+fn strike(terms: &mut [u32], n: usize, name: u32) -> usize
     requires { ⌜ (n ≤ length (now terms)) × (name < 32) ⌝ }
     ensures { λ r. ⌜ (r ≡ length (struck name (take n (now (terms .entry))))) × (r ≤ n) ⌝ }
     ensures { λ _. ⌜ now (terms .exit) ≡ padded n (struck name (take n (now (terms .entry)))) ++ drop n (now (terms .entry)) ⌝ }

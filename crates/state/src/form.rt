@@ -166,7 +166,7 @@ fn entries_fit(s: &[u8], own: u32, n: usize) -> bool
 }
 
 // Whether the state at the front of s is in form.
-pub fn in_form(s: &[u8]) -> bool
+fn in_form(s: &[u8]) -> bool
     requires { ⌜ stateSize ≤ length (now s) ⌝ }
     ensures { λ r. ⌜ r ≡ inForm (now (s .entry)) ⌝ }
 {
