@@ -21,7 +21,7 @@ extern "C" {
 /** A monitor's state. A lent state may be longer; the bytes beyond stay as they are. */
 #define MONITOR_STATE_BYTES 3032
 
-/** What message_read writes: sender, left, right, term count, 8 bytes each. */
+/** What monitor_message_read writes: sender, left, right, term count, 8 bytes each. */
 #define MONITOR_READING_BYTES 32
 
 /** What monitor_ask writes: kind of answer, left, right, 8 bytes each. */
@@ -35,7 +35,7 @@ extern "C" {
 #define MONITOR_MOST_WORDS 14
 #define MONITOR_MOST_TERMS 8
 
-/** Bytes of the longest message. An output of this size is never too short for message_rewrite or monitor_write. */
+/** Bytes of the longest message. An output of this size is never too short for monitor_message_rewrite or monitor_write. */
 #define MONITOR_MESSAGE_BYTES (4 * MONITOR_MOST_WORDS)
 
 /** The greatest name, drift in parts per million, delay in microseconds and limit of failed monitors. */
@@ -150,7 +150,7 @@ uint32_t monitor_fewest(const uint8_t *state, size_t state_len, uint8_t *answer,
  *  @param reading      sender, left, right and term count go to its first MONITOR_READING_BYTES bytes; those beyond stay as they are
  *  @param reading_len  how many bytes are lent
  *  @return 0 when taken; else, tested in this order, 10, 12, 11, 13, 14, 15, 16, 17 or 24 (reading too short), and no byte has changed */
-uint32_t message_read(const uint8_t *message, size_t message_len, uint8_t *reading, size_t reading_len);
+uint32_t monitor_message_read(const uint8_t *message, size_t message_len, uint8_t *reading, size_t reading_len);
 
 /** Writes a message again in ends form, with the sender, interval and terms that it has and a new check word. A message in ends form comes out
  *  as the same words.
@@ -159,7 +159,7 @@ uint32_t message_read(const uint8_t *message, size_t message_len, uint8_t *readi
  *  @param out          the message goes to its first 4 * (6 + term count) bytes; those beyond stay as they are
  *  @param out_len      how many bytes are lent; MONITOR_MESSAGE_BYTES are always enough
  *  @return 0 when taken; else, tested in this order, 10, 12, 11, 13, 14, 15, 16, 17 or 24 (out too short), and no byte has changed */
-uint32_t message_rewrite(const uint8_t *message, size_t message_len, uint8_t *out, size_t out_len);
+uint32_t monitor_message_rewrite(const uint8_t *message, size_t message_len, uint8_t *out, size_t out_len);
 
 #ifdef __cplusplus
 }

@@ -5,14 +5,14 @@
 
 mod c {
     extern "C" {
-        pub fn message_read(
+        pub fn monitor_message_read(
             message: *const u8,
             message_len: usize,
             reading: *mut u8,
             reading_len: usize,
         ) -> u32;
 
-        pub fn message_rewrite(
+        pub fn monitor_message_rewrite(
             message: *const u8,
             message_len: usize,
             out: *mut u8,
@@ -63,16 +63,16 @@ mod c {
     }
 }
 
-/// The engine's `message_read`.
-pub fn message_read(message: &[u8], reading: &mut [u8]) -> u32 {
+/// The engine's `monitor_message_read`.
+pub fn monitor_message_read(message: &[u8], reading: &mut [u8]) -> u32 {
     // Safe: each pointer goes with the length of its own slice.
-    unsafe { c::message_read(message.as_ptr(), message.len(), reading.as_mut_ptr(), reading.len()) }
+    unsafe { c::monitor_message_read(message.as_ptr(), message.len(), reading.as_mut_ptr(), reading.len()) }
 }
 
-/// The engine's `message_rewrite`.
-pub fn message_rewrite(message: &[u8], out: &mut [u8]) -> u32 {
+/// The engine's `monitor_message_rewrite`.
+pub fn monitor_message_rewrite(message: &[u8], out: &mut [u8]) -> u32 {
     // Safe: as above.
-    unsafe { c::message_rewrite(message.as_ptr(), message.len(), out.as_mut_ptr(), out.len()) }
+    unsafe { c::monitor_message_rewrite(message.as_ptr(), message.len(), out.as_mut_ptr(), out.len()) }
 }
 
 /// The engine's `monitor_set_up`.

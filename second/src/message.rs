@@ -228,13 +228,13 @@ pub fn rewrite(words: &[u32]) -> Result<Words, u32> {
     read(words).map(|message| write(&message))
 }
 
-/// `message_read`: sender, left, right and term count, 8 bytes a number.
+/// `monitor_message_read`: sender, left, right and term count, 8 bytes a number.
 pub fn read_call(message: &[u8], out: &mut [u8]) -> u32 {
     let reading = words_of(message).and_then(|words| read(&words));
     answer(reading.map(|message| reading_bytes(&message)), out)
 }
 
-/// `message_rewrite`: the message in ends form.
+/// `monitor_message_rewrite`: the message in ends form.
 pub fn rewrite_call(message: &[u8], out: &mut [u8]) -> u32 {
     let written = words_of(message).and_then(|words| rewrite(&words));
     answer_words(written, out)

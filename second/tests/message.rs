@@ -23,15 +23,15 @@ struct Call {
 }
 
 const READ: Call = Call {
-    name: "message_read",
-    engine: engine::message_read,
+    name: "monitor_message_read",
+    engine: engine::monitor_message_read,
     second: message::read_call,
     written: |_| READING_BYTES,
 };
 
 const REWRITE: Call = Call {
-    name: "message_rewrite",
-    engine: engine::message_rewrite,
+    name: "monitor_message_rewrite",
+    engine: engine::monitor_message_rewrite,
     second: message::rewrite_call,
     written: rewritten_bytes,
 };

@@ -17,22 +17,22 @@ static void reading(void)
     uint8_t *message = lend(&m, sizeof ends_form), *out = lend(&r, MONITOR_READING_BYTES);
     size_t len = bytes_of(message, ends_form, 6);
 
-    check(message_read(message, len, out, r.n) == MONITOR_TAKEN, "document 01's first message is taken");
+    check(monitor_message_read(message, len, out, r.n) == MONITOR_TAKEN, "document 01's first message is taken");
     check(number(out) == 1 && number(out + 8) == 1000000 && number(out + 16) == 1000200 && number(out + 24) == 0,
           "sender, left, right and term count");
     check(untouched(&r, MONITOR_READING_BYTES), "nothing beside the reading is written");
 
     for (size_t n = 0; n < MONITOR_READING_BYTES; n++) {
         out = lend(&r, n);
-        check(message_read(message, len, out, n) == MONITOR_BUFFER && untouched(&r, 0), "a short output is 24, unchanged");
+        check(monitor_message_read(message, len, out, n) == MONITOR_BUFFER && untouched(&r, 0), "a short output is 24, unchanged");
     }
     for (size_t cut = 1; cut < 4; cut++) {
         out = lend(&r, 0);
-        check(message_read(message, len - cut, out, 0) == MONITOR_WORD_COUNT, "a length that leaves a rest is 10, before 24");
+        check(monitor_message_read(message, len - cut, out, 0) == MONITOR_WORD_COUNT, "a length that leaves a rest is 10, before 24");
     }
     message[0] ^= 2; /* another sender, the old check word */
     out = lend(&r, MONITOR_READING_BYTES);
-    check(message_read(message, len, out, r.n) == MONITOR_CHECK && untouched(&r, 0), "a changed head is 15, output unchanged");
+    check(monitor_message_read(message, len, out, r.n) == MONITOR_CHECK && untouched(&r, 0), "a changed head is 15, output unchanged");
 }
 
 static void rewriting(void)
@@ -41,7 +41,7 @@ static void rewriting(void)
     uint8_t *message = lend(&m, sizeof ends_form), *out = lend(&r, sizeof ends_form);
     size_t len = bytes_of(message, ends_form, 6);
 
-    check(message_rewrite(message, len, out, r.n) == MONITOR_TAKEN, "an ends form message is taken");
+    check(monitor_message_rewrite(message, len, out, r.n) == MONITOR_TAKEN, "an ends form message is taken");
     check(memcmp(out, message, len) == 0 && untouched(&r, len), "and comes out as the same words");
 
     const size_t written = 4 * 8;
@@ -49,14 +49,14 @@ static void rewriting(void)
     len = bytes_of(message, centre_form, 7);
     for (size_t n = 0; n < written; n++) {
         out = lend(&r, n);
-        check(message_rewrite(message, len, out, n) == MONITOR_BUFFER && untouched(&r, 0), "8 words do not fit, nothing is written");
+        check(monitor_message_rewrite(message, len, out, n) == MONITOR_BUFFER && untouched(&r, 0), "8 words do not fit, nothing is written");
     }
     out = lend(&r, MONITOR_MESSAGE_BYTES);
-    check(message_rewrite(message, len, out, r.n) == MONITOR_TAKEN && untouched(&r, written), "a centre form message is written as 8 words");
+    check(monitor_message_rewrite(message, len, out, r.n) == MONITOR_TAKEN && untouched(&r, written), "a centre form message is written as 8 words");
 
     struct lent a, b;
     uint8_t *before = lend(&a, MONITOR_READING_BYTES), *after = lend(&b, MONITOR_READING_BYTES);
-    check(message_read(message, len, before, a.n) == MONITOR_TAKEN && message_read(out, written, after, b.n) == MONITOR_TAKEN,
+    check(monitor_message_read(message, len, before, a.n) == MONITOR_TAKEN && monitor_message_read(out, written, after, b.n) == MONITOR_TAKEN,
           "both forms are read");
     check(memcmp(before, after, MONITOR_READING_BYTES) == 0 && number(before + 8) == 1000000 && number(before + 16) == 1000200,
           "with the same sender, interval and term count");

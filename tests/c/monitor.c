@@ -54,7 +54,7 @@ static void writing(const uint8_t *state)
     struct lent o;
     uint8_t *out = lend(&o, MONITOR_MESSAGE_BYTES), reading[MONITOR_READING_BYTES];
     check(monitor_write(state, MONITOR_STATE_BYTES, 0, out, o.n) == MONITOR_TAKEN && untouched(&o, 28), "the oldest is written as 7 words");
-    check(message_read(out, 28, reading, sizeof reading) == MONITOR_TAKEN, "what is written is read");
+    check(monitor_message_read(out, 28, reading, sizeof reading) == MONITOR_TAKEN, "what is written is read");
     check(number(reading) == 5 && number(reading + 8) == 2999800 && number(reading + 16) == 3000450 && number(reading + 24) == 1,
           "own name, interval and one term");
 }

@@ -44,7 +44,7 @@ fn put_four(out: &mut [u8], a: u64, b: u64, c: u64, d: u64)
 
 // Reads a message: sender, left, right and term count go to the first 32 bytes of the output.
 #[no_mangle]
-pub extern "C" fn message_read(message: &[u8], reading: &mut [u8]) -> u32
+pub extern "C" fn monitor_message_read(message: &[u8], reading: &mut [u8]) -> u32
     ensures { λ r. ⌜ r ≡ readNumber (now (message .entry)) (now (reading .entry)) ⌝ }
     ensures { λ _. ⌜ now (reading .exit) ≡ readOutput (now (message .entry)) (now (reading .entry)) ⌝ }
 {
@@ -63,7 +63,7 @@ pub extern "C" fn message_read(message: &[u8], reading: &mut [u8]) -> u32
 
 // Writes a message again in ends form, with the sender, interval and terms that it has.
 #[no_mangle]
-pub extern "C" fn message_rewrite(message: &[u8], out: &mut [u8]) -> u32
+pub extern "C" fn monitor_message_rewrite(message: &[u8], out: &mut [u8]) -> u32
     ensures { λ r. ⌜ r ≡ rewriteNumber (now (message .entry)) (now (out .entry)) ⌝ }
     ensures { λ _. ⌜ now (out .exit) ≡ rewriteOutput (now (message .entry)) (now (out .entry)) ⌝ }
 {

@@ -85,13 +85,13 @@ const WRITE: Call = Call {
 };
 const READ: Call = Call {
     name: "read",
-    engine: |case| engine::message_read(&case.message, &mut case.out),
+    engine: |case| engine::monitor_message_read(&case.message, &mut case.out),
     second: |case| message::read_call(&case.message, &mut case.out),
     number: 0,
 };
 const REWRITE: Call = Call {
     name: "rewrite",
-    engine: |case| engine::message_rewrite(&case.message, &mut case.out),
+    engine: |case| engine::monitor_message_rewrite(&case.message, &mut case.out),
     second: |case| message::rewrite_call(&case.message, &mut case.out),
     number: 0,
 };

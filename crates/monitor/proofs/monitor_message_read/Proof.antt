@@ -1,4 +1,4 @@
--- `monitor::message_read` meets its contract: refused, by what was read; too short an output; or the four numbers at its front.
+-- `monitor::monitor_message_read` meets its contract: refused, by what was read; too short an output; or the four numbers at its front.
 use mathlib.Core.Path.{_≡_, sym, _∙_}
 use borrow.Author.Tests.{lt-ltb, le-ltb}
 use lib.Seq.{length-take-le}
@@ -8,8 +8,8 @@ use Rattle.state.specs.Refusal.{after}
 use Rattle.monitor.specs.Messages.{readBytes, readingBytes, answered, readNumber, readOutput}
 use Rattle.monitor.proofs.MessageCalls.{refused-stays, got-read}
 use borrow.Author.Needs.{needs}
-use Rattle.monitor.proofs.message_read.Statement.{statement}
-use Rattle.monitor.proofs.message_read.Tie as tie
+use Rattle.monitor.proofs.monitor_message_read.Statement.{statement}
+use Rattle.monitor.proofs.monitor_message_read.Tie as tie
 
 slice-aggregate-read : tie.Need-slice-aggregate-read
 slice-aggregate-read c = sym (length-take-le _ _ (search needs))
@@ -42,8 +42,8 @@ returns-3 c =
     let long = le-ltb _ _ (at-if1 .if1 .left) in
     (rw (e, long), rw (e, long) (c .before .before .put-four .ensures))
 
-pub message-read-spec : {M : Type 1} → statement M
-message-read-spec =
+pub monitor-message-read-spec : {M : Type 1} → statement M
+monitor-message-read-spec =
     tie.close
     (tie.spec
     (λ c. search needs)

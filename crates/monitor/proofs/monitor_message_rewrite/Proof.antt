@@ -1,4 +1,4 @@
--- `monitor::message_rewrite` meets its contract: refused, by what was read; too short an output; or the words in ends form at its front.
+-- `monitor::monitor_message_rewrite` meets its contract: refused, by what was read; too short an output; or the words in ends form at its front.
 use mathlib.Core.Path.{_≡_, sym, _∙_}
 use borrow.Author.Tests.{lt-ltb, le-ltb}
 use lib.Seq.{length-take-le}
@@ -7,8 +7,8 @@ use Rattle.state.specs.Refusal.{after}
 use Rattle.monitor.specs.Messages.{readBytes, answered, rewriteNumber, rewriteOutput}
 use Rattle.monitor.proofs.MessageCalls.{refused-stays, got-read, words-taken, rewritten-few, length-rewritten-bytes, written-bytes}
 use borrow.Author.Needs.{needs}
-use Rattle.monitor.proofs.message_rewrite.Statement.{statement}
-use Rattle.monitor.proofs.message_rewrite.Tie as tie
+use Rattle.monitor.proofs.monitor_message_rewrite.Statement.{statement}
+use Rattle.monitor.proofs.monitor_message_rewrite.Tie as tie
 
 slice-aggregate-rewrite : tie.Need-slice-aggregate-rewrite
 slice-aggregate-rewrite c = sym (length-take-le _ _ (search needs))
@@ -53,8 +53,8 @@ returns-3 c =
     let written = written-bytes _ e _ _ (search needs) (rw words at (at-rewrite .rewrite .ensures .1)) in
     (rw (e, long), rw (e, long) (rw written at (c .before .before .put-words .ensures)))
 
-pub message-rewrite-spec : {M : Type 1} → statement M
-message-rewrite-spec =
+pub monitor-message-rewrite-spec : {M : Type 1} → statement M
+monitor-message-rewrite-spec =
     tie.close
     (tie.spec
     (λ c. search needs)
