@@ -14,15 +14,15 @@ use native.Mathlib.Decide.{decLt}
 use lib.Dec.{T, leb, leb→le, le→leb, eqb, eqb→eq, eqb-refl}
 use lib.ListN.{length, getD, take, drop, set, length-append, length-take, length-drop, length-set, length-replicate, List·getD-append}
 use lib.Seq.{take-append-le, getD-append-add, getD-drop}
-use Rattle.numbers.specs.Numbers.{num, put, tab}
-use Rattle.numbers.proofs.NumberLaws.{length-put, put-then, put-front, length-tab, getD-tab, tab-next}
+use Rattle.numbers.specs.Numbers.{num, bytes, put, tab}
+use Rattle.numbers.proofs.NumberLaws.{length-bytes, length-put, put-then, put-front, length-tab, getD-tab, tab-next}
 use Rattle.predicates.specs.Lists.{all, keep}
 use Rattle.predicates.proofs.ListLaws.{all-keep, both-l, both-r}
-use Rattle.state.specs.Layout.{dataAt, dataMost, datumSize, datumTerms, entriesAt, entriesMost, entrySize, entryTerms, dataBytes, entriesBytes, datumPlace, entryPlace, heldCount, entryCount, zeros, joined, datumBytes, entryBytes, masksAt, rowAt, datumAt, entryAt, storeOf, dataBytes, entriesBytes, entryTerms, datumTerms, entriesMost, dataMost, entrySize, ownAt, rightIn, rowIn}
-use Rattle.state.specs.Form.{inForm, datumOk, termsFit}
+use Rattle.state.specs.Layout.{heldAt, dataAt, dataMost, datumSize, datumTerms, entriesAt, entriesMost, entrySize, entryTerms, dataBytes, entriesBytes, datumPlace, entryPlace, heldCount, entryCount, zeros, joined, datumBytes, entryBytes, masksAt, rowAt, datumAt, entryAt, storeOf, dataBytes, entriesBytes, entryTerms, datumTerms, entriesMost, dataMost, entrySize, ownAt, rightIn, rowIn}
+use Rattle.state.specs.Form.{isZero, dataFit, entriesFit, inForm, datumOk, termsFit}
 use Rattle.state.proofs.LayoutLaws.{all-tab, At, length-joined, at-joined, length-datum, length-entry}
-use Rattle.state.proofs.PutLaws.{joined-last}
-use Rattle.state.proofs.StateLaws.{datum-at-ok, length-datum-at, entry-at-ok, length-entry-at}
+use Rattle.state.proofs.PutLaws.{zero-behind, joined-last}
+use Rattle.state.proofs.StateLaws.{held-count-le, entry-count-le, datum-at-ok, length-datum-at, entry-at-ok, length-entry-at}
 use Rattle.state.specs.code.Tables.{Table, Columns, tableOf, table, columns, TableFits, ColumnsFit, rowOf, hasTerms, entriesIn, datumIn, dataIn, Columns, Table, tableOf}
 use Rattle.state.specs.Model.{datum}
 use Rattle.numbers.proofs.NumberLaws.{tab-suc, tab-cong}
@@ -214,6 +214,19 @@ length-entries-in n t f h =
     (all-keep narrowEntry hasTerms (tab n (rowOf entryTerms t))
     (all-tab narrowEntry n (rowOf entryTerms t) (λ i k. le→leb _ entryTerms (length-row-le entryTerms i (t .counts) (t .masks) (f .narrow i))))) h
 
+-- the entries' places stay as they are where data are written
+pub rest-stays : (n used : ℕ) (c : Columns) (s u : List ℕ) → TableFits datumTerms n (tableOf c) → length (dataIn n c) ≤ dataMost → used ≤ entriesMost
+    → u ≡ put heldAt (bytes 4 (length (dataIn n c))) (put dataAt (dataBytes (dataIn n c)) s)
+    → T (isZero (entryPlace used) (entryPlace entriesMost) s) → T (isZero (entryPlace used) (entryPlace entriesMost) u)
+rest-stays n used c s u t h k e z =
+    let count = bytes 4 (length (dataIn n c)) in
+    let ds = dataBytes (dataIn n c) in
+    rw (
+      e,
+      zero-behind heldAt (entryPlace used) (entryPlace entriesMost) count (put dataAt ds s) (omega (arith, length-bytes 4 (length (dataIn n c)))) (omega arith),
+      zero-behind dataAt (entryPlace used) (entryPlace entriesMost) ds s (omega (arith, length-data-in n c t h)) (omega arith),
+    ) z
+
 -- ---- what the arrays hold of the bytes
 
 -- the part of an array that was filled, and the rest
@@ -319,6 +332,20 @@ module _ {A : Type 0} where
     where
       true-of : (b : Bool) → T b → b ≡ true
       true-of true t = refl
+
+-- the places that are not in use are zero
+module _ (s : List ℕ) (t : T (inForm s)) where
+  pub data-rest : (n : ℕ) → n ≡ heldCount s → (n ≤ dataMost) × T (isZero (datumPlace n) (datumPlace dataMost) s)
+  unfolding inForm dataFit
+  data-rest n e =
+      let zero : T (isZero (datumPlace (heldCount s)) (datumPlace dataMost) s) = search (both-l, both-r) depth 9 in
+      rw e (held-count-le s t, zero)
+
+  pub entries-rest : (n : ℕ) → n ≡ entryCount s → (n ≤ entriesMost) × T (isZero (entryPlace n) (entryPlace entriesMost) s)
+  unfolding inForm entriesFit
+  entries-rest n e =
+      let zero : T (isZero (entryPlace (entryCount s)) (entryPlace entriesMost) s) = search (both-l, both-r) depth 9 in
+      rw e (entry-count-le s t, zero)
 
 -- a predicate that fits has terms
 fits-some : (own width : ℕ) (p : List ℕ) → T (termsFit own width p) → T (hasTerms p)
