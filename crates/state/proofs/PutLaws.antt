@@ -86,7 +86,7 @@ zeros-stand used from to s h k l t =
     let place : used + (from - used) ≡ from = omega arith in
     rw place at (at-then (from - used) used (zeros (from - used)) (zeros (to - from)) s (length-replicate (from - used) 0) (rw (← both) at there))
 
--- no bytes, and no other
+-- of no bytes all are zero
 pub zero-none : (at : ℕ) (s : List ℕ) → T (isZero at at s)
 unfolding isZero
 zero-none at s = rw (slice-empty at s) tt
