@@ -27,8 +27,8 @@ const FEW_ROWS: usize = 12;
 
 const FEW_MASKS: usize = FEW_ROWS * state::ENTRY_TERMS;
 
-// Takes the four steps with the datum of these ends under p, which is not true, and with arrays that have a row for each row of entries that there can
-// be. Answers 0 or 32.
+// Takes the four steps with the datum of these ends under p, which is not true. The arrays have a row for each entry that is known and for each that
+// can be learnt. Answers 0 or 32.
 fn take_in(
     state: &mut [u8],
     new: Ends,
@@ -101,8 +101,8 @@ fn take_many(state: &mut [u8], new: Ends, p: &[u32], old: Rows) -> u32
     take_in(state, new, p, old, &mut counts, &mut masks)
 }
 
-// Takes the four steps with the datum of these ends under p, which is not true. Answers 0 or 32. The rows are mostly few: clearing arrays for all rows
-// would take longer than the rest.
+// Takes the four steps with the datum of these ends under p, which is not true. Answers 0 or 32. Where the rows are few, as they mostly are, few are
+// cleared.
 pub fn take_datum(state: &mut [u8], new: Ends, p: &[u32]) -> u32
     requires { ⌜ (stateSize ≤ length (now state)) × T (inForm (now state)) ⌝ }
     requires { ⌜ (0 < length (now p)) × (length (now p) ≤ datumTerms) ⌝ }

@@ -4,7 +4,7 @@
 use Prim.Native.Nat.{ℕ, zero, suc, _+_, _*_, _-_, _≤_, _<_}
 use mathlib.Core.Path.{_≡_, refl, sym, ap, _∙_}
 use mathlib.Core.List.{List, [], _∷_, _++_, append-assoc, append-nil}
-use native.Mathlib.Nat.{add-zero, zero-mul, suc-mul, add-mul, mul-le-mul-right}
+use native.Mathlib.Nat.{add-zero, zero-mul, suc-mul, mul-le-mul-right}
 use native.Mathlib.Numerals.{add-one}
 use native.Mathlib.Omega.{arith}
 use lib.Dec.{T}
@@ -16,7 +16,7 @@ use Rattle.state.specs.Model.{Datum}
 use Rattle.state.specs.Layout.{stateSize, dataAt, dataMost, datumSize, entriesAt, entriesMost, entrySize, datumPlace, entryPlace, zeros, joined, datumBytes, entryBytes, dataBytes, entriesBytes}
 use Rattle.state.specs.Form.{isZero}
 use Rattle.state.proofs.LayoutLaws.{part, slice-part, At, at-then}
-use Rattle.state.proofs.FormLaws.{zeros-out}
+use Rattle.state.proofs.FormLaws.{sizes-add, zeros-out}
 
 -- ---- what stands at a place
 
@@ -82,7 +82,8 @@ zeros-stand used from to s h k l t =
     let e : to ≡ used + (to - used) = omega arith in
     let there : At used (zeros (to - used)) s = rw (zeros-out used (to - used) to s e l t) at (part-stands used (to - used) s) in
     let long : from - used + (to - from) ≡ to - used = omega arith in
-    let both : zeros (from - used) ++ zeros (to - from) ≡ zeros (to - used) = replicate-append-replicate (from - used) (to - from) 0 ∙ ap (λ (n : ℕ). zeros n) long in
+    let both : zeros (from - used) ++ zeros (to - from) ≡ zeros (to - used) =
+    replicate-append-replicate (from - used) (to - from) 0 ∙ ap (λ (n : ℕ). zeros n) long in
     let place : used + (from - used) ≡ from = omega arith in
     rw place at (at-then (from - used) used (zeros (from - used)) (zeros (to - from)) s (length-replicate (from - used) 0) (rw (← both) at there))
 
@@ -110,7 +111,8 @@ clear-rest at from used to vs s t u g h k l z p q =
     ∙ ap (λ (x : List ℕ). drop next x) p ∙ drop-put next at vs s (omega arith) in
     let long : n + (to - next) ≡ to - from = omega arith in
     let both : zeros n ++ zeros (to - next) ≡ zeros (to - from) = replicate-append-replicate n (to - next) 0 ∙ ap (λ (k : ℕ). zeros k) long in
-    put-then n from next (zeros n) (zeros (to - next)) t u u (length-replicate n 0) refl q (sym (put-stands next (zeros (to - next)) u (stand .0, same ∙ stand .1)))
+    put-then n from next (zeros n) (zeros (to - next)) t u u (length-replicate n 0) refl q
+    (sym (put-stands next (zeros (to - next)) u (stand .0, same ∙ stand .1)))
     ∙ ap (λ (x : List ℕ). put from x t) both
 
 -- ---- the places of data and entries
@@ -120,11 +122,11 @@ places-put : (size cap at n used : ℕ) (vs s t u : List ℕ) → length vs ≡ 
     → T (isZero (at + used * size) (at + cap * size) s) → t ≡ put at vs s
     → u ≡ put (at + n * size) (zeros (at + used * size - (at + n * size))) t → u ≡ put at (vs ++ zeros ((cap - n) * size)) s
 places-put size cap at n used vs s t u e h k l z p q =
-    let all : cap - n + n ≡ cap = omega arith in
-    let places : (cap - n) * size + n * size ≡ cap * size = sym (add-mul (cap - n) n size) ∙ ap (λ (x : ℕ). x * size) all in
+    let places = sizes-add cap n size h in
     let left : at + cap * size - (at + n * size) ≡ (cap - n) * size = omega arith in
     let room = mul-le-mul-right size h in
-    let rest = clear-rest at (at + n * size) (at + used * size) (at + cap * size) vs s t u (omega arith) (omega arith) (omega (arith, mul-le-mul-right size k)) l z p q in
+    let rest = clear-rest at (at + n * size) (at + used * size) (at + cap * size) vs s t u (omega arith) (omega arith)
+    (omega (arith, mul-le-mul-right size k)) l z p q in
     put-then (n * size) at (at + n * size) vs (zeros ((cap - n) * size)) s t u e refl p (rest ∙ ap (λ (x : ℕ). put (at + n * size) (zeros x) t) left)
 
 pub data-put : (ds : List Datum) (n used : ℕ) (s t u : List ℕ) → n ≡ length ds → length (joined datumBytes ds) ≡ n * datumSize → length ds ≤ dataMost
@@ -134,9 +136,10 @@ unfolding dataBytes
 data-put ds n used s t u c e h k l z p q =
     rw (← c) (places-put datumSize dataMost dataAt n used (joined datumBytes ds) s t u e (omega arith) k (omega arith) z p q)
 
-pub entries-put : (es : List (List ℕ)) (n used : ℕ) (s t u : List ℕ) → n ≡ length es → length (joined entryBytes es) ≡ n * entrySize → length es ≤ entriesMost
-    → used ≤ entriesMost → stateSize ≤ length s → T (isZero (entryPlace used) (entryPlace entriesMost) s) → t ≡ put entriesAt (joined entryBytes es) s
-    → u ≡ put (entryPlace n) (zeros (entryPlace used - entryPlace n)) t → u ≡ put entriesAt (entriesBytes es) s
+pub entries-put : (es : List (List ℕ)) (n used : ℕ) (s t u : List ℕ) → n ≡ length es → length (joined entryBytes es) ≡ n * entrySize
+    → length es ≤ entriesMost → used ≤ entriesMost → stateSize ≤ length s → T (isZero (entryPlace used) (entryPlace entriesMost) s)
+    → t ≡ put entriesAt (joined entryBytes es) s → u ≡ put (entryPlace n) (zeros (entryPlace used - entryPlace n)) t
+    → u ≡ put entriesAt (entriesBytes es) s
 unfolding entriesBytes
 entries-put es n used s t u c e h k l z p q =
     rw (← c) (places-put entrySize entriesMost entriesAt n used (joined entryBytes es) s t u e (omega arith) k (omega arith) z p q)

@@ -136,7 +136,7 @@ fn put_entries(s: &mut [u8], counts: &[u32], masks: &[u32], n: usize) -> usize
     r
 }
 
-// Writes the data that have terms, zeros into the places left over, and the held count. Of the places before, those from `used` on are zero already.
+// Writes the data that have terms, zeros into the places left over, and the held count. The places from `used` on are zero already.
 fn put_held(
     s: &mut [u8],
     lefts: &[u64],
@@ -162,7 +162,7 @@ fn put_held(
     numbers::put32(s, super::HELD_AT, places as u32);
 }
 
-// Writes the entries that have terms, zeros into the places left over, and the entry count. Of the places before, those from `used` on are zero already.
+// Writes the entries that have terms, zeros into the places left over, and the entry count. The places from `used` on are zero already.
 pub fn put_known(s: &mut [u8], counts: &[u32], masks: &[u32], n: usize, used: usize)
     requires { ⌜ TableFits entryTerms n (table (now counts) (now masks)) ⌝ }
     requires { ⌜ (n ≤ rowsMost) × (length (entriesIn n (table (now counts) (now masks))) ≤ entriesMost) × (stateSize ≤ length (now s)) ⌝ }
