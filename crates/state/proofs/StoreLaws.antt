@@ -6,7 +6,7 @@ use Prim.Native.Nat.{ℕ, zero, suc, _+_, _*_, _-_, _≤_, _<_}
 use mathlib.Core.Path.{_≡_, refl, ap, _∙_}
 use mathlib.Core.Bool.{Bool, true, false}
 use mathlib.Core.List.{List, [], _∷_, _++_, append-nil}
-use mathlib.Core.Logic.{⊎-elim}
+use mathlib.Core.Logic.{_⊎_, inl, inr, ⊎-elim}
 use native.Mathlib.Nat.{zero-add, mul-le-mul-right, suc-mul, eq-or-lt-of-le}
 use native.Mathlib.Numerals.{add-one}
 use native.Mathlib.Omega.{arith}
@@ -15,10 +15,10 @@ use lib.Dec.{T, leb, leb→le, le→leb, eqb, eqb→eq, eqb-refl}
 use lib.ListN.{length, getD, take, drop, set, length-append, length-take, length-drop, length-set, length-replicate, List·getD-append}
 use lib.Seq.{take-append-le, getD-append-add, getD-drop}
 use Rattle.numbers.specs.Numbers.{num, bytes, put, tab}
-use Rattle.numbers.proofs.NumberLaws.{length-bytes, length-put, put-then, put-front, length-tab, getD-tab, tab-next}
+use Rattle.numbers.proofs.NumberLaws.{length-bytes, num-put-apart, length-put, put-then, put-front, length-tab, getD-tab, tab-next}
 use Rattle.predicates.specs.Lists.{all, keep}
 use Rattle.predicates.proofs.ListLaws.{all-keep, both-l, both-r}
-use Rattle.state.specs.Layout.{heldAt, dataAt, dataMost, datumSize, datumTerms, entriesAt, entriesMost, entrySize, entryTerms, dataBytes, entriesBytes, datumPlace, entryPlace, heldCount, entryCount, zeros, joined, datumBytes, entryBytes, masksAt, rowAt, datumAt, entryAt, storeOf, dataBytes, entriesBytes, entryTerms, datumTerms, entriesMost, dataMost, entrySize, ownAt, rightIn, rowIn}
+use Rattle.state.specs.Layout.{heldAt, knownAt, dataAt, dataMost, datumSize, datumTerms, entriesAt, entriesMost, entrySize, entryTerms, dataBytes, entriesBytes, datumPlace, entryPlace, heldCount, entryCount, zeros, joined, datumBytes, entryBytes, masksAt, rowAt, datumAt, entryAt, storeOf, dataBytes, entriesBytes, entryTerms, datumTerms, entriesMost, dataMost, entrySize, ownAt, rightIn, rowIn}
 use Rattle.state.specs.Form.{isZero, dataFit, entriesFit, inForm, datumOk, termsFit}
 use Rattle.state.proofs.LayoutLaws.{all-tab, At, length-joined, at-joined, length-datum, length-entry}
 use Rattle.state.proofs.PutLaws.{zero-behind, joined-last}
@@ -214,19 +214,6 @@ length-entries-in n t f h =
     (all-keep narrowEntry hasTerms (tab n (rowOf entryTerms t))
     (all-tab narrowEntry n (rowOf entryTerms t) (λ i k. le→leb _ entryTerms (length-row-le entryTerms i (t .counts) (t .masks) (f .narrow i))))) h
 
--- the entries' places stay as they are where data are written
-pub rest-stays : (n used : ℕ) (c : Columns) (s u : List ℕ) → TableFits datumTerms n (tableOf c) → length (dataIn n c) ≤ dataMost → used ≤ entriesMost
-    → u ≡ put heldAt (bytes 4 (length (dataIn n c))) (put dataAt (dataBytes (dataIn n c)) s)
-    → T (isZero (entryPlace used) (entryPlace entriesMost) s) → T (isZero (entryPlace used) (entryPlace entriesMost) u)
-rest-stays n used c s u t h k e z =
-    let count = bytes 4 (length (dataIn n c)) in
-    let ds = dataBytes (dataIn n c) in
-    rw (
-      e,
-      zero-behind heldAt (entryPlace used) (entryPlace entriesMost) count (put dataAt ds s) (omega (arith, length-bytes 4 (length (dataIn n c)))) (omega arith),
-      zero-behind dataAt (entryPlace used) (entryPlace entriesMost) ds s (omega (arith, length-data-in n c t h)) (omega arith),
-    ) z
-
 -- ---- what the arrays hold of the bytes
 
 -- the part of an array that was filled, and the rest
@@ -341,11 +328,29 @@ module _ (s : List ℕ) (t : T (inForm s)) where
       let zero : T (isZero (datumPlace (heldCount s)) (datumPlace dataMost) s) = search (both-l, both-r) depth 9 in
       rw e (held-count-le s t, zero)
 
-  pub entries-rest : (n : ℕ) → n ≡ entryCount s → (n ≤ entriesMost) × T (isZero (entryPlace n) (entryPlace entriesMost) s)
+  entries-rest : (n : ℕ) → n ≡ entryCount s → (n ≤ entriesMost) × T (isZero (entryPlace n) (entryPlace entriesMost) s)
   unfolding inForm entriesFit
   entries-rest n e =
       let zero : T (isZero (entryPlace (entryCount s)) (entryPlace entriesMost) s) = search (both-l, both-r) depth 9 in
       rw e (entry-count-le s t, zero)
+
+  -- so are the entries' when data have been written in front of them
+  pub rest-stays : (h : ℕ) (c : Columns) (u : List ℕ) → TableFits datumTerms h (tableOf c) → length (dataIn h c) ≤ dataMost
+      → u ≡ put heldAt (bytes 4 (length (dataIn h c))) (put dataAt (dataBytes (dataIn h c)) s) → (n : ℕ) → n ≡ entryCount u
+      → (n ≤ entriesMost) × T (isZero (entryPlace n) (entryPlace entriesMost) u)
+  rest-stays h c u f l e n a =
+      let count = bytes 4 (length (dataIn h c)) in
+      let ds = dataBytes (dataIn h c) in
+      let same : entryCount u ≡ entryCount s =
+      ap (λ (x : List ℕ). num knownAt 4 x) e
+      ∙ num-put-apart 4 heldAt knownAt count (put dataAt ds s) (inr (omega (arith, length-bytes 4 (length (dataIn h c)))))
+      ∙ num-put-apart 4 dataAt knownAt ds s (inl (omega arith)) in
+      let rest = entries-rest n (a ∙ same) in
+      let behind : isZero (entryPlace n) (entryPlace entriesMost) u ≡ isZero (entryPlace n) (entryPlace entriesMost) s =
+      ap (λ (x : List ℕ). isZero (entryPlace n) (entryPlace entriesMost) x) e
+      ∙ zero-behind heldAt (entryPlace n) (entryPlace entriesMost) count (put dataAt ds s) (omega (arith, length-bytes 4 (length (dataIn h c)))) (omega (arith, rest .0))
+      ∙ zero-behind dataAt (entryPlace n) (entryPlace entriesMost) ds s (omega (arith, length-data-in h c f l)) (omega (arith, rest .0)) in
+      (rest .0, rw behind (rest .1))
 
 -- a predicate that fits has terms
 fits-some : (own width : ℕ) (p : List ℕ) → T (termsFit own width p) → T (hasTerms p)

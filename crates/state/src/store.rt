@@ -200,7 +200,7 @@ pub fn put_store(
         now (s .exit) ≡ put 0 (stateBytes (record { head = headOf (now (s .entry)); store = storeIn h c n t })) (now (s .entry))) ⌝ }
 {
     let data = numbers::get32(s, super::HELD_AT) as usize;
-    let entries = numbers::get32(s, super::KNOWN_AT) as usize;
     put_held(s, lefts, rights, held, terms, h, data);
+    let entries = numbers::get32(s, super::KNOWN_AT) as usize;
     put_known(s, counts, masks, n, entries);
 }
