@@ -25,7 +25,7 @@ use Rattle.names.specs.Sets.{noSet}
 -- ---- places filled up with zeros
 
 -- n places of one size and those behind them, up to cap
-sizes-add : (cap n size : ℕ) → n ≤ cap → cap * size ≡ n * size + (cap - n) * size
+pub sizes-add : (cap n size : ℕ) → n ≤ cap → cap * size ≡ n * size + (cap - n) * size
 sizes-add cap n size h = let e : cap ≡ n + (cap - n) = omega arith in ap (λ (k : ℕ). k * size) e ∙ add-mul n (cap - n) size
 
 pub zeros-in : (at k to : ℕ) (s : List ℕ) → to ≡ at + k → At at (zeros k) s → T (isZero at to s)

@@ -1,18 +1,22 @@
 -- Laws of storing next to what is stored already: what stands at a place may be stored again, what lies behind stays, the order of two
--- stores apart from each other does not matter, and one element more of a run of elements. No contract cites this file. Assumes nothing.
+-- stores apart from each other does not matter, one element more of a run of elements, and zeros of which the last stand there already.
+-- No contract cites this file. Assumes nothing.
 use Prim.Native.Nat.{ℕ, zero, suc, _+_, _*_, _-_, _≤_, _<_}
 use mathlib.Core.Path.{_≡_, refl, sym, ap, _∙_}
 use mathlib.Core.List.{List, [], _∷_, _++_, append-assoc, append-nil}
-use native.Mathlib.Nat.{add-zero, zero-mul, suc-mul}
+use native.Mathlib.Nat.{add-zero, zero-mul, suc-mul, mul-le-mul-right}
 use native.Mathlib.Numerals.{add-one}
 use native.Mathlib.Omega.{arith}
-use lib.ListN.{length, getD, drop, set, length-append, take-append-drop}
-use lib.Seq.{getD-drop, set-getD, set-comm, drop-set-lt}
+use lib.Dec.{T}
+use lib.ListN.{length, getD, drop, set, length-append, length-replicate, replicate-append-replicate, take-append-drop}
+use lib.Seq.{getD-drop, set-getD, set-comm, drop-set-lt, slice-empty}
 use Rattle.numbers.specs.Numbers.{put, tab}
 use Rattle.numbers.proofs.NumberLaws.{put-then}
 use Rattle.state.specs.Model.{Datum}
-use Rattle.state.specs.Layout.{dataAt, dataMost, datumSize, entriesAt, entriesMost, entrySize, datumPlace, entryPlace, zeros, joined, datumBytes, entryBytes, dataBytes, entriesBytes}
-use Rattle.state.proofs.LayoutLaws.{part, At, at-then}
+use Rattle.state.specs.Layout.{stateSize, dataAt, dataMost, datumSize, entriesAt, entriesMost, entrySize, datumPlace, entryPlace, zeros, joined, datumBytes, entryBytes, dataBytes, entriesBytes}
+use Rattle.state.specs.Form.{isZero}
+use Rattle.state.proofs.LayoutLaws.{part, slice-part, At, at-then}
+use Rattle.state.proofs.FormLaws.{sizes-add, zeros-out}
 
 -- ---- what stands at a place
 
@@ -70,22 +74,72 @@ module _ {A : Type 0} (f : A → List ℕ) where
   joined-next size at i g s t u h p q =
       rw (add-one, joined-last) (put-then (i * size) at (at + i * size) _ _ s t u (length-joined-tab size i g h) refl p q)
 
+-- ---- zeros
+
+-- where all is zero, zeros stand from each place on
+zeros-stand : (used from to : ℕ) (s : List ℕ) → used ≤ from → from ≤ to → to ≤ length s → T (isZero used to s) → At from (zeros (to - from)) s
+zeros-stand used from to s h k l t =
+    let e : to ≡ used + (to - used) = omega arith in
+    let there : At used (zeros (to - used)) s = rw (zeros-out used (to - used) to s e l t) at (part-stands used (to - used) s) in
+    let long : from - used + (to - from) ≡ to - used = omega arith in
+    let both : zeros (from - used) ++ zeros (to - from) ≡ zeros (to - used) =
+    replicate-append-replicate (from - used) (to - from) 0 ∙ ap (λ (n : ℕ). zeros n) long in
+    let place : used + (from - used) ≡ from = omega arith in
+    rw place at (at-then (from - used) used (zeros (from - used)) (zeros (to - from)) s (length-replicate (from - used) 0) (rw (← both) at there))
+
+-- of no bytes all are zero
+pub zero-none : (at : ℕ) (s : List ℕ) → T (isZero at at s)
+unfolding isZero
+zero-none at s = rw (slice-empty at s) tt
+
+-- what is stored in front leaves zeros as they are
+pub zero-behind : (at from to : ℕ) (vs s : List ℕ) → at + length vs ≤ from → from ≤ to → isZero from to (put at vs s) ≡ isZero from to s
+unfolding isZero
+zero-behind at from to vs s h k =
+    let e : to ≡ from + (to - from) = omega arith in
+    rw (e, slice-part from (to - from) (put at vs s), slice-part from (to - from) s, drop-put from at vs s h)
+
+-- bytes are stored, and zeros behind them up to `used`: all is zero up to `to` then, where it was so from `used` on
+clear-rest : (at from used to : ℕ) (vs s t u : List ℕ) → at + length vs ≤ from → from ≤ to → used ≤ to → to ≤ length s → T (isZero used to s)
+    → t ≡ put at vs s → u ≡ put from (zeros (used - from)) t → u ≡ put from (zeros (to - from)) t
+clear-rest at from used to vs s t u g h k l z p q =
+    let n = used - from in
+    let next = from + n in
+    let stand = zeros-stand used next to s (omega arith) (omega arith) l z in
+    let same : drop next u ≡ drop next s =
+    ap (λ (x : List ℕ). drop next x) q ∙ drop-put next from (zeros n) t (omega (arith, length-replicate {A = ℕ} n 0))
+    ∙ ap (λ (x : List ℕ). drop next x) p ∙ drop-put next at vs s (omega arith) in
+    let long : n + (to - next) ≡ to - from = omega arith in
+    let both : zeros n ++ zeros (to - next) ≡ zeros (to - from) = replicate-append-replicate n (to - next) 0 ∙ ap (λ (k : ℕ). zeros k) long in
+    put-then n from next (zeros n) (zeros (to - next)) t u u (length-replicate n 0) refl q
+    (sym (put-stands next (zeros (to - next)) u (stand .0, same ∙ stand .1)))
+    ∙ ap (λ (x : List ℕ). put from x t) both
+
 -- ---- the places of data and entries
 
--- the data, and zeros in the places left over
-pub data-put : (ds : List Datum) (k : ℕ) (s t u : List ℕ) → k ≡ length ds → length (joined datumBytes ds) ≡ k * datumSize
-    → t ≡ put dataAt (joined datumBytes ds) s → u ≡ put (datumPlace k) (zeros (entriesAt - datumPlace k)) t → u ≡ put dataAt (dataBytes ds) s
-unfolding dataBytes
-data-put ds k s t u c z p q =
-    let e : entriesAt - datumPlace k ≡ (dataMost - length ds) * datumSize = omega arith in
-    put-then (k * datumSize) dataAt (datumPlace k) (joined datumBytes ds) (zeros ((dataMost - length ds) * datumSize)) s t u z refl p
-    (q ∙ ap (λ (n : ℕ). put (datumPlace k) (zeros n) t) e)
+-- n elements of one size, and zeros in the places left over, of which those from `used` on were zero before
+places-put : (size cap at n used : ℕ) (vs s t u : List ℕ) → length vs ≡ n * size → n ≤ cap → used ≤ cap → at + cap * size ≤ length s
+    → T (isZero (at + used * size) (at + cap * size) s) → t ≡ put at vs s
+    → u ≡ put (at + n * size) (zeros (at + used * size - (at + n * size))) t → u ≡ put at (vs ++ zeros ((cap - n) * size)) s
+places-put size cap at n used vs s t u e h k l z p q =
+    let places = sizes-add cap n size h in
+    let left : at + cap * size - (at + n * size) ≡ (cap - n) * size = omega arith in
+    let room = mul-le-mul-right size h in
+    let rest = clear-rest at (at + n * size) (at + used * size) (at + cap * size) vs s t u (omega arith) (omega arith)
+    (omega (arith, mul-le-mul-right size k)) l z p q in
+    put-then (n * size) at (at + n * size) vs (zeros ((cap - n) * size)) s t u e refl p (rest ∙ ap (λ (x : ℕ). put (at + n * size) (zeros x) t) left)
 
-pub entries-put : (es : List (List ℕ)) (k : ℕ) (s t u : List ℕ) → k ≡ length es → length (joined entryBytes es) ≡ k * entrySize
-    → t ≡ put entriesAt (joined entryBytes es) s → u ≡ put (entryPlace k) (zeros (entryPlace entriesMost - entryPlace k)) t
+pub data-put : (ds : List Datum) (n used : ℕ) (s t u : List ℕ) → n ≡ length ds → length (joined datumBytes ds) ≡ n * datumSize → length ds ≤ dataMost
+    → used ≤ dataMost → stateSize ≤ length s → T (isZero (datumPlace used) (datumPlace dataMost) s) → t ≡ put dataAt (joined datumBytes ds) s
+    → u ≡ put (datumPlace n) (zeros (datumPlace used - datumPlace n)) t → u ≡ put dataAt (dataBytes ds) s
+unfolding dataBytes
+data-put ds n used s t u c e h k l z p q =
+    rw (← c) (places-put datumSize dataMost dataAt n used (joined datumBytes ds) s t u e (omega arith) k (omega arith) z p q)
+
+pub entries-put : (es : List (List ℕ)) (n used : ℕ) (s t u : List ℕ) → n ≡ length es → length (joined entryBytes es) ≡ n * entrySize
+    → length es ≤ entriesMost → used ≤ entriesMost → stateSize ≤ length s → T (isZero (entryPlace used) (entryPlace entriesMost) s)
+    → t ≡ put entriesAt (joined entryBytes es) s → u ≡ put (entryPlace n) (zeros (entryPlace used - entryPlace n)) t
     → u ≡ put entriesAt (entriesBytes es) s
 unfolding entriesBytes
-entries-put es k s t u c z p q =
-    let e : entryPlace entriesMost - entryPlace k ≡ (entriesMost - length es) * entrySize = omega arith in
-    put-then (k * entrySize) entriesAt (entryPlace k) (joined entryBytes es) (zeros ((entriesMost - length es) * entrySize)) s t u z refl p
-    (q ∙ ap (λ (n : ℕ). put (entryPlace k) (zeros n) t) e)
+entries-put es n used s t u c e h k l z p q =
+    rw (← c) (places-put entrySize entriesMost entriesAt n used (joined entryBytes es) s t u e (omega arith) k (omega arith) z p q)

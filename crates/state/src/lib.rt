@@ -44,10 +44,8 @@ pub const ENTRY_SIZE: usize = 68;
 
 pub const ENTRY_TERMS: usize = 16;
 
-// Where the places of data and those of entries end, how many words one has, and how many rows both have together.
+// Where the places of data end, how many words a datum and an entry have, and how many rows both have together.
 pub const DATA_END: usize = DATA_AT + DATA_MOST * DATUM_SIZE;
-
-pub const ENTRIES_END: usize = ENTRIES_AT + ENTRIES_MOST * ENTRY_SIZE;
 
 pub const DATUM_WORDS: usize = DATUM_SIZE / 4;
 

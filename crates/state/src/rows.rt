@@ -8,9 +8,9 @@ ghost use Rattle.state.specs.Layout.{zeros, rowBytes, datumBytes, entryB
 ghost use Rattle.state.specs.code.Tables.{datumOf};
 use super::Ends;
 
-// Puts zeros into the bytes from `from` up to `to`.
+// Puts zeros into the bytes from `from` up to `to`, if there are any.
 pub fn clear(s: &mut [u8], from: usize, to: usize)
-    requires { ⌜ (from ≤ to) × (to ≤ length (now s)) ⌝ }
+    requires { ⌜ to ≤ length (now s) ⌝ }
     ensures { λ _. ⌜ now (s .exit) ≡ put from (zeros (to - from)) (now (s .entry)) ⌝ }
 {
     let mut i = from;

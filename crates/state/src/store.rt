@@ -10,7 +10,7 @@ ghost use Rattle.state.specs.Layout.{stateSize, heldAt, knownAt, dataAt,
 ghost use Rattle.state.specs.Layout.{entriesAt, entriesMost, entrySize, entryTerms, rowsMost};
 ghost use Rattle.state.specs.Layout.{datumPlace, entryPlace, masksAt, headOf};
 ghost use Rattle.state.specs.Layout.{datumBytes, entryBytes, dataBytes, entriesBytes, joined, stateBytes};
-ghost use Rattle.state.specs.Form.{inForm};
+ghost use Rattle.state.specs.Form.{isZero, inForm};
 ghost use Rattle.state.specs.code.Tables.{Columns, Table, columns, table, ColumnsFit, TableFits, entriesIn, dataIn, storeIn};
 use super::Ends;
 
@@ -136,11 +136,20 @@ fn put_entries(s: &mut [u8], counts: &[u32], masks: &[u32], n: usize) -> usize
     r
 }
 
-// Writes the data that have terms, zeros into the places left over, and the held count.
-fn put_held(s: &mut [u8], lefts: &[u64], rights: &[u64], counts: &[u32], masks: &[u32], n: usize)
+// Writes the data that have terms, zeros into the places left over, and the held count. The places from `used` on are zero already.
+fn put_held(
+    s: &mut [u8],
+    lefts: &[u64],
+    rights: &[u64],
+    counts: &[u32],
+    masks: &[u32],
+    n: usize,
+    used: usize,
+)
     requires { ⌜ ColumnsFit n (columns (now lefts) (now rights) (now counts) (now masks)) ⌝ }
     requires { ⌜ length (dataIn n (columns (now lefts) (now rights) (now counts) (now masks))) ≤ dataMost ⌝ }
     requires { ⌜ (n ≤ dataMost + 1) × (stateSize ≤ length (now s)) ⌝ }
+    requires { ⌜ (used ≤ dataMost) × T (isZero (datumPlace used) (datumPlace dataMost) (now s)) ⌝ }
     ensures { λ _. ⌜ (let c : Columns = columns (now (lefts .entry)) (now (rights .entry)) (now (counts .entry)) (now (masks .entry)) in
         now (s .exit) ≡ put heldAt (bytes 4 (length (dataIn n c))) (put dataAt (dataBytes (dataIn n c)) (now (s .entry)))) ⌝ }
 {
@@ -148,15 +157,16 @@ fn put_held(s: &mut [u8], lefts: &[u64], rights: &[u64], counts: &[u32], masks: 
     super::rows::clear(
         s,
         super::DATA_AT + places * super::DATUM_SIZE,
-        super::DATA_END,
+        super::DATA_AT + used * super::DATUM_SIZE,
     );
     numbers::put32(s, super::HELD_AT, places as u32);
 }
 
-// Writes the entries that have terms, zeros into the places left over, and the entry count.
-pub fn put_known(s: &mut [u8], counts: &[u32], masks: &[u32], n: usize)
+// Writes the entries that have terms, zeros into the places left over, and the entry count. The places from `used` on are zero already.
+pub fn put_known(s: &mut [u8], counts: &[u32], masks: &[u32], n: usize, used: usize)
     requires { ⌜ TableFits entryTerms n (table (now counts) (now masks)) ⌝ }
     requires { ⌜ (n ≤ rowsMost) × (length (entriesIn n (table (now counts) (now masks))) ≤ entriesMost) × (stateSize ≤ length (now s)) ⌝ }
+    requires { ⌜ (used ≤ entriesMost) × T (isZero (entryPlace used) (entryPlace entriesMost) (now s)) ⌝ }
     ensures { λ _. ⌜ (let t : Table = table (now (counts .entry)) (now (masks .entry)) in
         now (s .exit) ≡ put knownAt (bytes 4 (length (entriesIn n t))) (put entriesAt (entriesBytes (entriesIn n t)) (now (s .entry)))) ⌝ }
 {
@@ -164,7 +174,7 @@ pub fn put_known(s: &mut [u8], counts: &[u32], masks: &[u32], n: usize)
     super::rows::clear(
         s,
         super::ENTRIES_AT + places * super::ENTRY_SIZE,
-        super::ENTRIES_END,
+        super::ENTRIES_AT + used * super::ENTRY_SIZE,
     );
     numbers::put32(s, super::KNOWN_AT, places as u32);
 }
@@ -189,6 +199,8 @@ pub fn put_store(
         let t : Table = table (now (counts .entry)) (now (masks .entry)) in
         now (s .exit) ≡ put 0 (stateBytes (record { head = headOf (now (s .entry)); store = storeIn h c n t })) (now (s .entry))) ⌝ }
 {
-    put_held(s, lefts, rights, held, terms, h);
-    put_known(s, counts, masks, n);
+    let data = numbers::get32(s, super::HELD_AT) as usize;
+    put_held(s, lefts, rights, held, terms, h, data);
+    let entries = numbers::get32(s, super::KNOWN_AT) as usize;
+    put_known(s, counts, masks, n, entries);
 }

@@ -1,9 +1,10 @@
 -- `engine::set_up::put_fresh` meets its contract: the head's numbers, no data and the fresh knowledge are the parts of the fresh state (`fresh-put`).
 use native.Mathlib.Omega.{arith}
 use Rattle.numbers.specs.Numbers.{tab}
-use Rattle.state.specs.Layout.{dataBytes, joined}
+use Rattle.state.specs.Layout.{entryPlace, entriesMost, dataBytes, joined}
 use Rattle.state.specs.code.Tables.{entriesIn}
 use Rattle.state.specs.code.Known.{nothingKnown}
+use Rattle.state.proofs.PutLaws.{zero-none}
 use Rattle.state.proofs.StoreLaws.{table-fresh}
 use Rattle.engine.specs.Calls.{setup}
 use Rattle.engine.proofs.SetUpLaws.{fresh-put}
@@ -14,7 +15,7 @@ use Rattle.engine.proofs.set_up.put_fresh.Tie as tie
 put-known-requires : tie.Need-put-known-requires
 unfolding nothingKnown entriesIn tab
 put-known-requires c κs =
-    rw (c .before .before .before .before .before .fresh .ensures) (table-fresh 16 0 32 512 (omega arith) (omega arith), (omega arith, omega arith, omega arith))
+    rw (c .before .before .before .before .before .fresh .ensures) (table-fresh 16 0 32 512 (omega arith) (omega arith), ((omega arith, omega arith, omega arith), (omega arith, zero-none (entryPlace entriesMost) _)))
 
 returns : tie.Need-returns
 unfolding nothingKnown entriesIn tab dataBytes joined

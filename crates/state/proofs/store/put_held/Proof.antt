@@ -13,15 +13,19 @@ returns : tie.Need-returns
 returns c =
     let at-count = c .before .before in
     let at-clear = at-count .before .before .before .before in
-    let made = at-clear .before .before .before .before .put-data .ensures in
+    let at-data = at-clear .before .before .before .before in
+    let p = at-data .before .before .before .before .before .before .before .pre in
+    let made = at-data .put-data .ensures in
     at-count .put32 .ensures
-    ∙ ap₂ (λ (n : ℕ) (l : List ℕ). put heldAt (bytes 4 n) l) (made .0 .0) (data-put _ _ _ _ _ (made .0 .0) (made .0 .1) (made .1) (at-clear .clear .ensures))
+    ∙ ap₂ (λ (n : ℕ) (l : List ℕ). put heldAt (bytes 4 n) l) (made .0 .0) (data-put _ _ _ _ _ _ (made .0 .0) (made .0 .1) (p .1 .0) (p .1 .1 .1 .0) (p .1 .1 .0 .1) (p .1 .1 .1 .1) (made .1) (at-clear .clear .ensures))
 
 pub put-held-spec : {M : Type 1} → statement M
 put-held-spec =
     tie.close
     (tie.spec
     (λ c κs. search needs)
+    (λ c. search needs)
+    (λ c. search needs)
     (λ c. search needs)
     (λ c. search needs)
     (λ c κs. search needs)

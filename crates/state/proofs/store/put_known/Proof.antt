@@ -13,15 +13,19 @@ returns : tie.Need-returns
 returns c =
     let at-count = c .before .before in
     let at-clear = at-count .before .before .before .before in
-    let made = at-clear .before .before .before .before .put-entries .ensures in
+    let at-entries = at-clear .before .before .before .before in
+    let p = at-entries .before .before .before .before .before .pre in
+    let made = at-entries .put-entries .ensures in
     at-count .put32 .ensures
-    ∙ ap₂ (λ (n : ℕ) (l : List ℕ). put knownAt (bytes 4 n) l) (made .0 .0) (entries-put _ _ _ _ _ (made .0 .0) (made .0 .1) (made .1) (at-clear .clear .ensures))
+    ∙ ap₂ (λ (n : ℕ) (l : List ℕ). put knownAt (bytes 4 n) l) (made .0 .0) (entries-put _ _ _ _ _ _ (made .0 .0) (made .0 .1) (p .1 .0 .1) (p .1 .1 .0) (p .1 .0 .2) (p .1 .1 .1) (made .1) (at-clear .clear .ensures))
 
 pub put-known-spec : {M : Type 1} → statement M
 put-known-spec =
     tie.close
     (tie.spec
     (λ c κs. search needs)
+    (λ c. search needs)
+    (λ c. search needs)
     (λ c. search needs)
     (λ c. search needs)
     (λ c κs. search needs)
