@@ -103,7 +103,7 @@ fn take_many(state: &mut [u8], new: Ends, p: &[u32], old: Rows) -> u32
 
 // Takes the four steps with the datum of these ends under p, which is not true. Answers 0 or 32. Where the rows are few, as they mostly are, few are
 // cleared.
-pub fn take_datum(state: &mut [u8], new: Ends, p: &[u32]) -> u32
+pub(crate) fn take_datum(state: &mut [u8], new: Ends, p: &[u32]) -> u32
     requires { ⌜ (stateSize ≤ length (now state)) × T (inForm (now state)) ⌝ }
     requires { ⌜ (0 < length (now p)) × (length (now p) ≤ datumTerms) ⌝ }
     ensures { λ r. ⌜ r ≡ cond (tooMany (settled (datumOf new (now (p .entry))) (storeOf (now (state .entry))))) 32 0 ⌝ }

@@ -110,13 +110,16 @@ pub fn add_row(counts: &mut [u32], masks: &mut [u32], n: usize, width: usize, e:
     }
 }
 
-// Places an entry: not added where an entry implies it; else those that it implies go, and it stands last. Answers how many rows there are now.
+// Places an entry: not added where an entry implies it; else those that it implies go, and it stands last. Answers how many rows there are now. What
+// stands in the arrays for rows without terms, and behind the last row, is free.
 pub fn learn(counts: &mut [u32], masks: &mut [u32], marks: &mut [u32], n: usize, e: &[u32]) -> usize
     requires { ⌜ TableFits entryTerms (n + 1) (table (now counts) (now masks)) ⌝ }
     requires { ⌜ (0 < length (now e)) × (length (now e) ≤ entryTerms) × (n < length (now marks)) ⌝ }
     requires { ⌜ Marked n (table (now counts) (now masks)) (now marks) ⌝ }
     ensures { λ r. ⌜ (let t : Table = table (now (counts .exit)) (now (masks .exit)) in
-        (n ≤ r) × (r ≤ n + 1) × TableFits entryTerms r t × Marked r t (now (marks .exit))) ⌝ }
+        (n ≤ r) × (r ≤ n + 1) × TableFits entryTerms r t × Marked r t (now (marks .exit))
+        × (length (now (counts .exit)) ≡ length (now (counts .entry))) × (length (now (masks .exit)) ≡ length (now (masks .entry)))
+        × (length (now (marks .exit)) ≡ length (now (marks .entry)))) ⌝ }
     ensures { λ r. ⌜ entriesIn r (table (now (counts .exit)) (now (masks .exit)))
         ≡ Steps·learn (now (e .entry)) (entriesIn n (table (now (counts .entry)) (now (masks .entry)))) ⌝ }
 {
@@ -140,11 +143,12 @@ fn row_mark(counts: &[u32], masks: &[u32], i: usize) -> u32
     predicates::marks::mark_of(&masks[from..to])
 }
 
-// Makes the marks of the first n rows.
+// Makes the marks of the first n rows; what stands behind them is free.
 pub fn mark_rows(counts: &[u32], masks: &[u32], n: usize, marks: &mut [u32])
     requires { ⌜ TableFits entryTerms n (table (now counts) (now masks)) ⌝ }
     requires { ⌜ n ≤ length (now marks) ⌝ }
-    ensures { λ _. ⌜ Marked n (table (now (counts .entry)) (now (masks .entry))) (now (marks .exit)) ⌝ }
+    ensures { λ _. ⌜ Marked n (table (now (counts .entry)) (now (masks .entry))) (now (marks .exit))
+        × (length (now (marks .exit)) ≡ length (now (marks .entry))) ⌝ }
 {
     let mut i: usize = 0;
     while i < n {

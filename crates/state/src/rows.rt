@@ -21,7 +21,7 @@ pub fn clear(s: &mut [u8], from: usize, to: usize)
 }
 
 // Puts a predicate into the row at `at`: the count, the terms, and zeros up to the width.
-pub fn put_row(s: &mut [u8], at: usize, width: usize, terms: &[u32])
+fn put_row(s: &mut [u8], at: usize, width: usize, terms: &[u32])
     requires { ⌜ (length (now terms) ≤ width) × (width ≤ entryTerms) × (at + 4 + width * 4 ≤ length (now s)) ⌝ }
     ensures { λ _. ⌜ now (s .exit) ≡ put at (rowBytes width (now (terms .entry))) (now (s .entry)) ⌝ }
 {
@@ -32,7 +32,7 @@ pub fn put_row(s: &mut [u8], at: usize, width: usize, terms: &[u32])
 }
 
 // Puts a datum into place i.
-pub fn put_datum(s: &mut [u8], i: usize, ends: Ends, terms: &[u32])
+pub(crate) fn put_datum(s: &mut [u8], i: usize, ends: Ends, terms: &[u32])
     requires { ⌜ (i < dataMost) × (length (now terms) ≤ datumTerms) × (stateSize ≤ length (now s)) ⌝ }
     ensures { λ _. ⌜ now (s .exit) ≡ put (datumPlace i) (datumBytes (datumOf ends (now (terms .entry)))) (now (s .entry)) ⌝ }
 {
@@ -43,7 +43,7 @@ pub fn put_datum(s: &mut [u8], i: usize, ends: Ends, terms: &[u32])
 }
 
 // Puts an entry into place i.
-pub fn put_entry(s: &mut [u8], i: usize, terms: &[u32])
+pub(crate) fn put_entry(s: &mut [u8], i: usize, terms: &[u32])
     requires { ⌜ (i < entriesMost) × (length (now terms) ≤ entryTerms) × (stateSize ≤ length (now s)) ⌝ }
     ensures { λ _. ⌜ now (s .exit) ≡ put (entryPlace i) (entryBytes (now (terms .entry))) (now (s .entry)) ⌝ }
 {

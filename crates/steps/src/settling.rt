@@ -60,7 +60,8 @@ fn place(
 }
 
 // The four steps: what the new datum teaches, what the entries explain, and what becomes of it. The entries are marked first, since many predicates
-// are held against them. Answers how many rows there are now.
+// are held against them. Answers how many rows there are now. What stands in the arrays for rows without terms (a datum that is not stored, say), and
+// behind the last row, is free.
 pub fn settle(
     lefts: &mut [u64],
     rights: &mut [u64],
@@ -77,7 +78,10 @@ pub fn settle(
     requires { ⌜ (0 < length (now p)) × (length (now p) ≤ datumTerms) × (rows .known + rows .held ≤ rowsMost) ⌝ }
     requires { ⌜ (let c : Columns = columns (now lefts) (now rights) (now held) (now terms) in
         tab (rows .held) (datumIn c) ≡ dataIn (rows .held) c) ⌝ }
-    ensures { λ r. ⌜ (r .held ≤ rows .held + 1) × (r .known ≤ rows .known + rows .held) ⌝ }
+    ensures { λ r. ⌜ (r .held ≤ rows .held + 1) × (r .known ≤ rows .known + rows .held)
+        × (length (now (lefts .exit)) ≡ length (now (lefts .entry))) × (length (now (rights .exit)) ≡ length (now (rights .entry)))
+        × (length (now (held .exit)) ≡ length (now (held .entry))) × (length (now (terms .exit)) ≡ length (now (terms .entry)))
+        × (length (now (counts .exit)) ≡ length (now (counts .entry))) × (length (now (masks .exit)) ≡ length (now (masks .entry))) ⌝ }
     ensures { λ r. ⌜ ColumnsFit (r .held) (columns (now (lefts .exit)) (now (rights .exit)) (now (held .exit)) (now (terms .exit))) ⌝ }
     ensures { λ r. ⌜ TableFits entryTerms (r .known) (table (now (counts .exit)) (now (masks .exit))) ⌝ }
     ensures { λ r. ⌜ (let c : Columns = columns (now (lefts .exit)) (now (rights .exit)) (now (held .exit)) (now (terms .exit)) in

@@ -59,7 +59,7 @@ fn learn_from(
 }
 
 // Step 1: what the new datum and the held data teach, oldest first. Answers how many rows of entries there are now.
-pub fn learn_all(
+pub(crate) fn learn_all(
     lefts: &[u64],
     rights: &[u64],
     held: &[u32],
@@ -120,7 +120,7 @@ fn explained_row(
 }
 
 // Step 2: held data whose predicate is implied by one entry go.
-pub fn drop_explained(
+pub(crate) fn drop_explained(
     held: &mut [u32],
     terms: &[u32],
     h: usize,
@@ -187,7 +187,7 @@ fn find_same(held: &[u32], terms: &[u32], h: usize, p: &[u32]) -> usize
 }
 
 // Step 3: the oldest held datum with the predicate p is given up, and the ends of the new one become those of the intersection.
-pub fn meet(
+pub(crate) fn meet(
     lefts: &[u64],
     rights: &[u64],
     held: &mut [u32],
@@ -255,7 +255,7 @@ fn row_betters(
 }
 
 // Step 4, first half: whether a held datum betters the new one.
-pub fn bettered(
+pub(crate) fn bettered(
     lefts: &[u64],
     rights: &[u64],
     held: &[u32],
@@ -303,7 +303,7 @@ fn betters_row(
 }
 
 // Step 4, second half: held data that the new one betters go.
-pub fn drop_bettered(
+pub(crate) fn drop_bettered(
     lefts: &[u64],
     rights: &[u64],
     held: &mut [u32],

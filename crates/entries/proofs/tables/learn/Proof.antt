@@ -16,7 +16,7 @@ returns : tie.Need-returns
 unfolding learn
 returns c =
     let a = c .before .before .before .before .before .before .before .before .before in
-    ((search needs, search needs, table-less 16 _ _ _ _ (a .pre .0) (omega arith), a .pre .1 .1), rw (sym (c .before .explained .ensures) ∙ c .if1 .taken))
+    ((search needs, search needs, table-less 16 _ _ _ _ (a .pre .0) (omega arith), a .pre .1 .1, refl, refl, refl), rw (sym (c .before .explained .ensures) ∙ c .if1 .taken))
 
 forget-requires : tie.Need-forget-requires
 forget-requires c κs =
@@ -41,7 +41,7 @@ returns-2 c =
     let table = learn-table n (a .args .counts .now) (a .args .masks .now) (a .args .e .now) (a .pre .0) (a .pre .1 .0 .1) _ _ _ gone (made .0) (made .1) in
     let marked = learn-marked n (a .args .counts .now) (a .args .masks .now) (a .args .e .now) (a .pre .0) (a .pre .1 .0 .1) _ _ _ gone (made .0) (made .1) _ _ _ (a .pre .1 .1) (a .pre .1 .0 .2) (at-mark .mark-of .ensures) refl in
     let rows = learn-rows n (a .args .counts .now) (a .args .masks .now) (a .args .e .now) (a .pre .0) (a .pre .1 .0 .1) _ _ _ gone (made .0) (made .1) (a .pre .1 .0 .0) (sym (at-explained .explained .ensures) ∙ at-mark .before .if1 .left) in
-    ((omega arith, omega arith, table, marked), rows)
+    ((omega arith, omega arith, table, marked, search needs, search needs, search needs), rows)
 
 pub learn-spec : {M : Type 1} → statement M
 learn-spec =

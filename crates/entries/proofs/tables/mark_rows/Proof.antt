@@ -34,7 +34,7 @@ loop-again c =
 returns : tie.Need-returns Inv-loop μ-loop
 returns c =
     let done : c .before .loop .i ≡ c .before .before .before .before .before .args .n = omega arith in
-    rw done at (c .before .loop .inv .2)
+    (rw done at (c .before .loop .inv .2), c .before .loop .inv .1)
 
 pub mark-rows-spec : {M : Type 1} → statement M
 mark-rows-spec =

@@ -1,7 +1,7 @@
 -- `steps::settling::settle` meets its contract: the entries are marked, and the four steps follow, one after the other; where the entries explain
 -- the new datum, the receipt ends at step 2. What the arrays then hold is the store of the definition (`settled-by`).
 use Prim.Native.Nat.{_+_}
-use mathlib.Core.Path.{sym, _∙_}
+use mathlib.Core.Path.{refl, sym, _∙_}
 use native.Mathlib.Omega.{arith}
 use Rattle.state.specs.code.Tables.{columns, ColumnsFit, storeIn}
 use Rattle.state.proofs.RowLaws.{table-less}
@@ -19,7 +19,7 @@ learn-all-requires : tie.Need-learn-all-requires
 learn-all-requires c κs =
     let a = c .before .before .before .before .before .before .before .before .before .before .before .before .before .before .before .before .before .before .before in
     let p = a .pre .1 .1 .0 in
-    (columns-less _ _ (a .pre .0), (a .pre .1 .0, ((p .0, p .1, omega (arith, p .2)), c .before .before .before .before .before .before .before .before .mark-rows .ensures)))
+    (columns-less _ _ (a .pre .0), (a .pre .1 .0, ((p .0, p .1, omega (arith, p .2)), c .before .before .before .before .before .before .before .before .mark-rows .ensures .0)))
 
 drop-explained-requires : tie.Need-drop-explained-requires
 drop-explained-requires c κs =
@@ -44,10 +44,12 @@ returns : tie.Need-returns
 unfolding storeIn
 returns c =
     let a = c .before .before .before .before .before .before .before .before .before .before .before .before .before .before .before .before .before .before .before .before .before .before .before .before .before .before .before .before .before .before .before .before .before .before .before .before .before .before in
-    let known = c .before .before .before .before .before .before .before .before .before .before .before .before .before .before .before .before .before .before .learn-all .ensures in
+    let at-learn = c .before .before .before .before .before .before .before .before .before .before .before .before .before .before .before .before .before .before in
+    let known = at-learn .learn-all .ensures in
+    let kept = at-learn .learn-all .kept .1 .1 .1 .1 .1 .1 in
     let at-drop = c .before .before .before .before .before .before .before in
     let gone = at-drop .drop-explained .ensures in (
-      (omega arith, known .0 .0),
+      (omega arith, known .0 .0, refl, refl, at-drop .drop-explained .kept .0, refl, kept .0, kept .1 .0),
       (
         columns-less _ _ (room at-drop),
         (
@@ -65,10 +67,15 @@ returns-2 : tie.Need-returns-2
 unfolding storeIn
 returns-2 c =
     let a = c .before .before .before .before .before .before .before .before .before .before .before .before .before .before .before .before .before .before .before .before .before .before .before .before .before .before .before .before .before .before .before .before .before .before .before .before .before .before .before .before .before .before .before .before .before .before .before .before .before .before .before in
-    let known = c .before .before .before .before .before .before .before .before .before .before .before .before .before .before .before .before .before .before .before .before .before .before .before .before .before .before .before .before .before .before .before .learn-all .ensures in
-    let gone = c .before .before .before .before .before .before .before .before .before .before .before .before .before .before .before .before .before .before .before .before .drop-explained .ensures in
-    let placed = c .before .before .before .before .before .before .before .before .place .ensures in (
-      (placed .0 .0, known .0 .0),
+    let at-place = c .before .before .before .before .before .before .before .before in
+    let at-drop = at-place .before .before .before .before .before .before .before .before .before .before .before .before in
+    let at-learn = at-drop .before .before .before .before .before .before .before .before .before .before .before in
+    let known = at-learn .learn-all .ensures in
+    let kept = at-learn .learn-all .kept .1 .1 .1 .1 .1 .1 in
+    let gone = at-drop .drop-explained .ensures in
+    let placed = at-place .place .ensures in
+    let same = at-place .place .kept in (
+      (placed .0 .0, known .0 .0, same .0, same .1 .0, same .1 .1 .0 ∙ at-drop .drop-explained .kept .0, same .1 .1 .1 .0, kept .0, kept .1 .0),
       (
         placed .0 .1,
         (

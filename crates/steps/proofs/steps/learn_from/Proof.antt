@@ -45,7 +45,8 @@ returns-2 c =
     let at-learn = c .before .before .before .before .before .before in
     let at-sum = at-learn .before .before .before .before .before .before in
     let at-disjoint = at-sum .before .before .before in
-    (at-learn .learn .ensures .0, rw (sym (at-disjoint .disjoint .ensures) ∙ not-false _ (at-sum .before .before .if1 .left)) (rw (summed at-sum) at (at-learn .learn .ensures .1)))
+    let learnt = at-learn .learn .ensures .0 in
+    ((learnt .0, learnt .1, learnt .2, learnt .3), rw (sym (at-disjoint .disjoint .ensures) ∙ not-false _ (at-sum .before .before .if1 .left)) (rw (summed at-sum) at (at-learn .learn .ensures .1)))
 
 pub learn-from-spec : {M : Type 1} → statement M
 learn-from-spec =
