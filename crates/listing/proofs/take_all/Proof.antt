@@ -38,7 +38,7 @@ turn-requires c κs =
     let at-head = at-test .before .before in
     let head = at-head .loop in
     let pre = at-head .before .before .before .before .pre in
-    ((head .inv .1 .0, omega (arith, head .inv .0, pre .0), omega (arith, head .inv .0, pre .1)), (at-test .if1 .taken, went-most (head .inv .2)))
+    ((head .inv .1 .0, omega (arith, head .inv .0, pre .0), omega (arith, head .inv .0, pre .1)), (omega (arith, at-test .if1 .taken), went-most (head .inv .2)))
 
 loop-less : tie.Need-loop-less Inv-loop μ-loop
 loop-less c =
@@ -47,7 +47,7 @@ loop-less c =
     let head = at-test .before .before .before .loop in
     let call = at-turn .turn .ensures in
     let r = at-turn .turn .result in
-    rw (at-test .if2 .taken) (run-less (stopped r) (head .progress .read) (r .read) (call .0 .1) (at-test .before .if1 .taken))
+    rw (at-test .if2 .taken) (run-less (stopped r) (head .progress .read) (r .read) (call .0 .1) (omega (arith, at-test .before .if1 .taken)))
 
 loop-again : tie.Need-loop-again Inv-loop μ-loop
 loop-again c =
@@ -72,7 +72,7 @@ returns c =
 returns-2 : tie.Need-returns-2 Inv-loop μ-loop
 returns-2 c =
     let head = c .before .before .loop in
-    ((head .inv .1 .0, head .inv .1 .1), (head .inv .2, run-full (stopped (head .progress)) (head .progress .read) (c .if1 .left)))
+    ((head .inv .1 .0, head .inv .1 .1), (head .inv .2, run-full (stopped (head .progress)) (head .progress .read) (omega (arith, c .if1 .left))))
 
 pub take-all-spec : {M : Type 1} → statement M
 take-all-spec =
