@@ -21,17 +21,32 @@ const PIECE_MOST: usize = 1024;
 // A proved loop has to end, and nothing says that the input does: no run reads so many bytes.
 const READ_MOST: u64 = 72_057_594_037_927_936;
 
-// What came of a read: how many bytes, or that the input has ended, or that it cannot be read.
+// Whether a call that failed can go well the next time: a signal came, or no byte can be moved yet. Others run before it is tried.
+fn passes() -> bool {
+    let error = os::errno();
+    libc::sched_yield();
+    (error == libc::EINTR) | (error == libc::EAGAIN)
+}
+
+// What came of a read: how many bytes, or that the input has ended, or neither, where it cannot be read.
 struct Came {
     count: usize,
     ended: bool,
 }
 
-// Reads once. Where no byte comes, the input has ended or cannot be read.
+// Reads once.
 fn receive(input: &mut [u8]) -> Came
     ensures { λ r. ⌜ r .count ≤ length (now (input .exit)) ⌝ }
 {
-    let got = libc::read(0, input);
+    let mut tries = u64::MAX;
+    let mut got = libc::read(0, input);
+    while tries > 0 && got < 0 {
+        if !passes() {
+            break;
+        }
+        got = libc::read(0, input);
+        tries -= 1;
+    }
     let count = io::count(got, input);
     Came {
         count,
@@ -50,10 +65,20 @@ fn send(text: &[u8], handed: u64) -> Sent
     requires { ⌜ handed + length (now text) < 2 ^ 64 ⌝ }
     ensures { λ r. ⌜ r .handed ≡ handed + length (now (text .entry)) ⌝ }
 {
-    let whole = io::write_all(1, text);
+    let mut at: usize = 0;
+    let mut tries = u64::MAX;
+    while tries > 0 && at < text.len() {
+        let got = libc::write(1, &text[at..]);
+        let count = io::count(got, &text[at..]);
+        if count == 0 && !passes() {
+            break;
+        }
+        at += count;
+        tries -= 1;
+    }
     Sent {
         handed: handed + text.len() as u64,
-        failed: !whole,
+        failed: at < text.len(),
     }
 }
 

@@ -1,7 +1,7 @@
 -- The listing of a whole input is what its bytes print one after the other, and what the end prints (`listing-streamed`).
 -- The idea: a line that has begun has no line feed in it; behind one the lines of the rest follow. No contract cites this file. Assumes nothing.
-use Prim.Native.Nat.{ℕ, _+_}
-use mathlib.Core.Path.{_≡_, refl, sym, subst, _∙_}
+use Prim.Native.Nat.{ℕ, suc, _+_}
+use mathlib.Core.Path.{_≡_, refl, sym, ap, subst, _∙_}
 use mathlib.Core.Logic.{⊎-elim}
 use mathlib.Core.Bool.{Bool, true, false, not}
 use mathlib.Core.List.{List, [], _∷_, _++_, append-assoc, append-nil}
@@ -43,6 +43,12 @@ lines-last x (y ∷ l) h =
     let other = T-false (eqb x 10) (both-l (inLine x) (all inLine (y ∷ l)) h) in
     let rest = lines-last y l (both-r (inLine x) (all inLine (y ∷ l)) h) in
     rw (other, rest)
+
+-- each line yields one
+pub yields-one : (ls : List (List ℕ)) (begun : Bool) (s : List ℕ) → length (yields ls begun s) ≡ length ls
+unfolding yields
+yields-one [] begun s = refl
+yields-one (l ∷ ls) begun s = ap suc (yields-one ls (lineResult l begun s .begun) (lineResult l begun s .state))
 
 -- ---- a line that is cut
 
