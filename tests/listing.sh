@@ -21,14 +21,14 @@ test_of() {
     fi
 }
 
-# run STATUS OUT-LINES ERR-LINES COMMAND..: the command ends with this status and writes so many lines to each end, which stand in $scratch/out and err
+# run STATUS OUT-LINES ERR-LINES COMMAND..: the command ends with this status and writes so many lines to each end ($scratch/out and $scratch/err)
 run() {
-    local status=$1 out=$2 err=$3 got
+    local wanted="$1 $2 $3" got
     shift 3
     timeout 60 "$@" >"$scratch/out" 2>"$scratch/err"
-    got=$?
-    if [ "$got" -eq "$status" ] && [ "$(wc -l <"$scratch/out")" -eq "$out" ] && [ "$(wc -l <"$scratch/err")" -eq "$err" ]; then return 0; fi
-    printf 'status %d, %d and %d lines; not %d, %d and %d: %s\n' "$got" "$(wc -l <"$scratch/out")" "$(wc -l <"$scratch/err")" "$status" "$out" "$err" "$*"
+    got="$? $(wc -l <"$scratch/out") $(wc -l <"$scratch/err")"
+    if [ "$got" = "$wanted" ]; then return 0; fi
+    printf 'status and lines %s, not %s: %s\n' "$got" "$wanted" "$*"
     return 1
 }
 says() { grep -qF -- "$1" "$scratch/$2" || { printf 'it does not say: %s\n' "$1"; return 1; }; }
@@ -121,7 +121,10 @@ mkdir -p target/bin && printf '#!/bin/sh\nexec cat\n' >target/bin/listing && chm
 RT
 chmod +x "$elsewhere/bin/rt"
 pretending=(env PATH="$elsewhere/bin:$plain" PRETEND="$elsewhere")
-not_proved() { run 2 0 2 "${pretending[@]}" PRETEND_SECONDS=0 PRETEND_FAILS=yes "$elsewhere/listing" && says 'predicates not proved' err && [ ! -e "$elsewhere/target" ]; }
+not_proved() {
+    run 2 0 2 "${pretending[@]}" PRETEND_SECONDS=0 PRETEND_FAILS=yes "$elsewhere/listing" &&
+        says 'predicates not proved' err && [ ! -e "$elsewhere/target" ]
+}
 interrupted() {
     local pid prover try
     rm -f "$elsewhere/pid"
@@ -137,7 +140,8 @@ interrupted() {
 }
 progress() {
     gcc -std=c11 -Wall -Wextra -Werror -O2 tests/terminal.c -o "$scratch/terminal" || return 1
-    timeout 60 "${pretending[@]}" PRETEND_SECONDS=2 PRETEND_FAILS= "$scratch/terminal" "$elsewhere/listing" <"$scenario" >"$scratch/out" && says '1 of ' out && says ' crates, 1 s' out
+    timeout 60 "${pretending[@]}" PRETEND_SECONDS=2 PRETEND_FAILS= "$scratch/terminal" "$elsewhere/listing" <"$scenario" >"$scratch/out" &&
+        says '1 of ' out && says ' crates, 1 s' out
 }
 
 test_of 'without the kit: one sentence' no_kit

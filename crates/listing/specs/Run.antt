@@ -10,7 +10,7 @@ use Rattle.stream.specs.code.Kept.{Kept, nothingKept, keptAfter, textAfter}
 
 -- so many bytes are read at once at most
 abbrev pub pieceMost : ℕ
-pieceMost = 1024
+pieceMost = 4096
 
 -- a run reads no further than so many bytes, which no run reaches: a proved loop has to end, and nothing says that the input does
 abbrev pub readMost : ℕ

@@ -13,10 +13,14 @@ ghost use Rattle.numbers.specs.Numbers.{put};
 ghost use Rattle.lines.specs.code.Sizes.{answerMost};
 ghost use Rattle.stream.specs.code.Kept.{Kept, Standing, keptBy, keptAfter, textAfter};
 ghost use Rattle.listing.specs.Run.{pieceMost, readMost, Went, Ran};
+use lines::ANSWER_MOST;
 use stream::Session;
 
-// So many bytes are read at once at most; the output has room for an answer to each.
-const PIECE_MOST: usize = 1024;
+// So many bytes are read at once at most.
+const PIECE_MOST: usize = 4096;
+
+// The output has room for an answer to each byte of a piece.
+const OUT_SIZE: usize = ANSWER_MOST * PIECE_MOST;
 
 // A proved loop has to end, and nothing says that the input does: no run reads so many bytes.
 const READ_MOST: u64 = 72_057_594_037_927_936;
@@ -169,7 +173,7 @@ fn answer_all() -> Outcome
     ensures { λ r. ⌜ T ((r .ended || (r .unread || r .unwritten)) || leb readMost (r .read)) ⌝ }
 {
     let mut input = [0u8; PIECE_MOST];
-    let mut out = io::large_buffer();
+    let mut out = [0u8; OUT_SIZE];
     let progress = take_all(&mut input, &mut out);
     if !progress.ended {
         return Outcome {

@@ -14,7 +14,7 @@ unfolding put
 returns c =
     let from = c .before .before .args .from in
     let stands = c .before .before .pre .0 in
-    let none = last-none (keptBy from) (length-take-le (from .size) (from .line) (omega (arith, stands .come, stands .long))) (c .if1 .taken) in
+    let none = last-none (keptBy from) (length-take-le (from .size) (from .line) (omega (arith, stands .come, stands .long))) (omega (arith, c .if1 .taken)) in
     ((rw none refl, omega arith), rw none refl)
 
 array-share-prefix-line : tie.Need-array-share-prefix-line
