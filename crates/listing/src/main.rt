@@ -25,11 +25,11 @@ const OUT_SIZE: usize = ANSWER_MOST * PIECE_MOST;
 // A proved loop has to end, and nothing says that the input does: no run reads so many bytes.
 const READ_MOST: u64 = 72_057_594_037_927_936;
 
-// Whether a call that failed can go well the next time: a signal came, or no byte can be moved yet. Others run before it is tried.
-fn passes() -> bool {
+// Whether a call that moved nothing can go well the next time: a signal came, or no byte can be moved yet. Others run before it is tried.
+fn passes(got: isize) -> bool {
     let error = os::errno();
     libc::sched_yield();
-    (error == libc::EINTR) | (error == libc::EAGAIN)
+    (got < 0) & ((error == libc::EINTR) | (error == libc::EAGAIN))
 }
 
 // What came of a read: how many bytes, or that the input has ended, or neither, where it cannot be read.
@@ -38,14 +38,14 @@ struct Came {
     ended: bool,
 }
 
-// Reads once.
+// Reads once, and again where nothing could be read yet.
 fn receive(input: &mut [u8]) -> Came
     ensures { λ r. ⌜ r .count ≤ length (now (input .exit)) ⌝ }
 {
     let mut tries = u64::MAX;
     let mut got = libc::read(0, input);
     while tries > 0 && got < 0 {
-        if !passes() {
+        if !passes(got) {
             break;
         }
         got = libc::read(0, input);
@@ -64,7 +64,7 @@ struct Sent {
     failed: bool,
 }
 
-// Writes a text.
+// Writes a text, as many times as it takes.
 fn send(text: &[u8], handed: u64) -> Sent
     requires { ⌜ handed + length (now text) < 2 ^ 64 ⌝ }
     ensures { λ r. ⌜ r .handed ≡ handed + length (now (text .entry)) ⌝ }
@@ -74,7 +74,7 @@ fn send(text: &[u8], handed: u64) -> Sent
     while tries > 0 && at < text.len() {
         let got = libc::write(1, &text[at..]);
         let count = io::count(got, &text[at..]);
-        if count == 0 && !passes() {
+        if count == 0 && !passes(got) {
             break;
         }
         at += count;
