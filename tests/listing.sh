@@ -93,7 +93,18 @@ test_of 'the program itself, a folder as input' program_folder
 lines=40000
 seq -f 'ask %.0f' "$lines" >"$scratch/long"
 long_input() { run 0 "$lines" 0 ./listing "$scratch/long" && [ "$(sort -u "$scratch/out")" = 'bad line' ]; }
-head_of_long() { [ "$(timeout 60 ./listing "$scratch/long" | head -1)" = 'bad line' ]; }
+head_of_long() {
+    timeout 60 ./listing "$scratch/long" 2>"$scratch/err" | head -1 >"$scratch/out"
+    [ "${PIPESTATUS[0]}" -ne 0 ] && [ "$(cat "$scratch/out")" = 'bad line' ] && [ ! -s "$scratch/err" ]
+}
+# where nobody is told by a signal that the reader has gone
+reader_gone() {
+    (
+        trap '' PIPE
+        timeout 60 ./listing "$scratch/long" 2>"$scratch/err" | head -1 >"$scratch/out"
+        [ "${PIPESTATUS[0]}" -eq 1 ]
+    ) && [ "$(cat "$scratch/out")" = 'bad line' ] && says "$cannot_write" err
+}
 slow_ends() {
     gcc -std=c11 -Wall -Wextra -Werror -O2 tests/slow_ends.c -o "$scratch/slow_ends" &&
         run 0 "$lines" 0 "$scratch/slow_ends" target/bin/listing <"$scratch/long" && [ "$(sort -u "$scratch/out")" = 'bad line' ]
@@ -101,6 +112,7 @@ slow_ends() {
 
 test_of "$lines lines, as many answers" long_input
 test_of 'only the first answer is read' head_of_long
+test_of 'the same with the signal ignored' reader_gone
 test_of 'input and output slow, and neither blocks' slow_ends
 
 # ---- without the program: a folder of its own, and a prover that only pretends
