@@ -167,13 +167,20 @@ struct Outcome {
     unwritten: bool,
 }
 
+// Room for what a piece prints.
+fn room() -> [u8; OUT_SIZE]
+    ensures { λ r. ⌜ answerMost * pieceMost ≡ length r ⌝ }
+{
+    [0; OUT_SIZE]
+}
+
 // Reads and answers all, a last line without a line feed too.
 fn answer_all() -> Outcome
     ensures { λ r. ⌜ Ran (r .read) (r .handed) (r .ended) ⌝ }
     ensures { λ r. ⌜ T ((r .ended || (r .unread || r .unwritten)) || leb readMost (r .read)) ⌝ }
 {
     let mut input = [0u8; PIECE_MOST];
-    let mut out = [0u8; OUT_SIZE];
+    let mut out = room();
     let progress = take_all(&mut input, &mut out);
     if !progress.ended {
         return Outcome {

@@ -22,7 +22,8 @@ returns c =
 short : (c : tie.After-last-line) → c .last-line .result ≤ length (c .last-line .last .1 .0)
 short c =
     let at-take = c .before .before .before .before .before .before .before in
-    omega (arith, c .last-line .ensures .0 .1, c .last-line .kept .1 .0, at-take .take-all .kept .1 .0)
+    let long = at-take .before .before .before .room .ensures in
+    omega (arith, c .last-line .ensures .0 .1, c .last-line .kept .1 .0, at-take .take-all .kept .1 .0, long)
 
 -- so much is sent
 long : (c : tie.After-last-line) → length (take (c .last-line .result) (c .last-line .last .1 .0)) ≡ c .last-line .result
@@ -50,6 +51,7 @@ pub answer-all-spec : {M : Type 1} → statement M
 answer-all-spec =
     tie.close
     (tie.spec
+    (λ c κs. search needs)
     (λ c. search needs)
     (λ c. search needs)
     (λ c κs. search needs)
