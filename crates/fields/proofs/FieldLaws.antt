@@ -12,11 +12,11 @@ use lib.Dec.{T, ltb, leb, eqb}
 use lib.ListN.{length, getD, take, drop, set, drop-of-length-le, length-take, length-drop}
 use lib.Seq.{drop-drop}
 use Rattle.predicates.specs.Lists.{all}
-use Rattle.predicates.proofs.ListLaws.{true-T, T-true, both-l}
+use Rattle.predicates.proofs.ListLaws.{true-T, T-true, both-l, both-r}
 use Rattle.predicates.proofs.LoopLaws.{drop-next}
 use Rattle.numbers.specs.Numbers.{put}
 use Rattle.fields.specs.Fields.{onto, fields, sameBytes, isDigit, valueFrom, value, isNumber}
-use Rattle.fields.specs.code.Scan.{later, spaceAt}
+use Rattle.fields.specs.code.Scan.{later, spaceAt, numbersIn}
 
 -- ---- spaceAt: the first space
 
@@ -76,27 +76,36 @@ module _ (l : List ℕ) (at end n : ℕ) (vs : List ℕ) (inside : at ≤ length
   abbrev field : List ℕ
   field = take (end - at) (drop at l)
 
-  pub numbers-bad : isNumber field ≡ false → all isNumber (fields (drop at l)) ≡ false
+  pub numbers-bad : isNumber field ≡ false → (all isNumber (fields (drop at l)) ≡ false) × (put n (numbersIn (fields (drop at l))) vs ≡ vs)
+  unfolding numbersIn put
   numbers-bad h =
       let bad : isNumber (take (spaceAt (drop at l)) (drop at l)) ≡ false = rw (size l at end inside e) h in
-      rw (fields-split (drop at l), bad)
+      (rw (fields-split (drop at l), bad), rw (fields-split (drop at l), bad))
 
   pub numbers-last : isNumber field ≡ true → end ≡ length l →
       (all isNumber (fields (drop at l)) ≡ true) × (length (fields (drop at l)) ≡ 1)
-      × (put n (map value (fields (drop at l))) vs ≡ set vs n (value field))
-  unfolding put
+      × (put n (numbersIn (fields (drop at l))) vs ≡ set vs n (value field))
+  unfolding numbersIn put
   numbers-last h f =
       let one = fields-last l at end inside e f in
-      (rw (one, h), rw one, rw one)
+      (rw (one, h), rw one, rw (one, h))
 
   pub numbers-more : isNumber field ≡ true → (end ≡ length l → ⊥) →
       (all isNumber (fields (drop at l)) ≡ all isNumber (fields (drop (end + 1) l)))
       × (length (fields (drop at l)) ≡ suc (length (fields (drop (end + 1) l))))
-      × (put n (map value (fields (drop at l))) vs ≡ put (n + 1) (map value (fields (drop (end + 1) l))) (set vs n (value field)))
-  unfolding put
+      × (put n (numbersIn (fields (drop at l))) vs ≡ put (n + 1) (numbersIn (fields (drop (end + 1) l))) (set vs n (value field)))
+  unfolding numbersIn put
   numbers-more h f =
       let more = fields-more l at end inside e f in
-      (rw (more, h), rw more, rw (more, add-one n))
+      (rw (more, h), rw more, rw (more, h, add-one n))
+
+-- where all are numbers, all are read
+pub numbers-all : (fs : List (List ℕ)) → T (all isNumber fs) → numbersIn fs ≡ map value fs
+unfolding numbersIn
+numbers-all [] t = refl
+numbers-all (f ∷ fs) t =
+    let good = T-true (isNumber f) (both-l (isNumber f) (all isNumber fs) t) in
+    rw (good, numbers-all fs (both-r (isNumber f) (all isNumber fs) t))
 
 -- ---- value: what digits write
 

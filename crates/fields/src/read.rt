@@ -1,14 +1,13 @@
 // The fields of a line and the numbers that they write.
 ghost use mathlib.Core.Path.{_≡_};
 ghost use mathlib.Core.Bool.{cond};
-ghost use mathlib.Core.List.{List, map};
+ghost use mathlib.Core.List.{List};
 ghost use Prim.Native.Nat.{ℕ, _+_, _*_, _≤_, _<_};
-ghost use lib.Dec.{T};
 ghost use lib.ListN.{length, drop};
 ghost use Rattle.predicates.specs.Lists.{all};
 ghost use Rattle.numbers.specs.Numbers.{put, bytesOf};
 ghost use Rattle.fields.specs.Fields.{fields, value, isNumber, isWord, sameBytes};
-ghost use Rattle.fields.specs.code.Scan.{later, spaceAt};
+ghost use Rattle.fields.specs.code.Scan.{later, spaceAt, numbersIn};
 
 // Whether a field is a number, and the number; 0 where it is none.
 struct Field {
@@ -83,14 +82,14 @@ pub struct Numbers {
 }
 
 // Reads the numbers of the fields from `from` on into the front of `values`, which has more than half as many places as the line has bytes: a number
-// and the space behind it are two bytes at least. Where a field is no number, nothing is said of what `values` holds.
+// and the space behind it are two bytes at least. Where a field is no number, those before it were stored.
 fn numbers_from(line: &[u8], from: usize, values: &mut [u64]) -> Numbers
     requires { ⌜ (from ≤ length (now line)) × (length (now line) < 2 * length (now values)) ⌝ }
     ensures { λ r. ⌜ (let read : List (List ℕ) = fields (drop from (now (line .entry))) in
         (r .good ≡ all isNumber read) × (r .count ≡ cond (all isNumber read) (length read) 0)
         × (r .count ≤ length (now (values .entry)))) ⌝ }
     ensures { λ _. ⌜ (let read : List (List ℕ) = fields (drop from (now (line .entry))) in
-        T (all isNumber read) → now (values .exit) ≡ put 0 (map value read) (now (values .entry))) ⌝ }
+        now (values .exit) ≡ put 0 (numbersIn read) (now (values .entry))) ⌝ }
 {
     let mut at = from;
     let mut n: usize = 0;
@@ -122,7 +121,7 @@ pub fn numbers_behind(line: &[u8], end: usize, values: &mut [u64]) -> Numbers
         (r .good ≡ all isNumber read) × (r .count ≡ cond (all isNumber read) (length read) 0)
         × (r .count ≤ length (now (values .entry)))) ⌝ }
     ensures { λ _. ⌜ (let read : List (List ℕ) = later (fields (now (line .entry))) in
-        T (all isNumber read) → now (values .exit) ≡ put 0 (map value read) (now (values .entry))) ⌝ }
+        now (values .exit) ≡ put 0 (numbersIn read) (now (values .entry))) ⌝ }
 {
     if end == line.len() {
         return Numbers {

@@ -46,7 +46,7 @@ fn put_digits(out: &mut [u8], at: usize, k: usize, n: u64) -> usize
 }
 
 // Stores a number in decimal.
-pub fn put_decimal(out: &mut [u8], at: usize, n: u64) -> usize
+fn put_decimal(out: &mut [u8], at: usize, n: u64) -> usize
     requires { ⌜ at + 20 ≤ length (now out) ⌝ }
     ensures { λ r. ⌜ (r ≡ at + length (decimal n)) × (r ≤ at + 20) ⌝ }
     ensures { λ _. ⌜ now (out .exit) ≡ put at (decimal n) (now (out .entry)) ⌝ }

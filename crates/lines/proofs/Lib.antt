@@ -3,4 +3,3 @@ pub mod TextLaws
 pub mod LineLaws
 pub mod ResultLaws
 pub mod WorkedCases
-pub mod StreamLaws

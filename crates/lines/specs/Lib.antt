@@ -1,5 +1,4 @@
 pub mod Text
 pub mod Lines
 pub mod Cases
-pub mod Listing
 pub mod code

@@ -14,7 +14,7 @@ use fields::read;
 const MESSAGE_MOST: usize = (VALUES_MOST - 2) * 4;
 
 // `set` own drift reading.
-pub fn set_line(values: &[u64], state: &mut [u8], begun: bool, out: &mut [u8]) -> Answered
+fn set_line(values: &[u64], state: &mut [u8], begun: bool, out: &mut [u8]) -> Answered
     requires { ⌜ answerMost ≤ length (now out) ⌝ }
     ensures { λ r. ⌜ (let result : LineResult = setLine (now (values .entry)) begun (now (state .entry)) in
         (r .begun ≡ result .begun) × (r .size ≡ length (result .text)) × (now (state .exit) ≡ result .state)
@@ -106,7 +106,7 @@ fn fewest_line(values: &[u64], state: &[u8], out: &mut [u8]) -> usize
 }
 
 // A command that needs a taken `set` before it.
-pub fn later_line(word: &[u8], values: &[u64], state: &mut [u8], out: &mut [u8]) -> usize
+fn later_line(word: &[u8], values: &[u64], state: &mut [u8], out: &mut [u8]) -> usize
     requires { ⌜ (length (now values) ≤ valuesMost) × (answerMost ≤ length (now out)) ⌝ }
     ensures { λ r. ⌜ (let result : LineResult = laterLine (now (word .entry)) (now (values .entry)) (now (state .entry)) in
         (r ≡ length (result .text)) × (now (state .exit) ≡ result .state) × (now (out .exit) ≡ put 0 (result .text) (now (out .entry)))) ⌝ }

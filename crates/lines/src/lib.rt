@@ -7,9 +7,8 @@ ghost use Rattle.numbers.specs.Numbers.{put};
 ghost use Rattle.lines.specs.code.Sizes.{answerMost};
 ghost use Rattle.lines.specs.Lines.{LineResult, lineResult};
 
-pub mod commands;
-pub mod stream;
-pub mod text;
+mod commands;
+mod text;
 
 // A line has at most these bytes, without its line feed.
 pub const LINE_MOST: usize = 200;

@@ -15,6 +15,7 @@ use Rattle.predicates.proofs.ListLaws.{true-T}
 use Rattle.numbers.proofs.NumberLaws.{take-put}
 use Rattle.fields.specs.Fields.{fields, value, isNumber}
 use Rattle.fields.specs.code.Scan.{later, spaceAt}
+use Rattle.fields.proofs.FieldLaws.{numbers-all}
 use Rattle.lines.specs.Lines.{badLine}
 use Rattle.lines.specs.code.Sizes.{valuesMost}
 use Rattle.lines.proofs.LineLaws.{line-long, line-fields}
@@ -66,8 +67,8 @@ numbers c =
     let read = later (fields (at-length .before .before .before .before .args .line .now)) in
     let call = c .before .before .before .numbers-behind in
     let count = rw (good c) at (call .ensures .0 .1) in
-    let stored = call .ensures .1 (true-T _ (good c)) in
-    rw stored (take-put _ (map value read) _ (length-map read value ∙ sym count) (few c))
+    let stored = call .ensures .1 in
+    rw (stored, numbers-all read (true-T _ (good c))) (take-put _ (map value read) _ (length-map read value ∙ sym count) (few c))
 
 slice-aggregate-word-line : tie.Need-slice-aggregate-word-line
 slice-aggregate-word-line c = sym (length-take-le _ _ (c .before .before .before .before .before .before .field-end .ensures .2))

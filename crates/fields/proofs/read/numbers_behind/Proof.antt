@@ -4,17 +4,17 @@ use mathlib.Core.Path.{_≡_, sym, _∙_}
 use native.Mathlib.Omega.{arith}
 use lib.ListN.{length}
 use Rattle.numbers.specs.Numbers.{put}
-use Rattle.fields.specs.code.Scan.{spaceAt}
+use Rattle.fields.specs.code.Scan.{spaceAt, numbersIn}
 use Rattle.fields.proofs.FieldLaws.{later-none, later-some}
 use borrow.Author.Needs.{needs}
 use Rattle.fields.proofs.read.numbers_behind.Statement.{statement}
 use Rattle.fields.proofs.read.numbers_behind.Tie as tie
 
 returns : tie.Need-returns
-unfolding put
+unfolding put numbersIn
 returns c =
     let none = later-none (c .before .before .before .args .line .now) (sym (c .before .before .before .pre .0) ∙ c .if1 .taken) in
-    ((rw none, rw none, omega arith), λ t. rw none)
+    ((rw none, rw none, omega arith), rw none)
 
 returns-2 : tie.Need-returns-2
 returns-2 c =

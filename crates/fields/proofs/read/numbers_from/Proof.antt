@@ -3,13 +3,13 @@
 -- Measure: the bytes behind at. The mathematics is `numbers-bad`, `numbers-last` and `numbers-more` of `proofs.FieldLaws`. Assumes nothing.
 use Prim.Native.Nat.{_+_, _*_, _-_, _≤_}
 use mathlib.Core.Path.{_≡_, refl, sym, _∙_}
-use mathlib.Core.List.{map}
 use native.Mathlib.Omega.{arith}
 use borrow.Author.Tests.{not-true, not-false}
 use lib.ListN.{length, drop, length-set}
 use Rattle.predicates.specs.Lists.{all}
 use Rattle.numbers.specs.Numbers.{put}
-use Rattle.fields.specs.Fields.{fields, value, isNumber}
+use Rattle.fields.specs.Fields.{fields, isNumber}
+use Rattle.fields.specs.code.Scan.{numbersIn}
 use Rattle.fields.proofs.FieldLaws.{numbers-bad, numbers-last, numbers-more, field-some}
 use borrow.Author.Needs.{needs}
 use Rattle.fields.proofs.read.numbers_from.Statement.{statement}
@@ -20,7 +20,7 @@ Inv-loop line from values₀ at₀ n₀ values at n =
     (at ≤ length line) × (n * 2 ≤ at) × (length values ≡ length values₀)
     × (all isNumber (fields (drop at line)) ≡ all isNumber (fields (drop from line)))
     × (n + length (fields (drop at line)) ≡ length (fields (drop from line)))
-    × (put n (map value (fields (drop at line))) values ≡ put 0 (map value (fields (drop from line))) values₀)
+    × (put n (numbersIn (fields (drop at line))) values ≡ put 0 (numbersIn (fields (drop from line))) values₀)
 
 abbrev μ-loop : tie.MeasureT-loop
 μ-loop line from values₀ at₀ n₀ values at n = length line - at
@@ -33,8 +33,9 @@ returns c =
     let head = c .before .before .before .before .before .loop in
     let l = c .before .before .before .before .before .before .before .before .args .line .now in
     let bad = sym (c .before .before .number .ensures .0) ∙ not-true _ (c .if1 .taken) in
-    let none = sym (head .inv .3) ∙ numbers-bad l (head .at) (c .before .before .before .before .field-end .result) (head .n) (head .values) (head .inv .0) (c .before .before .before .before .field-end .ensures .0) bad in
-    ((sym none, rw none, omega arith), λ t. absurd (rw none at t))
+    let read = numbers-bad l (head .at) (c .before .before .before .before .field-end .result) (head .n) (head .values) (head .inv .0) (c .before .before .before .before .field-end .ensures .0) bad in
+    let none = sym (head .inv .3) ∙ read .0 in
+    ((sym none, rw none, omega arith), sym (read .1) ∙ head .inv .5)
 
 returns-2 : tie.Need-returns-2 Inv-loop μ-loop
 returns-2 c =
@@ -44,7 +45,7 @@ returns-2 c =
     let last = numbers-last l (head .at) (c .before .before .before .before .before .field-end .result) (head .n) (head .values) (head .inv .0) (c .before .before .before .before .before .field-end .ensures .0) good (c .if2 .taken) in
     let all-good = sym (head .inv .3) ∙ last .0 in
     let stored = rw good at (c .before .before .before .number .ensures .1) in
-    ((sym all-good, rw all-good (omega arith), omega arith), λ t. rw stored (sym (last .2) ∙ head .inv .5))
+    ((sym all-good, rw all-good (omega arith), omega arith), rw stored (sym (last .2) ∙ head .inv .5))
 
 loop-less : tie.Need-loop-less Inv-loop μ-loop
 loop-less c =

@@ -1,4 +1,4 @@
--- `lines::stream::end_line` meets its contract: the answer stands at the front of an array and goes behind the output that waits. It fits, since no
+-- `stream::end_line` meets its contract: the answer stands at the front of an array and goes behind the output that waits. It fits, since no
 -- answer is longer than 64 bytes (`line-short` of `proofs.ResultLaws`). Assumes nothing.
 use Prim.Native.Nat.{_≤_}
 use mathlib.Core.Path.{_≡_, refl, sym}
@@ -6,12 +6,12 @@ use native.Mathlib.Omega.{arith}
 use lib.ListN.{length, take, length-take}
 use lib.Seq.{length-take-le}
 use Rattle.numbers.proofs.NumberLaws.{take-put}
 use Rattle.lines.specs.code.Sizes.{answerMost}
 use Rattle.lines.specs.Lines.{lineResult}
 use Rattle.lines.proofs.ResultLaws.{line-short}
 use borrow.Author.Needs.{needs}
-use Rattle.lines.proofs.stream.end_line.Statement.{statement}
-use Rattle.lines.proofs.stream.end_line.Tie as tie
+use Rattle.stream.proofs.end_line.Statement.{statement}
+use Rattle.stream.proofs.end_line.Tie as tie
 
 short : (c : tie.After-answer2) → c .answer2 .result .size ≤ answerMost
 short c = rw (c .answer2 .ensures .1) (line-short _ _ _)

@@ -1,15 +1,15 @@
--- `lines::stream::take_byte` meets its contract: a line feed ends the line; another byte stands behind the line's, as long as there are not 201.
+-- `stream::take_byte` meets its contract: a line feed ends the line; another byte stands behind the line's, as long as there are not 201.
 -- Assumes nothing.
 use mathlib.Core.Path.{sym}
 use native.Mathlib.Omega.{arith}
 use borrow.Author.Tests.{eq-eqb, ne-eqb}
 use lib.Seq.{length-take-le}
 use Rattle.numbers.specs.Numbers.{put}
-use Rattle.lines.specs.Listing.{resultOf, keptNext, textNext}
-use Rattle.lines.proofs.StreamLaws.{kept-byte, kept-full}
+use Rattle.stream.specs.code.Kept.{resultOf, keptNext, textNext}
+use Rattle.stream.proofs.StreamLaws.{kept-byte, kept-full}
 use borrow.Author.Needs.{needs}
-use Rattle.lines.proofs.stream.take_byte.Statement.{statement}
-use Rattle.lines.proofs.stream.take_byte.Tie as tie
+use Rattle.stream.proofs.take_byte.Statement.{statement}
+use Rattle.stream.proofs.take_byte.Tie as tie
 
 slice-aggregate-end-line : tie.Need-slice-aggregate-end-line
 slice-aggregate-end-line c = sym (length-take-le _ _ (search needs))

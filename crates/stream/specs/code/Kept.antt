@@ -1,11 +1,15 @@
--- The listing over a stream of bytes (document 01, "A listing, complete"): what is kept between two bytes, and what is printed.
--- Assumes nothing: these are definitions.
-use Prim.Native.Nat.{ℕ, _+_}
-use mathlib.Core.Bool.{Bool, cond}
+-- Definitions that serve the code alone: no statement of document 01 cites this file.
+-- The listing byte by byte: what is kept between two bytes, and what each prints. Law `listing-streamed` of `proofs.ListingLaws` joins it to
+-- `specs.Listing`. Assumes nothing: these are definitions.
+use Prim.Native.Nat.{ℕ, _+_, _≤_}
+use mathlib.Core.Path.{_≡_}
+use mathlib.Core.Bool.{Bool, false, cond}
 use mathlib.Core.List.{List, [], _∷_, _++_}
 use lib.Dec.{eqb}
-use lib.ListN.{take}
+use lib.ListN.{length, take, replicate}
+use Rattle.state.specs.Layout.{stateSize}
 use Rattle.lines.specs.Lines.{lineMost, LineResult, lineResult}
+use Rattle.stream.specs.declared.Session.{Session}
 
 -- what is kept between two bytes: whether a `set` was taken, the state, and the bytes of the line so far
 pub record Kept : Type 0 where
@@ -15,6 +19,19 @@ pub record Kept : Type 0 where
 
 abbrev pub kept : Bool → List ℕ → List ℕ → Kept
 kept begun state line = record { begun = begun; state = state; line = line }
+
+-- a session as this crate makes it: the bytes that have come lie within its line
+pub record Standing (s : Session) : Type 0 where
+  pub come : s .size ≤ lineMost + 1
+  pub long : length (s .line) ≡ lineMost + 1
+
+-- what a session keeps
+abbrev pub keptBy : Session → Kept
+keptBy s = kept (s .begun) (s .state) (take (s .size) (s .line))
+
+-- before the first byte: no `set` was taken, the state's bytes are zero, and no byte of a line has come
+unfoldable pub nothingKept : Kept
+nothingKept = kept false (replicate stateSize 0) []
 
 -- what the line so far gives when it ends
 unfoldable pub resultOf : Kept → LineResult
@@ -38,3 +55,7 @@ keptAfter k (b ∷ bs) = keptAfter (keptNext k b) bs
 unfoldable pub textAfter : Kept → List ℕ → List ℕ
 textAfter k [] = []
 textAfter k (b ∷ bs) = textNext k b ++ textAfter (keptNext k b) bs
+
+-- what the end of the input prints: "a last one without a line feed counts if it has bytes"
+unfoldable pub lastText : Kept → List ℕ
+lastText k = cond (eqb (length (k .line)) 0) [] (resultOf k .text)

@@ -1,0 +1,2 @@
+-- The laws of a run.
+pub mod RunLaws

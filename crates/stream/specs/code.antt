@@ -1,0 +1,2 @@
+-- The definitions that serve the code alone.
+pub mod Kept
