@@ -376,55 +376,39 @@ pub fn term_step(
     best: u32,
 ) -> u32
     requires { ⌜ (let t : Rows = rowsOf (now counts) (now masks) (now several) (now rests) (now singles) in
-        RowsFit n (now listed) t × (i < n) × (end ≤ at + rowWidth) × (end ≤ length (now masks)) × (ones set ≤ limit)) ⌝ }
+        RowsFit n (now listed) t × (i < n) × (end ≤ length (now masks)) × (ones set ≤ limit)) ⌝ }
     ensures { λ r. ⌜ (let t : Rows = rowsOf (now (counts .entry)) (now (masks .entry)) (now (several .entry)) (now (rests .entry))
         (now (singles .entry)) in
         let ps : List (List ℕ) = drop (i + 1) (preds n (now (listed .entry)) t) in
         Best enough limit set free (take (end - at) (drop at (now (masks .entry))) ∷ ps) best r) ⌝ }
 {
-    if end <= at {
-        return best;
-    }
-    let t = masks[at];
     let mut rest = free;
     let mut found = best;
-    if worth(t, set, free, limit, best) {
-        let wider = names::union(set, t);
-        found = predicate_step(
-            listed,
-            counts,
-            masks,
-            several,
-            rests,
-            singles,
-            n,
-            limit,
-            enough,
-            i + 1,
-            wider,
-            free,
-            best,
-        );
-        if found < enough {
-            return found;
+    let mut k = at;
+    while k < end {
+        let t = masks[k];
+        if worth(t, set, rest, limit, found) {
+            found = predicate_step(
+                listed,
+                counts,
+                masks,
+                several,
+                rests,
+                singles,
+                n,
+                limit,
+                enough,
+                i + 1,
+                names::union(set, t),
+                rest,
+                found,
+            );
+            if found < enough {
+                return found;
+            }
+            rest = freed(t, set, rest);
         }
-        rest = freed(t, set, free);
+        k += 1;
     }
-    term_step(
-        listed,
-        counts,
-        masks,
-        several,
-        rests,
-        singles,
-        n,
-        limit,
-        enough,
-        i,
-        at + 1,
-        end,
-        set,
-        rest,
-        found,
-    )
+    found
 }

@@ -5,12 +5,12 @@ use Prim.Native.Nat.{ℕ, _*_, _^_, _-_, _≤_, _<_}
 use mathlib.Core.Path.{_≡_}
 use mathlib.Core.Logic.{_⊎_}
 use mathlib.Core.Bool.{Bool, _&&_, not}
-use mathlib.Core.List.{List, _∷_, map}
+use mathlib.Core.List.{List, map}
 use lib.Dec.{T, leb}
-use lib.ListN.{length, getD, take, drop}
+use lib.ListN.{length, getD, take}
 use Rattle.predicates.specs.Lists.{keep}
 use Rattle.predicates.specs.Predicates.{holds}
-use Rattle.search.specs.code.Search.{Rows, rowsMost, rowWidth, Fits, Best, rowTerms, Parted, preds, rowsMost, rowWidth}
+use Rattle.search.specs.code.Search.{Rows, rowsMost, rowWidth, Fits, rowTerms, Parted, preds}
 use Rattle.names.specs.Sets.{noSet}
 
 -- no end
@@ -84,11 +84,6 @@ pub record FirstStretch (n rows : ℕ) (lefts rights : List ℕ) (t : Rows) (ord
   pub reached : set < noSet → IsEnd n rows lefts end × Fits limit 0 free (needs rows lefts rights t order end) set
   pub earlier : set < noSet → Unexplained n rows lefts rights t order limit free from
   pub never : noSet ≤ set → Unexplained n rows lefts rights t order limit free noEnd
-
--- what comes of the terms from `at` on, and of the predicates behind them, comes of the whole
-abbrev pub Trying : ℕ → ℕ → List (List ℕ) → List ℕ → List (List ℕ) → ℕ → ℕ → ℕ → Type 0
-Trying limit free whole masks ps end at free′ =
-    (r : ℕ) → Best noSet limit 0 free′ (take (end - at) (drop at masks) ∷ ps) noSet r → Best noSet limit 0 free whole noSet r
 
 -- the first `rows` of the order are the rows, all of them
 pub record Complete (rows : ℕ) (order : List ℕ) : Type 0 where

@@ -2,7 +2,7 @@
 -- The search for a set of failed names that makes predicates true (document 01, "Fewest failures", last sentences): "from an unexplained predicate to
 -- its terms, from a term to the next unexplained predicate". What a search has to bring is said by sets (`Best`), not by its order.
 -- Assumes nothing: these are definitions.
-use Prim.Native.Nat.{ℕ, _+_, _*_, _≤_, _<_}
+use Prim.Native.Nat.{ℕ, _+_, _*_, _-_, _≤_, _<_}
 use mathlib.Core.Path.{_≡_}
 use mathlib.Core.Logic.{_⊎_}
 use mathlib.Core.Bool.{Bool, not, cond}
@@ -34,6 +34,12 @@ pub record Best (enough limit s free : ℕ) (ps : List (List ℕ)) (best r : ℕ
   pub least : (u : ℕ) → Fits limit s free ps u → (r ≤ u) ⊎ (r < enough)
 
 -- ---- on the way
+
+-- a search that had `best` before it goes through the terms of masks[at..end], with the predicates `ps` behind them: what comes of the terms from
+-- `at` on, with the names that are free now and the best that is found, comes of the whole
+abbrev pub Trying : ℕ → ℕ → ℕ → ℕ → List (List ℕ) → ℕ → List ℕ → List (List ℕ) → ℕ → ℕ → ℕ → ℕ → Type 0
+Trying enough limit s free whole best masks ps end at free′ found =
+    (r : ℕ) → Best enough limit s free′ (take (end - at) (drop at masks) ∷ ps) found r → Best enough limit s free whole best r
 
 -- from the next predicate on that the set leaves false
 unfoldable pub skipped : ℕ → List (List ℕ) → List (List ℕ)

@@ -8,10 +8,10 @@ use native.Mathlib.Omega.{arith}
 use lib.ListN.{length, drop}
 use Rattle.numbers.proofs.NumberLaws.{above-zero, length-put}
 use Rattle.names.specs.Sets.{noSet}
-use Rattle.search.specs.code.Search.{rowsOf, masksMost, RowsFit, preds}
-use Rattle.search.specs.code.LeftEnds.{noEnd, needs as LeftEnds·needs, Unexplained, Trying}
-use Rattle.search.proofs.SearchSteps.{worth-few}
-use Rattle.search.proofs.EndSteps.{listed-row, listed-rows, listed-needs, trying-begin, trying-none, trying-skip, trying-stop, trying-on, none-needed}
+use Rattle.search.specs.code.Search.{rowsOf, masksMost, Trying, RowsFit, preds}
+use Rattle.search.specs.code.LeftEnds.{noEnd, needs as LeftEnds·needs, Unexplained}
+use Rattle.search.proofs.SearchSteps.{trying-none, trying-skip, trying-stop, worth-few}
+use Rattle.search.proofs.EndSteps.{listed-row, listed-rows, listed-needs, trying-begin, trying-next, none-needed}
 use Rattle.search.proofs.StretchLaws.{stretches-none, stretches-found, stretches-next, stretches-room}
 use borrow.Author.Needs.{needs}
 use Rattle.search.proofs.ends.first_stretch.Statement.{statement}
@@ -20,7 +20,8 @@ use Rattle.search.proofs.ends.first_stretch.Tie as tie
 abbrev Inv-loop : tie.InvT-loop
 Inv-loop lefts rights counts masks several rests singles order listed n rows limit free floor from x m at₀ end rest₀ at rest =
     (end ≤ length masks) × (1 ≤ m) × RowsFit m listed (rowsOf counts masks several rests singles)
-    × Trying limit free (LeftEnds·needs rows lefts rights (rowsOf counts masks several rests singles) order x) masks (drop 1 (preds m listed (rowsOf counts masks several rests singles))) end at rest × (end ≤ masksMost)
+    × Trying noSet limit 0 free (LeftEnds·needs rows lefts rights (rowsOf counts masks several rests singles) order x) noSet masks
+    (drop 1 (preds m listed (rowsOf counts masks several rests singles))) end at rest noSet × (end ≤ masksMost)
 
 abbrev μ-loop : tie.MeasureT-loop
 μ-loop lefts rights counts masks several rests singles order listed n rows limit free floor from x m at₀ end rest₀ at rest = end - at
@@ -103,10 +104,10 @@ loop-again c =
       loop .inv .1,
       loop .inv .2,
       rw (w .6)
-          (trying-on _ _ _ _ _ _ (loop .at) (loop .rest) (loop .inv .3) h (loop .inv .0) _ (test ∙ w .0 .taken) (rw (w .2 .ensures) at (w .3 .ensures)) _ (w .4 .left) (w .5 .ensures)),
+          (trying-next _ _ _ _ _ _ (loop .at) (loop .rest) (loop .inv .3) h (loop .inv .0) _ (test ∙ w .0 .taken) (rw (w .2 .ensures) at (w .3 .ensures)) _ (w .4 .left) (w .5 .ensures)),
       loop .inv .4,
     ))
-    (λ w. (loop .inv .0, loop .inv .1, loop .inv .2, rw (w .1) (trying-skip _ _ _ _ _ _ (loop .at) (loop .rest) (loop .inv .3) h (loop .inv .0) (test ∙ w .0 .left)), loop .inv .4))
+    (λ w. (loop .inv .0, loop .inv .1, loop .inv .2, rw (w .1) (trying-skip _ _ 0 _ _ _ _ _ _ (loop .at) (loop .rest) noSet (loop .inv .3) h (loop .inv .0) (test ∙ w .0 .left)), loop .inv .4))
     (c .if3 .came)
 
 add-floor : tie.Need-add-floor Inv-loop μ-loop Inv-ends μ-ends
@@ -129,7 +130,7 @@ ends-again c =
     let head = at-list .before .before .before .before .before in
     let a = head .before .before .before .before .before .before .before .before .before .before in (
       ap length (at-list .list-outside .ensures .2) ∙ length-put 0 _ _ ∙ head .ends .inv .0,
-      stretches-next _ _ _ _ _ _ (a .pre .0) _ _ (a .pre .2) _ _ (head .ends .inv .1) (at-list .before .before .before .before .next-end .ensures) (at-list .before .before .before .if1 .left) _ (at-list .before .before .stretch-end .ensures .0) (at-list .before .before .stretch-end .ensures .1) (trying-none _ _ _ _ _ _ _ _ (c .before .loop .inv .3) (c .loop-test .left)),
+      stretches-next _ _ _ _ _ _ (a .pre .0) _ _ (a .pre .2) _ _ (head .ends .inv .1) (at-list .before .before .before .before .next-end .ensures) (at-list .before .before .before .if1 .left) _ (at-list .before .before .stretch-end .ensures .0) (at-list .before .before .stretch-end .ensures .1) (trying-none _ _ _ _ _ _ _ _ _ _ _ _ (c .before .loop .inv .3) (c .loop-test .left)),
     )
 
 same-length : tie.Need-same-length Inv-loop μ-loop Inv-ends μ-ends
@@ -172,7 +173,7 @@ returns-3 c =
     let loop = c .before .before .before .before .before .before .before .before .loop in
     let b = rw (c .before .before .union .ensures) at (c .before .predicate-step .ensures) in (
       stretches-found _ _ _ _ _ _ (a .pre .0) _ _ (a .pre .2) _ _ (head .ends .inv .1) (at-list .before .before .before .before .next-end .ensures) (at-list .before .before .before .if1 .left) _ (at-list .before .before .stretch-end .ensures .0) (at-list .before .before .stretch-end .ensures .1) _
-          (trying-stop _ _ _ _ _ _ (loop .at) (loop .rest) (loop .inv .3) (c .before .before .before .before .before .before .before .loop-test .taken) (loop .inv .0) _
+          (trying-stop _ _ 0 _ _ _ _ _ _ (loop .at) (loop .rest) noSet (loop .inv .3) (c .before .before .before .before .before .before .before .loop-test .taken) (loop .inv .0) _
           (sym (c .before .before .before .before .before .worth .ensures) ∙ c .before .before .before .before .if3 .taken) b (c .if4 .taken)) (c .if4 .taken),
       ap length (at-list .list-outside .ensures .2) ∙ length-put 0 _ _ ∙ head .ends .inv .0,
     )
