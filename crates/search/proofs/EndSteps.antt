@@ -202,9 +202,6 @@ module _ (n rows : ℕ) (lefts rights : List ℕ) (table : Rows) (order l₀ l :
   kept-rows =
       record {
         listed-long = omega (arith, ap length front, length-append kept (drop m l₀), count);
-        counted = λ j h. omega (arith, kept-row j h, ready .counted);
-        few = λ j h. ready .few (getD l j 0) (kept-row j h);
-        long = λ j h. omega (arith, kept-row j h, ready .few (getD l j 0) (kept-row j h), ready .long);
         parted = λ j h. ready .parted (getD l j 0) (kept-row j h);
       }
 

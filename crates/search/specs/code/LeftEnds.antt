@@ -1,7 +1,7 @@
 -- Definitions that serve the code alone: no statement of document 01 cites this file.
--- The ends at which an answer can begin: what it takes to explain an instant, over the claims in flat arrays, and the first end that can be explained.
+-- The ends at which an answer can begin: what it takes to explain an instant, over the claims in flat arrays, and the first end that is explained.
 -- Assumes nothing: these are definitions.
-use Prim.Native.Nat.{ℕ, _*_, _^_, _-_, _≤_, _<_}
+use Prim.Native.Nat.{ℕ, _^_, _-_, _≤_, _<_}
 use mathlib.Core.Path.{_≡_}
 use mathlib.Core.Logic.{_⊎_}
 use mathlib.Core.Bool.{Bool, _&&_, not}
@@ -10,7 +10,7 @@ use lib.Dec.{T, leb}
 use lib.ListN.{length, getD, take}
 use Rattle.predicates.specs.Lists.{keep}
 use Rattle.predicates.specs.Predicates.{holds}
-use Rattle.search.specs.code.Search.{Rows, rowsMost, rowWidth, Fits, rowTerms, Parted, preds}
+use Rattle.search.specs.code.Search.{Rows, rowsMost, Fits, rowTerms, Parted, preds}
 use Rattle.names.specs.Sets.{noSet}
 
 -- no end
@@ -40,9 +40,6 @@ pub record Ready (n rows : ℕ) (lefts rights : List ℕ) (t : Rows) (order : Li
   pub rights-long : rows ≤ length rights
   pub below : (k : ℕ) → k < rows → getD lefts k 0 < noEnd
   pub empty : (k : ℕ) → k < n → getD rights k 0 < getD lefts k 0
-  pub counted : rows ≤ length (t .counts)
-  pub few : (k : ℕ) → k < rows → getD (t .counts) k 0 ≤ rowWidth
-  pub long : rows * rowWidth ≤ length (t .masks)
   pub ordered : rows ≤ length order
   pub placed : (j : ℕ) → j < rows → getD order j 0 < rows
   pub present : (k : ℕ) → k < rows → (j : ℕ) × (j < rows) × (k ≡ getD order j 0)

@@ -29,23 +29,23 @@ use Rattle.names.proofs.union.Reads as union-reads
 use Rattle.search.proofs.search.+predicate_step+term_step.{statement}
 use Rattle.search.proofs.search.+predicate_step+term_step.Tie.{close}
 
-abbrev μ-predicate-step : Measures 6 predicate-step-kinds.ps ℕ
-μ-predicate-step κs a = (a .1 .1 .1 .1 .1 .1 .0 - a .1 .1 .1 .1 .1 .1 .1 .1 .1 .0) * 2
+abbrev μ-predicate-step : Measures 5 predicate-step-kinds.ps ℕ
+μ-predicate-step κs a = (a .1 .1 .1 .1 .1 .0 - a .1 .1 .1 .1 .1 .1 .1 .1 .0) * 2
 
-abbrev μ-term-step : Measures 6 term-step-kinds.ps ℕ
-μ-term-step κs a = (a .1 .1 .1 .1 .1 .1 .0 - (a .1 .1 .1 .1 .1 .1 .1 .1 .1 .0 + 1)) * 2 + 1
+abbrev μ-term-step : Measures 5 term-step-kinds.ps ℕ
+μ-term-step κs a = (a .1 .1 .1 .1 .1 .0 - (a .1 .1 .1 .1 .1 .1 .1 .1 .0 + 1)) * 2 + 1
 
-abbrev predicate-step-at : ℕ → In 6 predicate-step-kinds.ps
-predicate-step-at t = and 6 predicate-step-kinds.ps (is 6 predicate-step-kinds.ps μ-predicate-step t) predicate-step.Pre
+abbrev predicate-step-at : ℕ → In 5 predicate-step-kinds.ps
+predicate-step-at t = and 5 predicate-step-kinds.ps (is 5 predicate-step-kinds.ps μ-predicate-step t) predicate-step.Pre
 
-abbrev predicate-step-below : ℕ → In 6 predicate-step-kinds.ps
-predicate-step-below t = and 6 predicate-step-kinds.ps (falls 6 predicate-step-kinds.ps _<_ μ-predicate-step t) predicate-step.Pre
+abbrev predicate-step-below : ℕ → In 5 predicate-step-kinds.ps
+predicate-step-below t = and 5 predicate-step-kinds.ps (falls 5 predicate-step-kinds.ps _<_ μ-predicate-step t) predicate-step.Pre
 
-abbrev term-step-at : ℕ → In 6 term-step-kinds.ps
-term-step-at t = and 6 term-step-kinds.ps (is 6 term-step-kinds.ps μ-term-step t) term-step.Pre
+abbrev term-step-at : ℕ → In 5 term-step-kinds.ps
+term-step-at t = and 5 term-step-kinds.ps (is 5 term-step-kinds.ps μ-term-step t) term-step.Pre
 
-abbrev term-step-below : ℕ → In 6 term-step-kinds.ps
-term-step-below t = and 6 term-step-kinds.ps (falls 6 term-step-kinds.ps _<_ μ-term-step t) term-step.Pre
+abbrev term-step-below : ℕ → In 5 term-step-kinds.ps
+term-step-below t = and 5 term-step-kinds.ps (falls 5 term-step-kinds.ps _<_ μ-term-step t) term-step.Pre
 
 abbrev predicate-step-claims : ℕ → predicate-step-lts.Claims
 predicate-step-claims t = (
@@ -76,48 +76,47 @@ term-step-claims t = (
 )
 
 predicate-step-next-unexplained-requires : (t : ℕ) → predicate-step-lts.Need-next-unexplained-requires (predicate-step-claims t) (predicate-step-at t) predicate-step.Post
-predicate-step-next-unexplained-requires t c κs = let a = c .before .before .before .before .before .before in (a .pre .1 .0, a .pre .1 .1)
+predicate-step-next-unexplained-requires t c κs = let a = c .before .before .before .before .before in (a .pre .1 .0, a .pre .1 .1)
 
 predicate-step-returns : (t : ℕ) → predicate-step-lts.Need-returns (predicate-step-claims t) (predicate-step-at t) predicate-step.Post
 predicate-step-returns t c =
     let at-next = c .before .before in
-    let a = at-next .before .before .before .before .before .before .before in
+    let a = at-next .before .before .before .before .before .before in
     rw (c .lesser .ensures) (step-done _ _ _ _ (a .args .i) _ (at-next .next-unexplained .ensures .2) _ _ _ _ (c .before .if1 .taken) (a .pre .1 .2))
 
 predicate-step-returns-2 : (t : ℕ) → predicate-step-lts.Need-returns-2 (predicate-step-claims t) (predicate-step-at t) predicate-step.Post
 predicate-step-returns-2 t c =
     let at-next = c .before .before .before in
-    let a = at-next .before .before .before .before .before .before .before in
+    let a = at-next .before .before .before .before .before .before in
     step-full _ _ _ _ (a .args .i) _ (at-next .next-unexplained .ensures .2) _ _ _ _ (c .before .before .if1 .left) (omega (arith, c .before .count .ensures .0, c .if2 .taken))
 
 predicate-step-last-name-requires : (t : ℕ) → predicate-step-lts.Need-last-name-requires (predicate-step-claims t) (predicate-step-at t) predicate-step.Post
 predicate-step-last-name-requires t c κs =
     let at-next = c .before .before .before .before in
-    let a = at-next .before .before .before .before .before .before .before in
+    let a = at-next .before .before .before .before .before .before in
     let h = c .before .before .before .if1 .left in
     (a .pre .1 .0, h, omega (arith, c .before .before .count .ensures .0, c .if3 .taken), next-false _ _ _ _ (a .args .i) _ (at-next .next-unexplained .ensures .2) h)
 
 predicate-step-returns-3 : (t : ℕ) → predicate-step-lts.Need-returns-3 (predicate-step-claims t) (predicate-step-at t) predicate-step.Post
 predicate-step-returns-3 t c =
     let at-next = c .before .before .before .before .before in
-    let a = at-next .before .before .before .before .before .before .before in
+    let a = at-next .before .before .before .before .before .before in
     step-back _ _ _ _ (a .args .i) (at-next .next-unexplained .result) (at-next .next-unexplained .ensures .2) _ _ _ _ _ (c .last-name .ensures _)
 
 predicate-step-terms-at-requires : (t : ℕ) → predicate-step-lts.Need-terms-at-requires (predicate-step-claims t) (predicate-step-at t) predicate-step.Post
 predicate-step-terms-at-requires t c κs =
     let at-next = c .before .before .before .before in
-    let rows = at-next .before .before .before .before .before .before .before .pre .1 .0 in
+    let rows = at-next .before .before .before .before .before .before .pre .1 .0 in
     let h = c .before .before .before .if1 .left in
-    (omega (arith, rows .listed-long), rows .counted _ h, rows .long _ h)
+    (omega (arith, rows .listed-long), rows .parted _ h .counted, rows .parted _ h .long)
 
 predicate-step-term-step-requires : (t : ℕ) → predicate-step-lts.Need-term-step-requires (predicate-step-claims t) (predicate-step-at t) predicate-step.Post
 predicate-step-term-step-requires t c κs =
     let at-next = c .before .before .before .before .before in
-    let a = at-next .before .before .before .before .before .before .before in
+    let a = at-next .before .before .before .before .before .before in
     let h = c .before .before .before .before .if1 .left in
     let rows = a .pre .1 .0 in
-    let narrow = rows .few (at-next .next-unexplained .result) h in
-    let long = rows .long (at-next .next-unexplained .result) h in
+    let long = rows .parted (at-next .next-unexplained .result) h .long in
     let far = at-next .next-unexplained .ensures .0 in
     let from = c .terms-at .ensures .0 in
     let to = c .terms-at .ensures .1 in
@@ -126,16 +125,16 @@ predicate-step-term-step-requires t c κs =
 predicate-step-returns-4 : (t : ℕ) → predicate-step-lts.Need-returns-4 (predicate-step-claims t) (predicate-step-at t) predicate-step.Post
 predicate-step-returns-4 t c =
     let at-next = c .before .before .before .before .before .before in
-    let a = at-next .before .before .before .before .before .before .before in
+    let a = at-next .before .before .before .before .before .before in
     step-terms _ _ _ _ (a .args .i) (at-next .next-unexplained .result) (at-next .next-unexplained .ensures .2) _ _ _ _ _ _ _ (c .before .before .before .before .before .if1 .left) (c .before .terms-at .ensures .0) (c .before .terms-at .ensures .1) (c .term-step .ensures)
 
 abbrev term-step-Inv-loop : term-step-lts.InvT-loop
-term-step-Inv-loop listed counts masks several rests singles n limit enough i at end set free best rest₀ found₀ k₀ rest found k =
-    let ps = drop (i + 1) (preds n listed (rowsOf counts masks several rests singles)) in
+term-step-Inv-loop listed counts masks several singles n limit enough i at end set free best rest₀ found₀ k₀ rest found k =
+    let ps = drop (i + 1) (preds n listed (rowsOf counts masks several singles)) in
     Trying enough limit set free (take (end - at) (drop at masks) ∷ ps) best masks ps end k rest found
 
 abbrev term-step-μ-loop : term-step-lts.MeasureT-loop
-term-step-μ-loop listed counts masks several rests singles n limit enough i at end set free best rest₀ found₀ k₀ rest found k = end - k
+term-step-μ-loop listed counts masks several singles n limit enough i at end set free best rest₀ found₀ k₀ rest found k = end - k
 
 term-step-loop-holds : (t : ℕ) → term-step-lts.Need-loop-holds (term-step-claims t) (term-step-at t) term-step.Post term-step-Inv-loop term-step-μ-loop
 term-step-loop-holds t c = λ r b. b
@@ -143,7 +142,7 @@ term-step-loop-holds t c = λ r b. b
 term-step-predicate-step-requires : (t : ℕ) → term-step-lts.Need-predicate-step-requires (term-step-claims t) (term-step-at t) term-step.Post term-step-Inv-loop term-step-μ-loop
 term-step-predicate-step-requires t c κs =
     let at-worth = c .before .before in
-    let a = at-worth .before .before .before .before .before .before .before .before .before .before in
+    let a = at-worth .before .before .before .before .before .before .before .before .before in
     let few = worth-few _ _ _ _ _ (sym (at-worth .worth .ensures) ∙ c .before .if1 .taken) in
     (omega (arith, a .pre .0, a .pre .1 .1), (a .pre .1 .0, omega (arith, a .pre .1 .1), rw (c .union .ensures) few))
 
@@ -151,7 +150,7 @@ term-step-returns : (t : ℕ) → term-step-lts.Need-returns (term-step-claims t
 term-step-returns t c =
     let at-worth = c .before .before .before .before in
     let head = at-worth .before .before .before in
-    let a = head .before .before .before .before .before .before .before in
+    let a = head .before .before .before .before .before .before in
     trying-stop _ _ _ _ _ _ _ _ _ (head .loop .k) _ _ (head .loop .inv) (at-worth .before .before .loop-test .taken) (a .pre .1 .2) _
     (sym (at-worth .worth .ensures) ∙ c .before .before .before .if1 .taken) (rw (c .before .before .union .ensures) at (c .before .predicate-step .ensures))
     (c .if2 .taken)
@@ -160,7 +159,7 @@ term-step-loop-again : (t : ℕ) → term-step-lts.Need-loop-again (term-step-cl
 term-step-loop-again t c =
     let at-worth = c .before in
     let head = at-worth .before .before .before in
-    let a = head .before .before .before .before .before .before .before in
+    let a = head .before .before .before .before .before .before in
     let h = at-worth .before .before .loop-test .taken in
     let test = sym (at-worth .worth .ensures) in
     ⊎-elim
