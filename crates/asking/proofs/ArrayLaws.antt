@@ -162,9 +162,6 @@ module _ (k : Store) (n rows : ℕ) (table : Rows) (order : List ℕ) (loaded : 
   order-rows =
       record {
         listed-long = complete .ordered;
-        counted = λ j h. omega (arith, complete .placed j h, loaded .counted);
-        few = λ j h. loaded .few (getD order j 0) (complete .placed j h) .1;
-        long = λ j h. omega (arith, complete .placed j h, loaded .few (getD order j 0) (complete .placed j h) .1, loaded .long);
         parted = λ j h. loaded .parted (getD order j 0) (complete .placed j h);
       }
 
@@ -178,14 +175,14 @@ module _ (k : Store) (n rows : ℕ) (table : Rows) (order : List ℕ) (loaded : 
         let w = complete .present i l in
         let at : getD (tab rows (λ j. terms (getD order j 0))) (w .0) [] ≡ terms i =
         getD-tab rows (w .0) (λ j. terms (getD order j 0)) [] (w .1) ∙ ap terms (sym (w .2)) in
-        rw (sym (loaded .terms-are i l))
+        rw (sym (loaded .means i l u))
         (rw at at (all-out (holds u) (tab rows (λ j. terms (getD order j 0))) h _ (at-in (tab rows (λ j. terms (getD order j 0))) [] (w .0) (rw length-tab (w .1))))))
 
     pub everything-order : T (all (holds u) (everything k)) → T (all (holds u) (preds rows order table))
     unfolding preds predAt
     everything-order h =
         all-tab (holds u) rows (λ j. terms (getD order j 0)) (λ j l.
-        rw (loaded .terms-are (getD order j 0) (complete .placed j l)) (everything-each k rows rows-count u h (getD order j 0) (complete .placed j l)))
+        rw (loaded .means (getD order j 0) (complete .placed j l) u) (everything-each k rows rows-count u h (getD order j 0) (complete .placed j l)))
 
     -- ---- an instant: x for the arrays of ends, y for the store
 
@@ -194,7 +191,7 @@ module _ (k : Store) (n rows : ℕ) (table : Rows) (order : List ℕ) (loaded : 
       unfolding needs
       needs-needed h =
           each-needed k rows rows-count u y (λ i l o.
-          rw (sym (loaded .terms-are i l))
+          rw (sym (loaded .means i l u))
           (all-out (holds u) (map terms (keep (outside lefts rights x) (take rows order))) h (terms i)
           (map-in terms (keep (outside lefts rights x) (take rows order)) i
           (keep-in (outside lefts rights x) (take rows order) i (take-in rows order (complete .ordered) (complete .present i l)) (rw (same i l) o)))))
@@ -207,7 +204,7 @@ module _ (k : Store) (n rows : ℕ) (table : Rows) (order : List ℕ) (loaded : 
           let v = keep-out (outside lefts rights x) (take rows order) (w .0) (w .1) in
           let z = in-take rows order (w .0) (v .0) in
           let l : w .0 < rows = rw (z .2) (complete .placed (z .0) (z .1)) in
-          rw (w .2, loaded .terms-are (w .0) l) (needed-each k rows rows-count u y h (w .0) l (rw (same (w .0) l) at (v .1))))
+          rw (w .2, loaded .means (w .0) l u) (needed-each k rows rows-count u y h (w .0) l (rw (same (w .0) l) at (v .1))))
 
 -- ---- the ends
 

@@ -269,9 +269,6 @@ module _ (s : List ℕ) (t : T (inForm s)) (n rows : ℕ) (table : Rows) (order 
             below = λ i h. omega (arith, low-is i h);
             empty = λ i h.
                 let j : i < rows = omega (arith, w .entries-le) in omega (arith, low-is i j, high-is i j, w .empty i h, ends-low i j);
-            counted = w .counted;
-            few = w .few;
-            long = w .long;
             ordered = w .ordered;
             placed = w .placed;
             present = w .present;

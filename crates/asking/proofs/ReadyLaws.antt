@@ -33,9 +33,6 @@ module _ {k : Store} {n rows : ℕ} {table : Rows} (loaded : Loaded k n rows tab
         rights-long = bounded .rights-long;
         below = below;
         empty = λ i h. hollow i (omega (arith, loaded .entries-are)) (bounded .left-is i (omega (arith, loaded .rows-are))) (bounded .right-is i (omega (arith, loaded .rows-are)));
-        counted = loaded .counted;
-        few = λ i h. loaded .few i h .1;
-        long = loaded .long;
         ordered = complete .ordered;
         placed = complete .placed;
         present = complete .present;

@@ -126,13 +126,12 @@ fn between(
     counts: &[u32],
     masks: &[u32],
     several: &[u32],
-    rests: &[u32],
     singles: &[u32],
     order: &[u32],
     limit: u32,
 ) -> Answer
     requires { ⌜ (stateSize ≤ length (now s)) × T (inForm (now s)) × (n ≤ entriesMost) × (rows ≤ n + dataMost) ⌝ }
-    requires { ⌜ (let t : Rows = rowsOf (now counts) (now masks) (now several) (now rests) (now singles) in
+    requires { ⌜ (let t : Rows = rowsOf (now counts) (now masks) (now several) (now singles) in
         Loaded (storeOf (now s)) n rows t × Complete rows (now order)) ⌝ }
     requires { ⌜ (Explained limit (stateOf (now s)) (everything (storeOf (now s))) → ⊥) ⌝ }
     ensures { λ r. ⌜ r ≡ answer limit (stateOf (now (s .entry))) ⌝ }
@@ -148,7 +147,6 @@ fn between(
         counts,
         masks,
         several,
-        rests,
         singles,
         order,
         &mut listed,
@@ -169,7 +167,6 @@ fn between(
         counts,
         masks,
         several,
-        rests,
         singles,
         order,
         &mut listed,
@@ -190,22 +187,20 @@ fn ask_in(
     counts: &mut [u32],
     masks: &mut [u32],
     several: &mut [u32],
-    rests: &mut [u32],
     singles: &mut [u32],
     order: &mut [u32],
 ) -> Answer
     requires { ⌜ (stateSize ≤ length (now s)) × T (inForm (now s)) × (n ≡ entryCount (now s)) × (rows ≡ n + heldCount (now s)) ⌝ }
-    requires { ⌜ Room rows (rowsOf (now counts) (now masks) (now several) (now rests) (now singles)) × (rows ≤ length (now order)) ⌝ }
+    requires { ⌜ Room rows (rowsOf (now counts) (now masks) (now several) (now singles)) × (rows ≤ length (now order)) ⌝ }
     ensures { λ r. ⌜ r ≡ answer limit (stateOf (now (s .entry))) ⌝ }
 {
-    claims::load(s, n, rows, counts, masks, several, rests, singles, order);
+    claims::load(s, n, rows, counts, masks, several, singles, order);
     let free = names::others(numbers::get32(s, state::OWN_AT));
     let set = search::search::predicate_step(
         order,
         counts,
         masks,
         several,
-        rests,
         singles,
         rows,
         limit,
@@ -218,18 +213,7 @@ fn ask_in(
     if set < names::NO_SET {
         return Answer::Open;
     }
-    between(
-        s,
-        n,
-        rows,
-        counts,
-        masks,
-        several,
-        rests,
-        singles,
-        order,
-        limit,
-    )
+    between(s, n, rows, counts, masks, several, singles, order, limit)
 }
 
 // The same where the rows are few, as they mostly are: clearing arrays for all rows would take longer than the rest.
@@ -241,7 +225,6 @@ fn ask_few(s: &[u8], limit: u32, n: usize, rows: usize) -> Answer
     let mut counts = [0u32; FEW_ROWS];
     let mut masks = [0u32; FEW_MASKS];
     let mut several = [0u32; FEW_ROWS];
-    let mut rests = [0u32; FEW_MASKS];
     let mut singles = [0u32; FEW_ROWS];
     let mut order = [0u32; FEW_ROWS];
     ask_in(
@@ -252,7 +235,6 @@ fn ask_few(s: &[u8], limit: u32, n: usize, rows: usize) -> Answer
         &mut counts,
         &mut masks,
         &mut several,
-        &mut rests,
         &mut singles,
         &mut order,
     )
@@ -266,7 +248,6 @@ fn ask_many(s: &[u8], limit: u32, n: usize, rows: usize) -> Answer
     let mut counts = [0u32; search::ROWS_MOST];
     let mut masks = [0u32; search::MASKS_MOST];
     let mut several = [0u32; search::ROWS_MOST];
-    let mut rests = [0u32; search::MASKS_MOST];
     let mut singles = [0u32; search::ROWS_MOST];
     let mut order = [0u32; search::ROWS_MOST];
     ask_in(
@@ -277,7 +258,6 @@ fn ask_many(s: &[u8], limit: u32, n: usize, rows: usize) -> Answer
         &mut counts,
         &mut masks,
         &mut several,
-        &mut rests,
         &mut singles,
         &mut order,
     )

@@ -36,7 +36,6 @@ fn fewest_from(s: &[u8], from: u32) -> Fewest
     let mut counts = [0u32; search::ROWS_MOST];
     let mut masks = [0u32; search::MASKS_MOST];
     let mut several = [0u32; search::ROWS_MOST];
-    let mut rests = [0u32; search::MASKS_MOST];
     let mut singles = [0u32; search::ROWS_MOST];
     let mut order = [0u32; search::ROWS_MOST];
     claims::load(
@@ -46,7 +45,6 @@ fn fewest_from(s: &[u8], from: u32) -> Fewest
         &mut counts,
         &mut masks,
         &mut several,
-        &mut rests,
         &mut singles,
         &mut order,
     );
@@ -63,7 +61,6 @@ fn fewest_from(s: &[u8], from: u32) -> Fewest
             &counts,
             &masks,
             &several,
-            &rests,
             &singles,
             &order,
             &mut listed,

@@ -12,9 +12,8 @@ use borrow.Author.Tests.{le-leb}
 use lib.Dec.{T, not-T, leb, leb→le, le→leb, ltb, ltb→lt, eqb, eqb→eq}
 use lib.Count.{ones}
 use lib.ListN.{length, getD, take, drop}
-use lib.Seq.{take-suc, take-all, getD-take, length-take-le}
+use lib.Seq.{take-suc, take-all}
 use Rattle.numbers.specs.Numbers.{num}
-use Rattle.numbers.proofs.NumberLaws.{getD-tab, length-tab}
 use Rattle.names.specs.Sets.{subset, union}
 use Rattle.names.specs.code.Parts.{shared}
 use Rattle.names.proofs.SetLaws.{test-ext, subset-empty}
@@ -26,13 +25,13 @@ use Rattle.predicates.proofs.ListLaws.{both-l, both-r, T-false}
 use Rattle.predicates.proofs.LoopLaws.{degree-next, degree-done}
 use Rattle.predicates.proofs.IndexLaws.{below-out}
 use Rattle.state.specs.Model.{Store}
-use Rattle.state.specs.Layout.{masksAt, rowAt, storeOf, entryCount, heldCount, entriesMost, dataMost}
+use Rattle.state.specs.Layout.{rowAt, storeOf, entryCount, heldCount, entriesMost, dataMost}
 use Rattle.state.specs.Form.{inForm}
 use Rattle.state.proofs.StateLaws.{held-count-le, entry-count-le}
 use Rattle.search.specs.code.Search.{rowWidth, isSingle}
 use Rattle.claims.specs.code.Tables.{claimAt, claimPlace}
 use Rattle.claims.specs.code.Degrees.{degreeWithin, deciding}
-use Rattle.claims.proofs.TableLaws.{Read, claim-read}
+use Rattle.claims.proofs.TableLaws.{length-row, row-term, Read, claim-read}
 use Rattle.claims.proofs.PartingLaws.{singles-last}
 
 -- ---- a row in the state's bytes
@@ -41,20 +40,11 @@ module _ (at : ℕ) (s : List ℕ) (few : num at 4 s ≤ rowWidth) where
   abbrev row : List ℕ
   row = rowAt rowWidth at s
 
-  pub length-row : length row ≡ num at 4 s
-  unfolding rowAt masksAt
-  length-row = length-take-le (num at 4 s) (masksAt rowWidth at s) (omega (arith, length-tab rowWidth (λ j. num (at + 4 + j * 4) 4 s)))
-
-  row-term : (i : ℕ) → i < num at 4 s → getD row i 0 ≡ num (at + 4 + i * 4) 4 s
-  unfolding rowAt masksAt
-  row-term i h =
-      getD-take (num at 4 s) (masksAt rowWidth at s) i 0 h ∙ getD-tab rowWidth i (λ j. num (at + 4 + j * 4) 4 s) 0 (omega arith)
-
   -- ---- its degree
 
   module _ (i most : ℕ) (h : i < num at 4 s) (t : ℕ) (e : t ≡ num (at + 4 + i * 4) 4 s) where
     smallest : degree (drop i row) ≡ min (ones t) (degree (drop (i + 1) row))
-    smallest = degree-next row i (omega (arith, length-row)) ∙ rw (row-term i h, e)
+    smallest = degree-next row i (omega (arith, length-row at s few)) ∙ rw (row-term at s few i h, e)
 
     pub degree-here : (n : ℕ) → n ≡ ones t → n ≤ most → leb (degree (drop i row)) most ≡ true
     degree-here n k l = le-leb (degree (drop i row)) most (omega (arith, smallest))
@@ -66,15 +56,15 @@ module _ (at : ℕ) (s : List ℕ) (few : num at 4 s ≤ rowWidth) where
         (λ d. let f = leb→le (degree (drop (i + 1) row)) most d in le→leb (degree (drop i row)) most (omega (arith, smallest)))
 
   pub degree-end : (i most : ℕ) → num at 4 s ≤ i → leb (degree (drop i row)) most ≡ leb 30 most
-  degree-end i most h = ap (λ (d : ℕ). leb d most) (degree-done row i (omega (arith, length-row)))
+  degree-end i most h = ap (λ (d : ℕ). leb d most) (degree-done row i (omega (arith, length-row at s few)))
 
   -- ---- the names that are terms of it
 
   module _ (i : ℕ) (h : i < num at 4 s) (names t : ℕ) (w : names ≡ singles (take i row)) (e : t ≡ num (at + 4 + i * 4) 4 s) where
     longer : singles (take (i + 1) row) ≡ singles (take i row ++ (t ∷ []))
     longer =
-        let term : t ≡ getD row i 0 = e ∙ sym (row-term i h) in
-        let inside : i < length row = omega (arith, length-row) in
+        let term : t ≡ getD row i 0 = e ∙ sym (row-term at s few i h) in
+        let inside : i < length row = omega (arith, length-row at s few) in
         ap singles (rw term (rw add-one (take-suc row i 0 inside)))
 
     pub single-more : isSingle t ≡ true → union names t ≡ singles (take (i + 1) row)
@@ -84,7 +74,7 @@ module _ (at : ℕ) (s : List ℕ) (few : num at 4 s ≤ rowWidth) where
     single-other k = sym (longer ∙ singles-last (take i row) t ∙ rw (k, w))
 
   pub singles-end : (i names : ℕ) → num at 4 s ≤ i → names ≡ singles (take i row) → names ≡ singles row
-  singles-end i names h w = w ∙ ap singles (take-all i row (omega (arith, length-row)))
+  singles-end i names h w = w ∙ ap singles (take-all i row (omega (arith, length-row at s few)))
 
 -- ---- the claims one after the other
 

@@ -19,10 +19,10 @@ use Rattle.numbers.proofs.NumberLaws.{put-then, put-front, tab-ext}
 use Rattle.predicates.specs.Lists.{keep}
 use Rattle.predicates.specs.Predicates.{holds}
 use Rattle.predicates.proofs.ListLaws.{both, both-l, both-r, true-T, split, keep-out}
-use Rattle.search.specs.code.Search.{Rows, rowWidth, Best, RowsFit, rowTerms, predAt, preds}
-use Rattle.search.specs.code.LeftEnds.{outside, noEnd, Next, Last, Latest, Ready, needs, Trying}
+use Rattle.search.specs.code.Search.{Rows, rowWidth, Best, Trying, RowsFit, rowTerms, predAt, preds}
+use Rattle.search.specs.code.LeftEnds.{outside, noEnd, Next, Last, Latest, Ready, needs}
 use Rattle.search.proofs.SearchLaws.{best-done}
-use Rattle.search.proofs.SearchSteps.{rest-next, pred-part, term-none, term-skip, term-stop, term-on}
+use Rattle.search.proofs.SearchSteps.{rest-next, pred-part, trying-on}
 use Rattle.predicates.proofs.IndexLaws.{at-in, getD-map, kept-pass, kept-take, in-take}
 
 -- ---- the next end
@@ -202,9 +202,6 @@ module _ (n rows : ℕ) (lefts rights : List ℕ) (table : Rows) (order l₀ l :
   kept-rows =
       record {
         listed-long = omega (arith, ap length front, length-append kept (drop m l₀), count);
-        counted = λ j h. omega (arith, kept-row j h, ready .counted);
-        few = λ j h. ready .few (getD l j 0) (kept-row j h);
-        long = λ j h. omega (arith, kept-row j h, ready .few (getD l j 0) (kept-row j h), ready .long);
         parted = λ j h. ready .parted (getD l j 0) (kept-row j h);
       }
 
@@ -234,35 +231,22 @@ module _ (limit free : ℕ) (whole : List (List ℕ)) where
   -- the first of the listed rows has them
   pub trying-begin : (m : ℕ) (l : List ℕ) (table : Rows) (at end : ℕ) → 0 < m → preds m l table ≡ whole → at ≡ getD l 0 0 * rowWidth
       → end ≡ getD l 0 0 * rowWidth + getD (table .counts) (getD l 0 0) 0
-      → Trying limit free whole (table .masks) (drop 1 (preds m l table)) end at free
+      → Trying noSet limit 0 free whole noSet (table .masks) (drop 1 (preds m l table)) end at free noSet
   trying-begin m l table at end h e p q r b =
       subst (λ (ps : List (List ℕ)). Best noSet limit 0 free ps noSet r) (sym (rest-next m l table 0 h) ∙ e)
       (subst (λ (ts : List ℕ). Best noSet limit 0 free (ts ∷ drop 1 (preds m l table)) noSet r) (pred-part l table 0 at end p q) b)
 
-  module _ (masks : List ℕ) (ps : List (List ℕ)) (end at free′ : ℕ) (w : Trying limit free whole masks ps end at free′) where
-    pub trying-none : end ≤ at → Best noSet limit 0 free whole noSet noSet
-    trying-none h = w noSet (term-none noSet limit 0 free′ noSet masks at end ps h)
-
-    module _ (h : at < end) (k : end ≤ length masks) where
-      abbrev t : ℕ
-      t = getD masks at 0
-
-      abbrev worth : Bool
-      worth = subset t (union 0 free′) && (ltb (union 0 t) noSet && leb (ones (union 0 t)) limit)
-
-      pub trying-skip : worth ≡ false → Trying limit free whole masks ps end (at + 1) free′
-      trying-skip e r b = w r (term-skip noSet limit 0 free′ noSet masks at end ps h k r e b)
-
-      module _ (found : ℕ) (e : worth ≡ true) (b : Best noSet limit (union 0 t) free′ ps noSet found) where
-        pub trying-stop : found < noSet → Best noSet limit 0 free whole noSet found
-        trying-stop l = w found (term-stop noSet limit 0 free′ noSet masks at end ps h k found e b l)
-
-        pub trying-on : (rest : ℕ) → noSet ≤ found → rest ≡ cond (eqb (ones (union 0 t)) (ones 0 + 1)) (minus free′ t) free′
-            → Trying limit free whole masks ps end (at + 1) rest
-        trying-on rest l q r d =
-            let same : noSet ≡ found = omega (arith, b .low) in
-            w r (term-on noSet limit 0 free′ noSet masks at end ps h k found e b rest r l q
-            (subst (λ (x : ℕ). Best noSet limit 0 rest (take (end - (at + 1)) (drop (at + 1) masks) ∷ ps) x r) same d))
+  -- no set came of a term: the next one begins as it did
+  pub trying-next : (masks : List ℕ) (ps : List (List ℕ)) (end at free′ : ℕ) → Trying noSet limit 0 free whole noSet masks ps end at free′ noSet
+      → at < end → end ≤ length masks → (set : ℕ)
+      → subset (getD masks at 0) (union 0 free′) && (ltb (union 0 (getD masks at 0)) noSet && leb (ones (union 0 (getD masks at 0))) limit) ≡ true
+      → Best noSet limit (union 0 (getD masks at 0)) free′ ps noSet set → (rest : ℕ) → noSet ≤ set
+      → rest ≡ cond (eqb (ones (union 0 (getD masks at 0))) (ones 0 + 1)) (minus free′ (getD masks at 0)) free′
+      → Trying noSet limit 0 free whole noSet masks ps end (at + 1) rest noSet
+  trying-next masks ps end at free′ w h k set e b rest l q =
+      let same : set ≡ noSet = omega (arith, b .low) in
+      subst (λ (x : ℕ). Trying noSet limit 0 free whole noSet masks ps end (at + 1) rest x) same
+      (trying-on noSet limit 0 free whole noSet masks ps end at free′ noSet w h k set e b rest l q)
 
 -- no row lacks the instant: no name need have failed
 pub none-needed : (limit free : ℕ) (whole : List (List ℕ)) (m : ℕ) (l : List ℕ) (table : Rows) → m ≡ 0 → preds m l table ≡ whole

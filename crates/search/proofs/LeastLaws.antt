@@ -152,8 +152,5 @@ pub ready-rows : {n rows : ℕ} {lefts rights : List ℕ} {table : Rows} {order 
 ready-rows {order = order} ready =
     record {
       listed-long = ready .ordered;
-      counted = λ j h. omega (arith, ready .placed j h, ready .counted);
-      few = λ j h. ready .few (getD order j 0) (ready .placed j h);
-      long = λ j h. omega (arith, ready .placed j h, ready .few (getD order j 0) (ready .placed j h), ready .long);
       parted = λ j h. ready .parted (getD order j 0) (ready .placed j h);
     }

@@ -9,11 +9,13 @@ use mathlib.Core.List.{List, [], _∷_}
 use native.Mathlib.Omega.{arith}
 use borrow.Author.Tests.{le-leb, eq-eqb}
 use lib.Dec.{T, T-not, eqb→eq, leb, leb→le, le→leb}
+use lib.Bits.{or-zero-r}
 use lib.Count.{ones}
-use lib.ListN.{getD, take, drop}
+use lib.ListN.{getD, take, drop, length-drop}
+use lib.Seq.{length-take-le, take-add, drop-drop, drop-at}
 use Rattle.names.specs.Sets.{subset, union}
 use Rattle.names.specs.code.Parts.{shared}
-use Rattle.names.proofs.SetLaws.{test-ext, digit-lt, digit-empty, digit-union, digits-ext, subset-empty, subset-out, subset-trans, union-left, union-right, union-left-comm, ones-empty, ones-none, ones-union}
+use Rattle.names.proofs.SetLaws.{test-ext, digit-union, digits-ext, subset-empty, subset-out, subset-trans, union-left, union-right, union-left-comm, ones-empty, ones-none, ones-union}
 use Rattle.names.proofs.PartLaws.{shared-greatest}
 use Rattle.predicates.specs.Lists.{In, keep}
 use Rattle.predicates.specs.Predicates.{holds}
@@ -45,6 +47,10 @@ one-not-empty : (c : ℕ) → ones c ≡ 1 → c ≡ 0 → ⊥
 one-not-empty c e z = absurd (omega (arith, e, ap ones z, ones-empty))
 
 -- ---- the mask
+
+pub union-none : (s : ℕ) → union s 0 ≡ s
+unfolding union
+union-none s = or-zero-r s
 
 pub singles-in : (p : List ℕ) (t : ℕ) → In t p → T (isSingle t) → T (subset t (singles p))
 unfolding singles
@@ -135,7 +141,7 @@ module _ (limit s : ℕ) where
 
     pub gather-parted : (p : List ℕ) → alone limit s p ≡ gather (union s (singles p)) limit s (several p)
     unfolding gather singles several
-    gather-parted [] = sym (digits-ext (union s 0) s (λ n. omega (arith, digit-union s 0 n, digit-empty n, digit-lt s n)))
+    gather-parted [] = sym (union-none s)
     gather-parted (t ∷ p) = parted-next t p (gather-parted p)
 
 -- ---- a row of the table
@@ -147,24 +153,45 @@ module _ (table : Rows) (k s : ℕ) (w : Parted table k) where
   pub row-hit : (x : ℕ) → x ≡ shared s (getD (table .singles) k 0) → 0 < x → holds s row ≡ true
   row-hit x e h = holds-hit row s (omega (arith, e, ap (λ (m : ℕ). shared s m) (w .one)))
 
-  module _ (x : ℕ) (e : x ≡ shared s (getD (table .singles) k 0)) (h : x ≤ 0) (end : ℕ) (b : end ≡ k * rowWidth + getD (table .several) k 0) where
+  module _ (x : ℕ) (e : x ≡ shared s (getD (table .singles) k 0)) (h : x ≤ 0) (at end : ℕ)
+      (a : at ≡ k * rowWidth + getD (table .counts) k 0 - getD (table .several) k 0) (b : end ≡ k * rowWidth + getD (table .counts) k 0) where
     missed : shared s (singles row) ≡ 0
     missed = omega (arith, e, ap (λ (m : ℕ). shared s m) (w .one))
 
-    part : take (end - k * rowWidth) (drop (k * rowWidth) (table .rests)) ≡ several row
-    part = let width : end - k * rowWidth ≡ getD (table .several) k 0 = omega arith in ap (λ (n : ℕ). take n (drop (k * rowWidth) (table .rests))) width ∙ w .more
+    part : take (end - at) (drop at (table .masks)) ≡ several row
+    part =
+        let few = w .fewer in
+        let width : end - at ≡ rests = omega arith in
+        let place : at ≡ k * rowWidth + before = omega arith in
+        ap (λ (n : ℕ). take n (drop at (table .masks))) width ∙ ap (λ (n : ℕ). take rests (drop n (table .masks))) place
+        ∙ ap (take rests) (sym (drop-drop before (k * rowWidth) (table .masks))) ∙ sym last ∙ w .more
+      where
+        rests : ℕ
+        rests = getD (table .several) k 0
 
-    pub row-miss : holds s (take (end - k * rowWidth) (drop (k * rowWidth) (table .rests))) ≡ holds s row
+        before : ℕ
+        before = getD (table .counts) k 0 - rests
+
+        here : List ℕ
+        here = drop (k * rowWidth) (table .masks)
+
+        last : drop before row ≡ take rests (drop before here)
+        last =
+            let whole : getD (table .counts) k 0 ≡ before + rests = omega (arith, w .fewer) in
+            ap (λ (n : ℕ). drop before (take n here)) whole ∙ ap (drop before) (take-add before rests here)
+            ∙ drop-at (take before here) (take rests (drop before here)) before
+            (length-take-le before here (omega (arith, w .long, w .fewer, length-drop (k * rowWidth) (table .masks))))
+
+    pub row-miss : holds s (take (end - at) (drop at (table .masks))) ≡ holds s row
     row-miss = ap (holds s) part ∙ sym (holds-miss row s missed)
 
-    row-gather : gather (union s (getD (table .singles) k 0)) (ones s + 1) s (take (end - k * rowWidth) (drop (k * rowWidth) (table .rests)))
-        ≡ alone (ones s + 1) s row
+    row-gather : gather (union s (getD (table .singles) k 0)) (ones s + 1) s (take (end - at) (drop at (table .masks))) ≡ alone (ones s + 1) s row
     row-gather =
-        ap (λ (m : ℕ). gather (union s m) (ones s + 1) s (take (end - k * rowWidth) (drop (k * rowWidth) (table .rests)))) (w .one)
+        ap (λ (m : ℕ). gather (union s m) (ones s + 1) s (take (end - at) (drop at (table .masks)))) (w .one)
         ∙ ap (gather (union s (singles row)) (ones s + 1) s) part ∙ sym (gather-parted (ones s + 1) s refl row)
 
     pub row-narrow : (names r : ℕ)
-        → r ≡ cond (holds s (take (end - k * rowWidth) (drop (k * rowWidth) (table .rests)))) names
-        (shared names (gather (union s (getD (table .singles) k 0)) (ones s + 1) s (take (end - k * rowWidth) (drop (k * rowWidth) (table .rests)))))
+        → r ≡ cond (holds s (take (end - at) (drop at (table .masks)))) names
+        (shared names (gather (union s (getD (table .singles) k 0)) (ones s + 1) s (take (end - at) (drop at (table .masks)))))
         → r ≡ cond (holds s row) names (shared names (alone (ones s + 1) s row))
     row-narrow names r e = rw (row-miss, row-gather) at e

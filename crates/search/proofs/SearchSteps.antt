@@ -25,7 +25,7 @@ use Rattle.predicates.proofs.ListLaws.{both, both-l, both-r, true-T, T-true, T-
 use Rattle.predicates.specs.Lists.{all, In}
 use Rattle.predicates.proofs.PredicateLaws.{holds-in}
 use Rattle.predicates.proofs.LoopLaws.{drop-next}
-use Rattle.search.specs.code.Search.{Rows, rowWidth, Fits, Best, skipped, gather, alone, narrowed, rowTerms, predAt, preds}
+use Rattle.search.specs.code.Search.{Rows, rowWidth, Fits, Best, Trying, skipped, gather, alone, narrowed, rowTerms, predAt, preds}
 use Rattle.search.proofs.LastLaws.{alone-above, narrowed-stop, narrowed-above, one-all, one-none, last-found, last-none}
 use Rattle.search.proofs.SearchLaws.{terms-none, skipped-some, skipped-none, best-skipped, best-done, best-full, terms-skip, terms-stop, terms-on, terms-bar}
 
@@ -136,7 +136,7 @@ module _ (n : ℕ) (listed : List ℕ) (table : Rows) (s i k : ℕ) (e : rest n 
 -- ---- the term step
 
 module _ (enough limit s free best : ℕ) (masks : List ℕ) (at end : ℕ) (ps : List (List ℕ)) where
-  pub term-none : end ≤ at → Best enough limit s free (take (end - at) (drop at masks) ∷ ps) best best
+  term-none : end ≤ at → Best enough limit s free (take (end - at) (drop at masks) ∷ ps) best best
   term-none h =
       let width : end - at ≡ 0 = omega arith in
       let none : take (end - at) (drop at masks) ≡ [] = ap (λ (w : ℕ). take w (drop at masks)) width in
@@ -159,7 +159,7 @@ module _ (enough limit s free best : ℕ) (masks : List ℕ) (at end : ℕ) (ps 
     back r b = subst (λ (us : List ℕ). Best enough limit s free (us ∷ ps) best r) (sym first) b
 
     -- the term is not worth a try
-    pub term-skip : (r : ℕ) → subset t (union s free) && (ltb (union s t) best && leb (ones (union s t)) limit) ≡ false
+    term-skip : (r : ℕ) → subset t (union s free) && (ltb (union s t) best && leb (ones (union s t)) limit) ≡ false
         → Best enough limit s free (ts ∷ ps) best r → Best enough limit s free (take (end - at) (drop at masks) ∷ ps) best r
     term-skip r e b =
         back r (terms-skip enough limit s free ps t ts best r (λ u f m. high u f m (split (ltb (union s t) best))) b)
@@ -179,10 +179,10 @@ module _ (enough limit s free best : ℕ) (masks : List ℕ) (at end : ℕ) (ps 
       room : T (subset t (union s free))
       room = both-l (subset t (union s free)) (ltb (union s t) best && leb (ones (union s t)) limit) (true-T _ w)
 
-      pub term-stop : found < enough → Best enough limit s free (take (end - at) (drop at masks) ∷ ps) best found
+      term-stop : found < enough → Best enough limit s free (take (end - at) (drop at masks) ∷ ps) best found
       term-stop l = back found (terms-stop enough limit s free ps t ts best found room b l)
 
-      pub term-on : (free′ r : ℕ) → enough ≤ found → free′ ≡ cond (eqb (ones (union s t)) (ones s + 1)) (minus free t) free
+      term-on : (free′ r : ℕ) → enough ≤ found → free′ ≡ cond (eqb (ones (union s t)) (ones s + 1)) (minus free t) free
           → Best enough limit s free′ (ts ∷ ps) found r → Best enough limit s free (take (end - at) (drop at masks) ∷ ps) best r
       term-on free′ r l e c =
           cond-ind (λ x. Best enough limit s x (ts ∷ ps) found r → Best enough limit s free (take (end - at) (drop at masks) ∷ ps) best r)
@@ -190,6 +190,31 @@ module _ (enough limit s free best : ℕ) (masks : List ℕ) (at end : ℕ) (ps 
           (λ o d. back r (terms-bar enough limit s free ps t ts best found room b r l (eqb→eq (ones (union s t)) (ones s + 1) o) d))
           (λ _ d. back r (terms-on enough limit s free ps t ts best found room b r l d))
           (subst (λ (x : ℕ). Best enough limit s x (ts ∷ ps) found r) e c)
+
+-- ---- one term after the other
+
+module _ (enough limit s free : ℕ) (whole : List (List ℕ)) (best : ℕ) (masks : List ℕ) (ps : List (List ℕ)) (end at free′ found : ℕ)
+    (w : Trying enough limit s free whole best masks ps end at free′ found) where
+  pub trying-none : end ≤ at → Best enough limit s free whole best found
+  trying-none h = w found (term-none enough limit s free′ found masks at end ps h)
+
+  module _ (h : at < end) (k : end ≤ length masks) where
+    abbrev here : ℕ
+    here = getD masks at 0
+
+    abbrev worthwhile : Bool
+    worthwhile = subset here (union s free′) && (ltb (union s here) found && leb (ones (union s here)) limit)
+
+    pub trying-skip : worthwhile ≡ false → Trying enough limit s free whole best masks ps end (at + 1) free′ found
+    trying-skip e r b = w r (term-skip enough limit s free′ found masks at end ps h k r e b)
+
+    module _ (next : ℕ) (e : worthwhile ≡ true) (b : Best enough limit (union s here) free′ ps found next) where
+      pub trying-stop : next < enough → Best enough limit s free whole best next
+      trying-stop l = w next (term-stop enough limit s free′ found masks at end ps h k next e b l)
+
+      pub trying-on : (rest : ℕ) → enough ≤ next → rest ≡ cond (eqb (ones (union s here)) (ones s + 1)) (minus free′ here) free′
+          → Trying enough limit s free whole best masks ps end (at + 1) rest next
+      trying-on rest l q r d = w r (term-on enough limit s free′ found masks at end ps h k next e b rest r l q d)
 
 -- ---- whether a term is worth a try, and what is free then
 

@@ -124,7 +124,6 @@ fn first_stretch(
     counts: &[u32],
     masks: &[u32],
     several: &[u32],
-    rests: &[u32],
     singles: &[u32],
     order: &[u32],
     listed: &mut [u32],
@@ -133,10 +132,9 @@ fn first_stretch(
     limit: u32,
     free: u32,
 ) -> Stretch
-    requires { ⌜ (let t : Rows = rowsOf (now counts) (now masks) (now several) (now rests) (now singles) in
+    requires { ⌜ (let t : Rows = rowsOf (now counts) (now masks) (now several) (now singles) in
         Ready n rows (now lefts) (now rights) t (now order) × (rows ≤ length (now listed)) × (free < noSet)) ⌝ }
-    ensures { λ r. ⌜ (let t : Rows = rowsOf (now (counts .entry)) (now (masks .entry)) (now (several .entry)) (now (rests .entry))
-        (now (singles .entry)) in
+    ensures { λ r. ⌜ (let t : Rows = rowsOf (now (counts .entry)) (now (masks .entry)) (now (several .entry)) (now (singles .entry)) in
         FirstStretch n rows (now (lefts .entry)) (now (rights .entry)) t (now (order .entry)) limit free (r .from) (r .end) (r .set)) ⌝ }
     ensures { λ _. ⌜ length (now (listed .exit)) ≡ length (now (listed .entry)) ⌝ }
 {
@@ -171,7 +169,6 @@ fn first_stretch(
                     counts,
                     masks,
                     several,
-                    rests,
                     singles,
                     m,
                     limit,
@@ -199,16 +196,14 @@ fn latest(
     counts: &[u32],
     masks: &[u32],
     several: &[u32],
-    rests: &[u32],
     singles: &[u32],
     n: usize,
     rows: usize,
     set: u32,
 ) -> u64
-    requires { ⌜ (let t : Rows = rowsOf (now counts) (now masks) (now several) (now rests) (now singles) in
+    requires { ⌜ (let t : Rows = rowsOf (now counts) (now masks) (now several) (now singles) in
         (n ≤ rows) × (rows ≤ length (now lefts)) × ((k : ℕ) → k < rows → Parted t k)) ⌝ }
-    ensures { λ r. ⌜ (let t : Rows = rowsOf (now (counts .entry)) (now (masks .entry)) (now (several .entry)) (now (rests .entry))
-        (now (singles .entry)) in
+    ensures { λ r. ⌜ (let t : Rows = rowsOf (now (counts .entry)) (now (masks .entry)) (now (several .entry)) (now (singles .entry)) in
         Latest n rows (now (lefts .entry)) t set r) ⌝ }
 {
     let mut last: u64 = 0;
@@ -216,7 +211,7 @@ fn latest(
     while i < rows {
         let end = lefts[i];
         if last < end {
-            if !super::search::row_holds(counts, masks, several, rests, singles, i, set) {
+            if !super::search::row_holds(counts, masks, several, singles, i, set) {
                 last = end;
             }
         }
@@ -233,7 +228,6 @@ fn first_in_stretch(
     counts: &[u32],
     masks: &[u32],
     several: &[u32],
-    rests: &[u32],
     singles: &[u32],
     order: &[u32],
     listed: &mut [u32],
@@ -245,11 +239,10 @@ fn first_in_stretch(
     found: u64,
     by: u32,
 ) -> Reached
-    requires { ⌜ (let t : Rows = rowsOf (now counts) (now masks) (now several) (now rests) (now singles) in
+    requires { ⌜ (let t : Rows = rowsOf (now counts) (now masks) (now several) (now singles) in
         Ready n rows (now lefts) (now rights) t (now order) × (rows ≤ length (now listed)) × (free < noSet)
         × FirstStretch n rows (now lefts) (now rights) t (now order) limit free from found by × (by < noSet)) ⌝ }
-    ensures { λ r. ⌜ (let t : Rows = rowsOf (now (counts .entry)) (now (masks .entry)) (now (several .entry)) (now (rests .entry))
-        (now (singles .entry)) in
+    ensures { λ r. ⌜ (let t : Rows = rowsOf (now (counts .entry)) (now (masks .entry)) (now (several .entry)) (now (singles .entry)) in
         FirstEnd n rows (now (lefts .entry)) (now (rights .entry)) t (now (order .entry)) limit free (r .end) (r .set)) ⌝ }
     ensures { λ _. ⌜ length (now (listed .exit)) ≡ length (now (listed .entry)) ⌝ }
 {
@@ -258,7 +251,7 @@ fn first_in_stretch(
         lefts,
         n,
         rows,
-        latest(lefts, counts, masks, several, rests, singles, n, rows, set),
+        latest(lefts, counts, masks, several, singles, n, rows, set),
     );
     while from < end {
         let x = last_end(lefts, n, rows, from, end - 1);
@@ -268,7 +261,6 @@ fn first_in_stretch(
             counts,
             masks,
             several,
-            rests,
             singles,
             m,
             limit,
@@ -286,7 +278,7 @@ fn first_in_stretch(
             lefts,
             n,
             rows,
-            latest(lefts, counts, masks, several, rests, singles, n, rows, set),
+            latest(lefts, counts, masks, several, singles, n, rows, set),
         );
     }
     Reached { end, set }
@@ -299,7 +291,6 @@ pub fn first_end(
     counts: &[u32],
     masks: &[u32],
     several: &[u32],
-    rests: &[u32],
     singles: &[u32],
     order: &[u32],
     listed: &mut [u32],
@@ -308,10 +299,9 @@ pub fn first_end(
     limit: u32,
     free: u32,
 ) -> Reached
-    requires { ⌜ (let t : Rows = rowsOf (now counts) (now masks) (now several) (now rests) (now singles) in
+    requires { ⌜ (let t : Rows = rowsOf (now counts) (now masks) (now several) (now singles) in
         Ready n rows (now lefts) (now rights) t (now order) × (rows ≤ length (now listed)) × (free < noSet)) ⌝ }
-    ensures { λ r. ⌜ (let t : Rows = rowsOf (now (counts .entry)) (now (masks .entry)) (now (several .entry)) (now (rests .entry))
-        (now (singles .entry)) in
+    ensures { λ r. ⌜ (let t : Rows = rowsOf (now (counts .entry)) (now (masks .entry)) (now (several .entry)) (now (singles .entry)) in
         FirstEnd n rows (now (lefts .entry)) (now (rights .entry)) t (now (order .entry)) limit free (r .end) (r .set)) ⌝ }
     ensures { λ _. ⌜ length (now (listed .exit)) ≡ length (now (listed .entry)) ⌝ }
 {
@@ -321,7 +311,6 @@ pub fn first_end(
         counts,
         masks,
         several,
-        rests,
         singles,
         order,
         listed,
@@ -342,7 +331,6 @@ pub fn first_end(
         counts,
         masks,
         several,
-        rests,
         singles,
         order,
         listed,

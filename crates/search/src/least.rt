@@ -13,7 +13,6 @@ fn least_set(
     counts: &[u32],
     masks: &[u32],
     several: &[u32],
-    rests: &[u32],
     singles: &[u32],
     order: &[u32],
     listed: &mut [u32],
@@ -22,10 +21,9 @@ fn least_set(
     limit: u32,
     free: u32,
 ) -> u32
-    requires { ⌜ (let t : Rows = rowsOf (now counts) (now masks) (now several) (now rests) (now singles) in
+    requires { ⌜ (let t : Rows = rowsOf (now counts) (now masks) (now several) (now singles) in
         Ready n rows (now lefts) (now rights) t (now order) × (rows ≤ length (now listed))) ⌝ }
-    ensures { λ r. ⌜ (let t : Rows = rowsOf (now (counts .entry)) (now (masks .entry)) (now (several .entry)) (now (rests .entry))
-        (now (singles .entry)) in
+    ensures { λ r. ⌜ (let t : Rows = rowsOf (now (counts .entry)) (now (masks .entry)) (now (several .entry)) (now (singles .entry)) in
         LeastSet n rows (now (lefts .entry)) (now (rights .entry)) t (now (order .entry)) limit free r) ⌝ }
 {
     if n == rows {
@@ -34,7 +32,6 @@ fn least_set(
             counts,
             masks,
             several,
-            rests,
             singles,
             rows,
             limit,
@@ -59,7 +56,6 @@ fn least_set(
             counts,
             masks,
             several,
-            rests,
             singles,
             m,
             limit,
@@ -80,7 +76,6 @@ pub fn least_within(
     counts: &[u32],
     masks: &[u32],
     several: &[u32],
-    rests: &[u32],
     singles: &[u32],
     order: &[u32],
     listed: &mut [u32],
@@ -89,10 +84,9 @@ pub fn least_within(
     limit: u32,
     free: u32,
 ) -> u32
-    requires { ⌜ (let t : Rows = rowsOf (now counts) (now masks) (now several) (now rests) (now singles) in
+    requires { ⌜ (let t : Rows = rowsOf (now counts) (now masks) (now several) (now singles) in
         Ready n rows (now lefts) (now rights) t (now order) × (rows ≤ length (now listed))) ⌝ }
-    ensures { λ r. ⌜ (let t : Rows = rowsOf (now (counts .entry)) (now (masks .entry)) (now (several .entry)) (now (rests .entry))
-        (now (singles .entry)) in
+    ensures { λ r. ⌜ (let t : Rows = rowsOf (now (counts .entry)) (now (masks .entry)) (now (several .entry)) (now (singles .entry)) in
         LeastSet n rows (now (lefts .entry)) (now (rights .entry)) t (now (order .entry)) limit free r) ⌝ }
 {
     let known = super::ends::list_entries(order, rows, n, listed);
@@ -101,7 +95,6 @@ pub fn least_within(
         counts,
         masks,
         several,
-        rests,
         singles,
         known,
         limit,
@@ -120,7 +113,6 @@ pub fn least_within(
         counts,
         masks,
         several,
-        rests,
         singles,
         order,
         listed,

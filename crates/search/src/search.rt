@@ -42,28 +42,39 @@ pub fn terms_at(listed: &[u32], counts: &[u32], masks: &[u32], j: usize) -> Part
     Part { at, end }
 }
 
+// Where the terms of several names of the row stand: they are the last of its terms.
+fn rest_at(counts: &[u32], masks: &[u32], several: &[u32], row: usize) -> Part
+    requires { ⌜ (row < length (now counts)) × (row < length (now several)) × (getD (now several) row 0 ≤ getD (now counts) row 0)
+        × (row * rowWidth + getD (now counts) row 0 ≤ length (now masks)) ⌝ }
+    ensures { λ r. ⌜ (let end : ℕ = row * rowWidth + getD (now (counts .entry)) row 0 in
+        (r .at ≡ end - getD (now (several .entry)) row 0) × (r .end ≡ end)) ⌝ }
+{
+    let end = row * super::ROW_WIDTH + counts[row] as usize;
+    let at = end - several[row] as usize;
+    Part { at, end }
+}
+
 // Whether the set makes the predicate of the row true: it has a name that is a term, or one of the terms of several names.
 pub fn row_holds(
     counts: &[u32],
     masks: &[u32],
     several: &[u32],
-    rests: &[u32],
     singles: &[u32],
     row: usize,
     set: u32,
 ) -> bool
-    requires { ⌜ (let t : Rows = rowsOf (now counts) (now masks) (now several) (now rests) (now singles) in
+    requires { ⌜ (let t : Rows = rowsOf (now counts) (now masks) (now several) (now singles) in
         Parted t row) ⌝ }
-    ensures { λ r. ⌜ (let t : Rows = rowsOf (now (counts .entry)) (now (masks .entry)) (now (several .entry)) (now (rests .entry))
-        (now (singles .entry)) in
+    ensures { λ r. ⌜ (let t : Rows = rowsOf (now (counts .entry)) (now (masks .entry)) (now (several .entry)) (now (singles .entry)) in
         r ≡ Predicates·holds set (rowTerms t row)) ⌝ }
 {
     if 0 < names::shared(set, singles[row]) {
         return true;
     }
-    let at = row * super::ROW_WIDTH;
-    let end = at + several[row] as usize;
-    predicates::holds(&rests[at..end], set)
+    let part = rest_at(counts, masks, several, row);
+    let at = part.at;
+    let end = part.end;
+    predicates::holds(&masks[at..end], set)
 }
 
 // Whether the set makes the predicate at place j true.
@@ -72,26 +83,16 @@ fn holds_at(
     counts: &[u32],
     masks: &[u32],
     several: &[u32],
-    rests: &[u32],
     singles: &[u32],
     j: usize,
     set: u32,
 ) -> bool
-    requires { ⌜ (let t : Rows = rowsOf (now counts) (now masks) (now several) (now rests) (now singles) in
+    requires { ⌜ (let t : Rows = rowsOf (now counts) (now masks) (now several) (now singles) in
         (j < length (now listed)) × Parted t (getD (now listed) j 0)) ⌝ }
-    ensures { λ r. ⌜ (let t : Rows = rowsOf (now (counts .entry)) (now (masks .entry)) (now (several .entry)) (now (rests .entry))
-        (now (singles .entry)) in
+    ensures { λ r. ⌜ (let t : Rows = rowsOf (now (counts .entry)) (now (masks .entry)) (now (several .entry)) (now (singles .entry)) in
         r ≡ Predicates·holds set (predAt (now (listed .entry)) t j)) ⌝ }
 {
-    row_holds(
-        counts,
-        masks,
-        several,
-        rests,
-        singles,
-        listed[j] as usize,
-        set,
-    )
+    row_holds(counts, masks, several, singles, listed[j] as usize, set)
 }
 
 // The place of the next predicate from i on that the set leaves false, or n.
@@ -100,22 +101,20 @@ fn next_unexplained(
     counts: &[u32],
     masks: &[u32],
     several: &[u32],
-    rests: &[u32],
     singles: &[u32],
     n: usize,
     i: usize,
     set: u32,
 ) -> usize
-    requires { ⌜ (let t : Rows = rowsOf (now counts) (now masks) (now several) (now rests) (now singles) in
+    requires { ⌜ (let t : Rows = rowsOf (now counts) (now masks) (now several) (now singles) in
         RowsFit n (now listed) t × (i ≤ n)) ⌝ }
-    ensures { λ r. ⌜ (let t : Rows = rowsOf (now (counts .entry)) (now (masks .entry)) (now (several .entry)) (now (rests .entry))
-        (now (singles .entry)) in
+    ensures { λ r. ⌜ (let t : Rows = rowsOf (now (counts .entry)) (now (masks .entry)) (now (several .entry)) (now (singles .entry)) in
         let ps : List (List ℕ) = preds n (now (listed .entry)) t in
         (i ≤ r) × (r ≤ n) × (drop r ps ≡ skipped set (drop i ps))) ⌝ }
 {
     let mut k = i;
     while k < n {
-        if !holds_at(listed, counts, masks, several, rests, singles, k, set) {
+        if !holds_at(listed, counts, masks, several, singles, k, set) {
             return k;
         }
         k += 1;
@@ -150,16 +149,14 @@ fn narrow(
     counts: &[u32],
     masks: &[u32],
     several: &[u32],
-    rests: &[u32],
     singles: &[u32],
     j: usize,
     set: u32,
     names: u32,
 ) -> u32
-    requires { ⌜ (let t : Rows = rowsOf (now counts) (now masks) (now several) (now rests) (now singles) in
+    requires { ⌜ (let t : Rows = rowsOf (now counts) (now masks) (now several) (now singles) in
         (j < length (now listed)) × Parted t (getD (now listed) j 0)) ⌝ }
-    ensures { λ r. ⌜ (let t : Rows = rowsOf (now (counts .entry)) (now (masks .entry)) (now (several .entry)) (now (rests .entry))
-        (now (singles .entry)) in
+    ensures { λ r. ⌜ (let t : Rows = rowsOf (now (counts .entry)) (now (masks .entry)) (now (several .entry)) (now (singles .entry)) in
         let p : List ℕ = predAt (now (listed .entry)) t j in
         r ≡ cond (Predicates·holds set p) names (shared names (alone (ones set + 1) set p))) ⌝ }
 {
@@ -168,9 +165,10 @@ fn narrow(
     if 0 < names::shared(set, one) {
         return names;
     }
-    let at = row * super::ROW_WIDTH;
-    let end = at + several[row] as usize;
-    narrow_terms(&rests[at..end], set, names::union(set, one), names)
+    let part = rest_at(counts, masks, several, row);
+    let at = part.at;
+    let end = part.end;
+    narrow_terms(&masks[at..end], set, names::union(set, one), names)
 }
 
 // The lesser of `best` and a set that alone is left to try, if that makes the predicates from j on true.
@@ -179,33 +177,30 @@ fn only_set(
     counts: &[u32],
     masks: &[u32],
     several: &[u32],
-    rests: &[u32],
     singles: &[u32],
     n: usize,
     j: usize,
     set: u32,
     best: u32,
 ) -> u32
-    requires { ⌜ (let t : Rows = rowsOf (now counts) (now masks) (now several) (now rests) (now singles) in
+    requires { ⌜ (let t : Rows = rowsOf (now counts) (now masks) (now several) (now singles) in
         RowsFit n (now listed) t × (j ≤ n)) ⌝ }
-    ensures { λ r. ⌜ (let t : Rows = rowsOf (now (counts .entry)) (now (masks .entry)) (now (several .entry)) (now (rests .entry))
-        (now (singles .entry)) in
+    ensures { λ r. ⌜ (let t : Rows = rowsOf (now (counts .entry)) (now (masks .entry)) (now (several .entry)) (now (singles .entry)) in
         r ≡ cond (all (Predicates·holds set) (drop j (preds n (now (listed .entry)) t))) (min set best) best) ⌝ }
 {
-    if next_unexplained(listed, counts, masks, several, rests, singles, n, j, set) < n {
+    if next_unexplained(listed, counts, masks, several, singles, n, j, set) < n {
         return best;
     }
     lesser(set, best)
 }
 
 // With one name left to add: the least set that makes the predicates from k on true, or `best`. Once a single name is left it is tried as it is: to
-// test a set costs minus than to narrow.
+// test a set costs less than to narrow.
 fn last_name(
     listed: &[u32],
     counts: &[u32],
     masks: &[u32],
     several: &[u32],
-    rests: &[u32],
     singles: &[u32],
     n: usize,
     k: usize,
@@ -214,10 +209,9 @@ fn last_name(
     limit: u32,
     best: u32,
 ) -> u32
-    requires { ⌜ (let t : Rows = rowsOf (now counts) (now masks) (now several) (now rests) (now singles) in
+    requires { ⌜ (let t : Rows = rowsOf (now counts) (now masks) (now several) (now singles) in
         RowsFit n (now listed) t × (k < n) × (ones set + 1 ≡ limit) × T (not (Predicates·holds set (predAt (now listed) t k)))) ⌝ }
-    ensures { λ r. ⌜ (let t : Rows = rowsOf (now (counts .entry)) (now (masks .entry)) (now (several .entry)) (now (rests .entry))
-        (now (singles .entry)) in
+    ensures { λ r. ⌜ (let t : Rows = rowsOf (now (counts .entry)) (now (masks .entry)) (now (several .entry)) (now (singles .entry)) in
         ((enough : ℕ) → Best enough limit set free (drop k (preds n (now (listed .entry)) t)) best r)) ⌝ }
 {
     let mut names = names::union(set, free);
@@ -233,7 +227,6 @@ fn last_name(
                 counts,
                 masks,
                 several,
-                rests,
                 singles,
                 n,
                 j,
@@ -241,17 +234,7 @@ fn last_name(
                 best,
             );
         }
-        names = narrow(
-            listed,
-            counts,
-            masks,
-            several,
-            rests,
-            singles,
-            j,
-            set,
-            names,
-        );
+        names = narrow(listed, counts, masks, several, singles, j, set, names);
         j += 1;
     }
     if names == set {
@@ -297,7 +280,6 @@ pub fn predicate_step(
     counts: &[u32],
     masks: &[u32],
     several: &[u32],
-    rests: &[u32],
     singles: &[u32],
     n: usize,
     limit: u32,
@@ -307,13 +289,12 @@ pub fn predicate_step(
     free: u32,
     best: u32,
 ) -> u32
-    requires { ⌜ (let t : Rows = rowsOf (now counts) (now masks) (now several) (now rests) (now singles) in
+    requires { ⌜ (let t : Rows = rowsOf (now counts) (now masks) (now several) (now singles) in
         RowsFit n (now listed) t × (i ≤ n) × (ones set ≤ limit)) ⌝ }
-    ensures { λ r. ⌜ (let t : Rows = rowsOf (now (counts .entry)) (now (masks .entry)) (now (several .entry)) (now (rests .entry))
-        (now (singles .entry)) in
+    ensures { λ r. ⌜ (let t : Rows = rowsOf (now (counts .entry)) (now (masks .entry)) (now (several .entry)) (now (singles .entry)) in
         Best enough limit set free (drop i (preds n (now (listed .entry)) t)) best r) ⌝ }
 {
-    let k = next_unexplained(listed, counts, masks, several, rests, singles, n, i, set);
+    let k = next_unexplained(listed, counts, masks, several, singles, n, i, set);
     if n <= k {
         return lesser(set, best);
     }
@@ -327,7 +308,6 @@ pub fn predicate_step(
             counts,
             masks,
             several,
-            rests,
             singles,
             n,
             k,
@@ -343,7 +323,6 @@ pub fn predicate_step(
         counts,
         masks,
         several,
-        rests,
         singles,
         n,
         limit,
@@ -363,7 +342,6 @@ pub fn term_step(
     counts: &[u32],
     masks: &[u32],
     several: &[u32],
-    rests: &[u32],
     singles: &[u32],
     n: usize,
     limit: u32,
@@ -375,56 +353,38 @@ pub fn term_step(
     free: u32,
     best: u32,
 ) -> u32
-    requires { ⌜ (let t : Rows = rowsOf (now counts) (now masks) (now several) (now rests) (now singles) in
-        RowsFit n (now listed) t × (i < n) × (end ≤ at + rowWidth) × (end ≤ length (now masks)) × (ones set ≤ limit)) ⌝ }
-    ensures { λ r. ⌜ (let t : Rows = rowsOf (now (counts .entry)) (now (masks .entry)) (now (several .entry)) (now (rests .entry))
-        (now (singles .entry)) in
+    requires { ⌜ (let t : Rows = rowsOf (now counts) (now masks) (now several) (now singles) in
+        RowsFit n (now listed) t × (i < n) × (end ≤ length (now masks)) × (ones set ≤ limit)) ⌝ }
+    ensures { λ r. ⌜ (let t : Rows = rowsOf (now (counts .entry)) (now (masks .entry)) (now (several .entry)) (now (singles .entry)) in
         let ps : List (List ℕ) = drop (i + 1) (preds n (now (listed .entry)) t) in
         Best enough limit set free (take (end - at) (drop at (now (masks .entry))) ∷ ps) best r) ⌝ }
 {
-    if end <= at {
-        return best;
-    }
-    let t = masks[at];
     let mut rest = free;
     let mut found = best;
-    if worth(t, set, free, limit, best) {
-        let wider = names::union(set, t);
-        found = predicate_step(
-            listed,
-            counts,
-            masks,
-            several,
-            rests,
-            singles,
-            n,
-            limit,
-            enough,
-            i + 1,
-            wider,
-            free,
-            best,
-        );
-        if found < enough {
-            return found;
+    let mut k = at;
+    while k < end {
+        let t = masks[k];
+        if worth(t, set, rest, limit, found) {
+            found = predicate_step(
+                listed,
+                counts,
+                masks,
+                several,
+                singles,
+                n,
+                limit,
+                enough,
+                i + 1,
+                names::union(set, t),
+                rest,
+                found,
+            );
+            if found < enough {
+                return found;
+            }
+            rest = freed(t, set, rest);
         }
-        rest = freed(t, set, free);
+        k += 1;
     }
-    term_step(
-        listed,
-        counts,
-        masks,
-        several,
-        rests,
-        singles,
-        n,
-        limit,
-        enough,
-        i,
-        at + 1,
-        end,
-        set,
-        rest,
-        found,
-    )
+    found
 }

@@ -1,16 +1,16 @@
 -- Definitions that serve the code alone: no statement of document 01 cites this file.
--- The ends at which an answer can begin: what it takes to explain an instant, over the claims in flat arrays, and the first end that can be explained.
+-- The ends at which an answer can begin: what it takes to explain an instant, over the claims in flat arrays, and the first end that is explained.
 -- Assumes nothing: these are definitions.
-use Prim.Native.Nat.{ℕ, _*_, _^_, _-_, _≤_, _<_}
+use Prim.Native.Nat.{ℕ, _^_, _-_, _≤_, _<_}
 use mathlib.Core.Path.{_≡_}
 use mathlib.Core.Logic.{_⊎_}
 use mathlib.Core.Bool.{Bool, _&&_, not}
-use mathlib.Core.List.{List, _∷_, map}
+use mathlib.Core.List.{List, map}
 use lib.Dec.{T, leb}
-use lib.ListN.{length, getD, take, drop}
+use lib.ListN.{length, getD, take}
 use Rattle.predicates.specs.Lists.{keep}
 use Rattle.predicates.specs.Predicates.{holds}
-use Rattle.search.specs.code.Search.{Rows, rowsMost, rowWidth, Fits, Best, rowTerms, Parted, preds, rowsMost, rowWidth}
+use Rattle.search.specs.code.Search.{Rows, rowsMost, Fits, rowTerms, Parted, preds}
 use Rattle.names.specs.Sets.{noSet}
 
 -- no end
@@ -40,9 +40,6 @@ pub record Ready (n rows : ℕ) (lefts rights : List ℕ) (t : Rows) (order : Li
   pub rights-long : rows ≤ length rights
   pub below : (k : ℕ) → k < rows → getD lefts k 0 < noEnd
   pub empty : (k : ℕ) → k < n → getD rights k 0 < getD lefts k 0
-  pub counted : rows ≤ length (t .counts)
-  pub few : (k : ℕ) → k < rows → getD (t .counts) k 0 ≤ rowWidth
-  pub long : rows * rowWidth ≤ length (t .masks)
   pub ordered : rows ≤ length order
   pub placed : (j : ℕ) → j < rows → getD order j 0 < rows
   pub present : (k : ℕ) → k < rows → (j : ℕ) × (j < rows) × (k ≡ getD order j 0)
@@ -84,11 +81,6 @@ pub record FirstStretch (n rows : ℕ) (lefts rights : List ℕ) (t : Rows) (ord
   pub reached : set < noSet → IsEnd n rows lefts end × Fits limit 0 free (needs rows lefts rights t order end) set
   pub earlier : set < noSet → Unexplained n rows lefts rights t order limit free from
   pub never : noSet ≤ set → Unexplained n rows lefts rights t order limit free noEnd
-
--- what comes of the terms from `at` on, and of the predicates behind them, comes of the whole
-abbrev pub Trying : ℕ → ℕ → List (List ℕ) → List ℕ → List (List ℕ) → ℕ → ℕ → ℕ → Type 0
-Trying limit free whole masks ps end at free′ =
-    (r : ℕ) → Best noSet limit 0 free′ (take (end - at) (drop at masks) ∷ ps) noSet r → Best noSet limit 0 free whole noSet r
 
 -- the first `rows` of the order are the rows, all of them
 pub record Complete (rows : ℕ) (order : List ℕ) : Type 0 where

@@ -2,7 +2,7 @@
 -- The search for a set of failed names that makes predicates true (document 01, "Fewest failures", last sentences): "from an unexplained predicate to
 -- its terms, from a term to the next unexplained predicate". What a search has to bring is said by sets (`Best`), not by its order.
 -- Assumes nothing: these are definitions.
-use Prim.Native.Nat.{ℕ, _+_, _*_, _≤_, _<_}
+use Prim.Native.Nat.{ℕ, _+_, _*_, _-_, _≤_, _<_}
 use mathlib.Core.Path.{_≡_}
 use mathlib.Core.Logic.{_⊎_}
 use mathlib.Core.Bool.{Bool, not, cond}
@@ -34,6 +34,12 @@ pub record Best (enough limit s free : ℕ) (ps : List (List ℕ)) (best r : ℕ
   pub least : (u : ℕ) → Fits limit s free ps u → (r ≤ u) ⊎ (r < enough)
 
 -- ---- on the way
+
+-- a search that had `best` before it goes through the terms of masks[at..end], with the predicates `ps` behind them: what comes of the terms from
+-- `at` on, with the names that are free now and the best that is found, comes of the whole
+abbrev pub Trying : ℕ → ℕ → ℕ → ℕ → List (List ℕ) → ℕ → List ℕ → List (List ℕ) → ℕ → ℕ → ℕ → ℕ → Type 0
+Trying enough limit s free whole best masks ps end at free′ found =
+    (r : ℕ) → Best enough limit s free′ (take (end - at) (drop at masks) ∷ ps) found r → Best enough limit s free whole best r
 
 -- from the next predicate on that the set leaves false
 unfoldable pub skipped : ℕ → List (List ℕ) → List (List ℕ)
@@ -76,26 +82,24 @@ rowWidth = 16
 abbrev pub masksMost : ℕ
 masksMost = rowsMost * rowWidth
 
--- row k has its count of terms at k in `counts`, and the terms from k * rowWidth on in `masks`; its terms of several names again, their count in
--- `several` and they in `rests`; and the others as one mask at k in `singles`
+-- row k has its count of terms at k in `counts`, and the terms from k * rowWidth on in `masks`; those of several names are the last of them, with
+-- their count at k in `several`, and the others stand once more as one mask at k in `singles`
 pub record Rows : Type 0 where
   pub counts : List ℕ
   pub masks : List ℕ
   pub several : List ℕ
-  pub rests : List ℕ
   pub singles : List ℕ
 
-abbrev pub rowsOf : List ℕ → List ℕ → List ℕ → List ℕ → List ℕ → Rows
-rowsOf counts masks several rests singles =
-    record { counts = counts; masks = masks; several = several; rests = rests; singles = singles }
+abbrev pub rowsOf : List ℕ → List ℕ → List ℕ → List ℕ → Rows
+rowsOf counts masks several singles = record { counts = counts; masks = masks; several = several; singles = singles }
 
 -- the predicate of row k
 abbrev pub rowTerms : Rows → ℕ → List ℕ
 rowTerms t k = take (getD (t .counts) k 0) (drop (k * rowWidth) (t .masks))
 
--- its terms of several names, as they stand again
+-- the last of its terms, as many as have several names
 abbrev pub restTerms : Rows → ℕ → List ℕ
-restTerms t k = take (getD (t .several) k 0) (drop (k * rowWidth) (t .rests))
+restTerms t k = drop (getD (t .counts) k 0 - getD (t .several) k 0) (rowTerms t k)
 
 -- the predicate of the row in place j of a list of rows, which is in the order of the search
 unfoldable pub predAt : List ℕ → Rows → ℕ → List ℕ
@@ -104,19 +108,18 @@ predAt listed t j = rowTerms t (getD listed j 0)
 unfoldable pub preds : ℕ → List ℕ → Rows → List (List ℕ)
 preds n listed t = tab n (predAt listed t)
 
--- row k has its parts: the mask of the terms of one name, and the other terms
+-- row k lies in the table with its parts: the mask of the terms of one name, and the other terms as the last
 pub record Parted (t : Rows) (k : ℕ) : Type 0 where
-  pub counted : k < length (t .several)
+  pub counted : k < length (t .counts)
+  pub told : k < length (t .several)
   pub masked : k < length (t .singles)
-  pub few : getD (t .several) k 0 ≤ rowWidth
-  pub room : k * rowWidth + getD (t .several) k 0 ≤ length (t .rests)
+  pub few : getD (t .counts) k 0 ≤ rowWidth
+  pub fewer : getD (t .several) k 0 ≤ getD (t .counts) k 0
+  pub long : k * rowWidth + getD (t .counts) k 0 ≤ length (t .masks)
   pub one : getD (t .singles) k 0 ≡ singles (rowTerms t k)
   pub more : restTerms t k ≡ several (rowTerms t k)
 
 -- the first n rows that are listed lie in the table
 pub record RowsFit (n : ℕ) (listed : List ℕ) (t : Rows) : Type 0 where
   pub listed-long : n ≤ length listed
-  pub counted : (j : ℕ) → j < n → getD listed j 0 < length (t .counts)
-  pub few : (j : ℕ) → j < n → getD (t .counts) (getD listed j 0) 0 ≤ rowWidth
-  pub long : (j : ℕ) → j < n → getD listed j 0 * rowWidth + getD (t .counts) (getD listed j 0) 0 ≤ length (t .masks)
   pub parted : (j : ℕ) → j < n → Parted t (getD listed j 0)

@@ -7,14 +7,14 @@ use Rattle.asking.proofs.ask.ask_few.Tie as tie
 
 ask-in-requires : tie.Need-ask-in-requires
 ask-in-requires c κs =
-    let a = c .before .before .before .before .before .before .before in
+    let a = c .before .before .before .before .before .before in
     let p = a .pre .0 in
     let few = a .pre .1 in
     let n-le = entry-count-le (a .args .s .now) (p .1) in
     let h-le = held-count-le (a .args .s .now) (p .1) in (
       (p .0, p .1, p .2, p .3),
       (
-        record { counts-long = omega arith; masks-long = omega arith; several-long = omega arith; rests-long = omega arith; singles-long = omega arith },
+        record { counts-long = omega arith; masks-long = omega arith; several-long = omega arith; singles-long = omega arith },
         omega arith,
       ),
     )
@@ -23,7 +23,6 @@ pub ask-few-spec : {M : Type 1} → statement M
 ask-few-spec =
     tie.close
     (tie.spec
-    (λ c. search needs)
     (λ c. search needs)
     (λ c. search needs)
     (λ c. search needs)

@@ -9,12 +9,12 @@ use Rattle.asking.proofs.ask.between.Statement.{statement}
 use Rattle.asking.proofs.ask.between.Tie as tie
 
 others-requires : tie.Need-others-requires
-others-requires c κs = let a = c .before .before .before .before .before .before .before .before .before .before .before .before .before in omega (arith, c .get32 .ensures .0, own-fits (a .args .s .now) (a .pre .0 .1))
+others-requires c κs = let a = c .before .before .before .before .before .before .before .before .before .before .before .before in omega (arith, c .get32 .ensures .0, own-fits (a .args .s .now) (a .pre .0 .1))
 
 first-end-requires : tie.Need-first-end-requires
 first-end-requires c κs =
     let at-ends = c .before .before .before .before .before .before .before in
-    let a = at-ends .before .before .before .before .before .before .before .before .before .before in
+    let a = at-ends .before .before .before .before .before .before .before .before .before in
     let form = a .pre .0 .1 in
     let loaded = a .pre .1 .0 .0 in
     let complete = a .pre .1 .0 .1 in
@@ -27,7 +27,7 @@ first-end-requires c κs =
 returns : tie.Need-returns
 returns c =
     let at-ends = c .before .before .before .before .before .before .before .before .before .before .before in
-    let a = at-ends .before .before .before .before .before .before .before .before .before .before in
+    let a = at-ends .before .before .before .before .before .before .before .before .before in
     let form = a .pre .0 .1 in
     let loaded = a .pre .1 .0 .0 in
     let complete = a .pre .1 .0 .1 in
@@ -41,7 +41,7 @@ returns c =
 mirror-requires : tie.Need-mirror-requires
 mirror-requires c κs =
     let at-ends = c .before .before .before .before .before .before .before .before .before .before .before .before .before .before .before in
-    let a = at-ends .before .before .before .before .before .before .before .before .before .before in
+    let a = at-ends .before .before .before .before .before .before .before .before .before in
     let form = a .pre .0 .1 in
     let loaded = a .pre .1 .0 .0 in
     let complete = a .pre .1 .0 .1 in
@@ -54,7 +54,7 @@ mirror-requires c κs =
 first-end-requires-2 : tie.Need-first-end-requires-2
 first-end-requires-2 c κs =
     let at-ends = c .before .before .before .before .before .before .before .before .before .before .before .before .before .before .before .before .before .before .before .before .before in
-    let a = at-ends .before .before .before .before .before .before .before .before .before .before in
+    let a = at-ends .before .before .before .before .before .before .before .before .before in
     let form = a .pre .0 .1 in
     let loaded = a .pre .1 .0 .0 in
     let complete = a .pre .1 .0 .1 in
@@ -69,10 +69,10 @@ first-end-requires-2 c κs =
       free-lt _ _ (at-free .others .ensures),
     )
 
-sub-t46 : tie.Need-sub-t46
-sub-t46 c =
+sub-t45 : tie.Need-sub-t45
+sub-t45 c =
     let at-ends = c .before .before .before .before .before .before .before .before .before .before .before .before .before .before .before .before .before .before .before .before .before .before .before .before in
-    let a = at-ends .before .before .before .before .before .before .before .before .before .before in
+    let a = at-ends .before .before .before .before .before .before .before .before .before in
     let form = a .pre .0 .1 in
     let loaded = a .pre .1 .0 .0 in
     let complete = a .pre .1 .0 .1 in
@@ -89,7 +89,7 @@ sub-t46 c =
 returns-2 : tie.Need-returns-2
 returns-2 c =
     let at-ends = c .before .before .before .before .before .before .before .before .before .before .before .before .before .before .before .before .before .before .before .before .before .before .before .before in
-    let a = at-ends .before .before .before .before .before .before .before .before .before .before in
+    let a = at-ends .before .before .before .before .before .before .before .before .before in
     let form = a .pre .0 .1 in
     let loaded = a .pre .1 .0 .0 in
     let complete = a .pre .1 .0 .1 in
@@ -126,5 +126,5 @@ between-spec =
     (λ c. search needs)
     (λ c. search needs)
     first-end-requires-2
-    sub-t46
+    sub-t45
     returns-2)

@@ -16,16 +16,16 @@ use Rattle.asking.proofs.failures.fewest_from.Statement.{statement}
 use Rattle.asking.proofs.failures.fewest_from.Tie as tie
 
 abbrev Inv-loop : tie.InvT-loop
-Inv-loop s from own h n rows counts masks several rests singles order lefts rights free listed₀ limit₀ listed limit =
-    (length listed ≡ rowsMost) × (limit ≤ 5) × Prepared (stateOf s) n rows (rowsOf counts masks several rests singles) order lefts rights
+Inv-loop s from own h n rows counts masks several singles order lefts rights free listed₀ limit₀ listed limit =
+    (length listed ≡ rowsMost) × (limit ≤ 5) × Prepared (stateOf s) n rows (rowsOf counts masks several singles) order lefts rights
     × (free ≡ others (stateOf s .head .own)) × Floor (stateOf s) limit
 
 abbrev μ-loop : tie.MeasureT-loop
-μ-loop s from own h n rows counts masks several rests singles order lefts rights free listed₀ limit₀ listed limit = 5 - limit
+μ-loop s from own h n rows counts masks several singles order lefts rights free listed₀ limit₀ listed limit = 5 - limit
 
 load-requires : tie.Need-load-requires Inv-loop μ-loop
 load-requires c κs =
-    let at-n = c .before .before .before .before .before .before in
+    let at-n = c .before .before .before .before .before in
     let a = at-n .before .before .before .before in
     let fit = counts-fit _ (a .pre .1) _ _ (at-n .get323 .ensures .0) (at-n .before .get322 .ensures .0) in (
       (a .pre .0, a .pre .1, at-n .get323 .ensures .0, omega (arith, at-n .get323 .ensures .0, at-n .before .get322 .ensures .0)),
@@ -34,7 +34,6 @@ load-requires c κs =
           counts-long = omega arith;
           masks-long = omega arith;
           several-long = omega arith;
-          rests-long = omega arith;
           singles-long = omega arith;
         },
         omega arith,
@@ -43,7 +42,7 @@ load-requires c κs =
 
 get-ends-requires : tie.Need-get-ends-requires Inv-loop μ-loop
 get-ends-requires c κs =
-    let at-n = c .before .before .before .before .before .before .before .before .before .before .before .before .before .before .before in
+    let at-n = c .before .before .before .before .before .before .before .before .before .before .before .before .before in
     let a = at-n .before .before .before .before in
     let fit = counts-fit _ (a .pre .1) _ _ (at-n .get323 .ensures .0) (at-n .before .get322 .ensures .0) in
     (a .pre .0, omega arith, omega arith, omega arith, omega arith)
@@ -51,7 +50,7 @@ get-ends-requires c κs =
 others-requires : tie.Need-others-requires Inv-loop μ-loop
 unfolding stateOf headOf
 others-requires c κs =
-    let at-own = c .before .before .before .before .before .before .before .before .before .before .before .before .before .before .before .before .before .before .before .before in
+    let at-own = c .before .before .before .before .before .before .before .before .before .before .before .before .before .before .before .before .before .before in
     let a = at-own .before .before in
     omega (arith, at-own .get32 .ensures .0, state-out _ (form-ok _ (a .pre .1)) .own-le)
 
@@ -59,8 +58,8 @@ loop-holds : tie.Need-loop-holds Inv-loop μ-loop
 unfolding stateOf headOf
 loop-holds c =
     let at-ends = c .before .before .before in
-    let at-load = at-ends .before .before .before .before .before .before .before .before .before in
-    let at-n = at-load .before .before .before .before .before .before .before in
+    let at-load = at-ends .before .before .before .before .before .before .before .before in
+    let at-n = at-load .before .before .before .before .before .before in
     let a = at-n .before .before .before .before in
     let load = at-load .load .ensures in (
       refl,
@@ -73,20 +72,20 @@ loop-holds c =
 
 least-within-requires : tie.Need-least-within-requires Inv-loop μ-loop
 least-within-requires c κs =
-    let head = c .before .before .before .before .before .before .before .before .before .before in
+    let head = c .before .before .before .before .before .before .before .before .before in
     let ready = head .loop .inv .2 .ready in (ready, omega (arith, ready .most, head .loop .inv .0))
 
 returns : tie.Need-returns Inv-loop μ-loop
 returns c =
-    let head = c .before .before .before .before .before .before .before .before .before .before .before .before .before .before in
+    let head = c .before .before .before .before .before .before .before .before .before .before .before .before .before in
     let inv = head .loop .inv in
     floor-found (inv .2) (omega arith) (rw (inv .3) at (c .before .before .before .least-within .ensures)) (inv .4) (c .before .if1 .taken) _ (c .count .ensures .0)
 
 loop-again : tie.Need-loop-again Inv-loop μ-loop
 loop-again c =
-    let head = c .before .before .before .before .before .before .before .before .before .before .before .before .before in
+    let head = c .before .before .before .before .before .before .before .before .before .before .before .before in
     let inv = head .loop .inv in (
-      c .before .before .least-within .kept .1 .1 .1 .1 .1 .1 .1 .1 .0 ∙ inv .0,
+      c .before .before .least-within .kept .1 .1 .1 .1 .1 .1 .1 .0 ∙ inv .0,
       omega arith,
       inv .2,
       inv .3,
@@ -116,14 +115,12 @@ fewest-from-spec =
     (λ c. search needs)
     (λ c. search needs)
     (λ c. search needs)
-    (λ c. search needs)
     load-requires
     (λ c. search needs)
     (λ c. search needs)
     get-ends-requires
     others-requires
     loop-holds
-    (λ c. search needs)
     (λ c. search needs)
     (λ c. search needs)
     (λ c. search needs)

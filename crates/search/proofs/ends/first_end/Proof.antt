@@ -9,13 +9,13 @@ use Rattle.search.proofs.ends.first_end.Tie as tie
 returns : tie.Need-returns
 returns c =
     let at-stretch = c .before .before .before .before in
-    let a = at-stretch .before .before .before .before .before .before .before .before .before .before .before in
+    let a = at-stretch .before .before .before .before .before .before .before .before .before .before in
     (no-first _ _ _ _ _ _ (a .pre .0) _ _ _ _ _ (at-stretch .first-stretch .ensures .0) (c .if1 .taken), at-stretch .first-stretch .ensures .1)
 
 first-in-stretch-requires : tie.Need-first-in-stretch-requires
 first-in-stretch-requires c κs =
     let at-stretch = c .before .before .before .before .before in
-    let a = at-stretch .before .before .before .before .before .before .before .before .before .before .before in
+    let a = at-stretch .before .before .before .before .before .before .before .before .before .before in
     (a .pre .0, omega (arith, a .pre .1, at-stretch .first-stretch .ensures .1), a .pre .2, at-stretch .first-stretch .ensures .0, c .before .if1 .left)
 
 returns-2 : tie.Need-returns-2

@@ -14,25 +14,25 @@ use Rattle.search.proofs.ends.first_in_stretch.Statement.{statement}
 use Rattle.search.proofs.ends.first_in_stretch.Tie as tie
 
 abbrev Inv-loop : tie.InvT-loop
-Inv-loop lefts rights counts masks several rests singles order listed₀ n rows limit free from found by set₀ end₀ listed set end =
-    (length listed ≡ length listed₀) × IsEnd n rows lefts end × Fits limit 0 free (LeftEnds·needs rows lefts rights (rowsOf counts masks several rests singles) order end) set
+Inv-loop lefts rights counts masks several singles order listed₀ n rows limit free from found by set₀ end₀ listed set end =
+    (length listed ≡ length listed₀) × IsEnd n rows lefts end × Fits limit 0 free (LeftEnds·needs rows lefts rights (rowsOf counts masks several singles) order end) set
     × (end ≤ found)
 
 abbrev μ-loop : tie.MeasureT-loop
-μ-loop lefts rights counts masks several rests singles order listed₀ n rows limit free from found by set₀ end₀ listed set end = end
+μ-loop lefts rights counts masks several singles order listed₀ n rows limit free from found by set₀ end₀ listed set end = end
 
 latest-requires : tie.Need-latest-requires Inv-loop μ-loop
 latest-requires c κs =
-    let ready = c .before .before .before .before .before .before .before .before .before .pre .0 in
+    let ready = c .before .before .before .before .before .before .before .before .pre .0 in
     (ready .entries-le, ready .lefts-long, ready .parted)
 
 next-end-requires : tie.Need-next-end-requires Inv-loop μ-loop
 next-end-requires c κs =
-    let ready = c .before .before .before .before .before .before .before .before .before .before .pre .0 in (ready .entries-le, ready .lefts-long)
+    let ready = c .before .before .before .before .before .before .before .before .before .pre .0 in (ready .entries-le, ready .lefts-long)
 
 loop-holds : tie.Need-loop-holds Inv-loop μ-loop
 loop-holds c =
-    let a = c .before .before .before .before .before .before .before .before .before .before .before in
+    let a = c .before .before .before .before .before .before .before .before .before .before in
     let stretch = a .pre .3 .reached (a .pre .4) in
     let latest = c .before .latest .ensures in
     let next = c .next-end .ensures in (
@@ -48,12 +48,12 @@ sub-last-end c =
 
 last-end-requires : tie.Need-last-end-requires Inv-loop μ-loop
 last-end-requires c κs =
-    let ready = c .before .before .before .before .before .before .before .before .before .before .before .before .before .pre .0 in (ready .entries-le, ready .lefts-long)
+    let ready = c .before .before .before .before .before .before .before .before .before .before .before .before .pre .0 in (ready .entries-le, ready .lefts-long)
 
 list-outside-requires : tie.Need-list-outside-requires Inv-loop μ-loop
 list-outside-requires c κs =
     let head = c .before .before .before in
-    let a = head .before .before .before .before .before .before .before .before .before .before .before .before in
+    let a = head .before .before .before .before .before .before .before .before .before .before .before in
     let ready = a .pre .0 in
     (ready .most, ready .ordered, omega (arith, a .pre .1, head .loop .inv .0), ready .lefts-long, ready .rights-long, ready .placed)
 
@@ -61,7 +61,7 @@ predicate-step-requires : tie.Need-predicate-step-requires Inv-loop μ-loop
 predicate-step-requires c κs =
     let at-list = c .before .before .before in
     let head = at-list .before .before .before .before in
-    let a = head .before .before .before .before .before .before .before .before .before .before .before .before in
+    let a = head .before .before .before .before .before .before .before .before .before .before .before in
     let out = at-list .list-outside .ensures in
     let rows = listed-rows _ _ _ _ _ _ _ _ (a .pre .0) (omega (arith, a .pre .1, head .loop .inv .0)) _ _ (out .0) (out .1) (out .2) in
     (rows, omega arith, omega (arith, ones-empty))
@@ -74,7 +74,7 @@ returns : tie.Need-returns Inv-loop μ-loop
 returns c =
     let at-list = c .before .before .before .before .before in
     let head = at-list .before .before .before .before in
-    let a = head .before .before .before .before .before .before .before .before .before .before .before .before in
+    let a = head .before .before .before .before .before .before .before .before .before .before .before in
     let out = at-list .list-outside .ensures in
     let same = listed-needs _ _ _ _ _ _ _ _ (a .pre .0) (omega (arith, a .pre .1, head .loop .inv .0)) _ _ (out .0) (out .1) (out .2) in (
       back-stop _ _ _ _ _ _ (a .pre .0) _ _ (a .pre .2) _ _ _ (a .pre .3) (a .pre .4) _ _ (head .loop .inv .1) (head .loop .inv .2)
@@ -85,18 +85,18 @@ returns c =
 
 latest-requires-2 : tie.Need-latest-requires-2 Inv-loop μ-loop
 latest-requires-2 c κs =
-    let ready = c .before .before .before .before .before .before .before .before .before .before .before .before .before .before .before .before .before .before .before .before .before .pre .0 in
+    let ready = c .before .before .before .before .before .before .before .before .before .before .before .before .before .before .before .before .before .before .before .before .pre .0 in
     (ready .entries-le, ready .lefts-long, ready .parted)
 
 next-end-requires-2 : tie.Need-next-end-requires-2 Inv-loop μ-loop
 next-end-requires-2 c κs =
-    let ready = c .before .before .before .before .before .before .before .before .before .before .before .before .before .before .before .before .before .before .before .before .before .before .pre .0 in (ready .entries-le, ready .lefts-long)
+    let ready = c .before .before .before .before .before .before .before .before .before .before .before .before .before .before .before .before .before .before .before .before .before .pre .0 in (ready .entries-le, ready .lefts-long)
 
 loop-less : tie.Need-loop-less Inv-loop μ-loop
 loop-less c =
     let at-list = c .before .before .before .before .before .before .before in
     let head = at-list .before .before .before .before in
-    let a = head .before .before .before .before .before .before .before .before .before .before .before .before in
+    let a = head .before .before .before .before .before .before .before .before .before .before .before in
     let out = at-list .list-outside .ensures in
     let same = listed-needs _ _ _ _ _ _ _ _ (a .pre .0) (omega (arith, a .pre .1, head .loop .inv .0)) _ _ (out .0) (out .1) (out .2) in
     let found = ⊎-elim (λ e. absurd (omega (arith, c .before .before .if1 .left))) (λ f. f) (rw same at (c .before .before .before .predicate-step .ensures) .from) in
@@ -113,7 +113,7 @@ loop-again : tie.Need-loop-again Inv-loop μ-loop
 loop-again c =
     let at-list = c .before .before .before .before .before .before .before in
     let head = at-list .before .before .before .before in
-    let a = head .before .before .before .before .before .before .before .before .before .before .before .before in
+    let a = head .before .before .before .before .before .before .before .before .before .before .before in
     let out = at-list .list-outside .ensures in
     let same = listed-needs _ _ _ _ _ _ _ _ (a .pre .0) (omega (arith, a .pre .1, head .loop .inv .0)) _ _ (out .0) (out .1) (out .2) in
     let found = ⊎-elim (λ e. absurd (omega (arith, c .before .before .if1 .left))) (λ f. f) (rw same at (c .before .before .before .predicate-step .ensures) .from) in
@@ -137,7 +137,7 @@ same-length-2 c =
 returns-2 : tie.Need-returns-2 Inv-loop μ-loop
 returns-2 c =
     let head = c .before in
-    let a = head .before .before .before .before .before .before .before .before .before .before .before .before in
+    let a = head .before .before .before .before .before .before .before .before .before .before .before in
     (back-done _ _ _ _ _ _ (a .pre .0) _ _ (a .pre .2) _ _ _ (a .pre .3) (a .pre .4) _ _ (head .loop .inv .1) (head .loop .inv .2) (c .loop-test .left), head .loop .inv .0)
 
 pub first-in-stretch-spec : {M : Type 1} → statement M

@@ -16,10 +16,10 @@ use Rattle.search.proofs.ends.latest.Statement.{statement}
 use Rattle.search.proofs.ends.latest.Tie as tie
 
 abbrev Inv-loop : tie.InvT-loop
-Inv-loop lefts counts masks several rests singles n rows set last₀ i₀ last i = (n ≤ i) × (i ≤ rows) × Latest n i lefts (rowsOf counts masks several rests singles) set last
+Inv-loop lefts counts masks several singles n rows set last₀ i₀ last i = (n ≤ i) × (i ≤ rows) × Latest n i lefts (rowsOf counts masks several singles) set last
 
 abbrev μ-loop : tie.MeasureT-loop
-μ-loop lefts counts masks several rests singles n rows set last₀ i₀ last i = rows - i
+μ-loop lefts counts masks several singles n rows set last₀ i₀ last i = rows - i
 
 loop-holds : tie.Need-loop-holds Inv-loop μ-loop
 loop-holds c = (le-refl _, search needs, latest-none _ _ _ _)
@@ -27,7 +27,7 @@ loop-holds c = (le-refl _, search needs, latest-none _ _ _ _)
 row-holds-requires : tie.Need-row-holds-requires Inv-loop μ-loop
 row-holds-requires c κs =
     let head = c .before .before .before in
-    let a = head .before .before .before .before .before .before .before in
+    let a = head .before .before .before .before .before .before in
     let h : head .loop .i < a .args .rows = c .before .before .loop-test .taken in
     a .pre .2 (head .loop .i) h
 
@@ -47,7 +47,7 @@ loop-again c =
 returns : tie.Need-returns Inv-loop μ-loop
 returns c =
     let head = c .before .loop in
-    let done : head .i ≡ c .before .before .before .before .before .before .before .before .args .rows = omega (arith, head .inv .1, c .loop-test .left) in
+    let done : head .i ≡ c .before .before .before .before .before .before .before .args .rows = omega (arith, head .inv .1, c .loop-test .left) in
     rw done at (head .inv .2)
 
 pub latest-spec : {M : Type 1} → statement M

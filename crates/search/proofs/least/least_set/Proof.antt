@@ -15,15 +15,15 @@ use Rattle.search.proofs.least.least_set.Statement.{statement}
 use Rattle.search.proofs.least.least_set.Tie as tie
 
 abbrev Inv-loop : tie.InvT-loop
-Inv-loop lefts rights counts masks several rests singles order listed₀ n rows limit free best₀ floor₀ listed best floor =
-    (length listed ≡ length listed₀) × LeastOf (Passed n rows lefts rights (rowsOf counts masks several rests singles) order limit free floor) best
+Inv-loop lefts rights counts masks several singles order listed₀ n rows limit free best₀ floor₀ listed best floor =
+    (length listed ≡ length listed₀) × LeastOf (Passed n rows lefts rights (rowsOf counts masks several singles) order limit free floor) best
 
 abbrev μ-loop : tie.MeasureT-loop
-μ-loop lefts rights counts masks several rests singles order listed₀ n rows limit free best₀ floor₀ listed best floor = noEnd - floor
+μ-loop lefts rights counts masks several singles order listed₀ n rows limit free best₀ floor₀ listed best floor = noEnd - floor
 
 predicate-step-requires : tie.Need-predicate-step-requires Inv-loop μ-loop
 predicate-step-requires c κs =
-    let a = c .before .before .before .before .before .before .before .before .before .before in (ready-rows (a .pre .0), omega arith, omega (arith, ones-empty))
+    let a = c .before .before .before .before .before .before .before .before .before in (ready-rows (a .pre .0), omega arith, omega (arith, ones-empty))
 
 returns : tie.Need-returns Inv-loop μ-loop
 returns c =
@@ -34,7 +34,7 @@ loop-holds c = (refl, least-begin _ _ _ _ _ _ _ _)
 
 next-end-requires : tie.Need-next-end-requires Inv-loop μ-loop
 next-end-requires c κs =
-    let ready = c .before .before .before .before .before .before .before .before .before .before .before .pre .0 in (ready .entries-le, ready .lefts-long)
+    let ready = c .before .before .before .before .before .before .before .before .before .before .pre .0 in (ready .entries-le, ready .lefts-long)
 
 same-length : tie.Need-same-length Inv-loop μ-loop
 same-length c =
@@ -43,17 +43,17 @@ same-length c =
 returns-2 : tie.Need-returns-2 Inv-loop μ-loop
 returns-2 c =
     let head = c .before .before in
-    let a = head .before .before .before .before .before .before .before .before .before .before .before in
+    let a = head .before .before .before .before .before .before .before .before .before .before in
     least-in _ _ _ _ _ _ _ _ (a .pre .0) _ _ _ (head .loop .inv .1) (c .before .next-end .ensures) (c .if2 .taken) (head .before .if1 .left)
 
 stretch-end-requires : tie.Need-stretch-end-requires Inv-loop μ-loop
 stretch-end-requires c κs =
-    let ready = c .before .before .before .before .before .before .before .before .before .before .before .before .before .pre .0 in (ready .entries-le, ready .lefts-long, ready .rights-long)
+    let ready = c .before .before .before .before .before .before .before .before .before .before .before .before .pre .0 in (ready .entries-le, ready .lefts-long, ready .rights-long)
 
 list-outside-requires : tie.Need-list-outside-requires Inv-loop μ-loop
 list-outside-requires c κs =
     let head = c .before .before .before .before in
-    let a = head .before .before .before .before .before .before .before .before .before .before .before in
+    let a = head .before .before .before .before .before .before .before .before .before .before in
     let ready = a .pre .0 in
     (ready .most, ready .ordered, omega (arith, a .pre .1, head .loop .inv .0), ready .lefts-long, ready .rights-long, ready .placed)
 
@@ -61,7 +61,7 @@ predicate-step-requires-2 : tie.Need-predicate-step-requires-2 Inv-loop μ-loop
 predicate-step-requires-2 c κs =
     let at-list = c .before .before .before in
     let head = at-list .before .before .before .before .before in
-    let a = head .before .before .before .before .before .before .before .before .before .before .before in
+    let a = head .before .before .before .before .before .before .before .before .before .before in
     let out = at-list .list-outside .ensures in
     let rows = listed-rows _ _ _ _ _ _ _ _ (a .pre .0) (omega (arith, a .pre .1, head .loop .inv .0)) _ _ (out .0) (out .1) (out .2) in
     (rows, omega arith, omega (arith, ones-empty))
@@ -70,7 +70,7 @@ add-floor : tie.Need-add-floor Inv-loop μ-loop
 add-floor c =
     let at-list = c .before .before .before .before in
     let head = at-list .before .before .before .before .before in
-    let a = head .before .before .before .before .before .before .before .before .before .before .before in
+    let a = head .before .before .before .before .before .before .before .before .before .before in
     let stretch = at-list .before .before .stretch-end .ensures in
     let next = at-list .before .before .before .before .next-end .ensures in
     record { fits = omega (arith, stretches-room _ _ _ _ _ _ (a .pre .0) _ _ next (at-list .before .before .before .if2 .left) _ (stretch .0) (stretch .1) .0) }
@@ -78,7 +78,7 @@ add-floor c =
 loop-less : tie.Need-loop-less Inv-loop μ-loop
 loop-less c =
     let at-list = c .before .before .before .before in
-    let a = at-list .before .before .before .before .before .before .before .before .before .before .before .before .before .before .before .before in
+    let a = at-list .before .before .before .before .before .before .before .before .before .before .before .before .before .before .before in
     let stretch = at-list .before .before .stretch-end .ensures in
     let next = at-list .before .before .before .before .next-end .ensures in
     omega (arith, stretches-room _ _ _ _ _ _ (a .pre .0) _ _ next (at-list .before .before .before .if2 .left) _ (stretch .0) (stretch .1))
@@ -87,7 +87,7 @@ loop-again : tie.Need-loop-again Inv-loop μ-loop
 loop-again c =
     let at-list = c .before .before .before .before in
     let head = at-list .before .before .before .before .before in
-    let a = head .before .before .before .before .before .before .before .before .before .before .before in
+    let a = head .before .before .before .before .before .before .before .before .before .before in
     let out = at-list .list-outside .ensures in
     let same = listed-needs _ _ _ _ _ _ _ _ (a .pre .0) (omega (arith, a .pre .1, head .loop .inv .0)) _ _ (out .0) (out .1) (out .2) in
     let stretch = at-list .before .before .stretch-end .ensures in

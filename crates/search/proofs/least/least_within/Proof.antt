@@ -10,14 +10,14 @@ use Rattle.search.proofs.least.least_within.Tie as tie
 predicate-step-requires : tie.Need-predicate-step-requires
 predicate-step-requires c κs =
     let at-list = c .before .before .before in
-    let a = at-list .before .before .before .before .before .before .before .before .before .before .before in
+    let a = at-list .before .before .before .before .before .before .before .before .before .before in
     let out = at-list .list-entries .ensures in
     (kept-rows _ _ _ _ _ _ _ _ (a .pre .0) (a .pre .1) _ _ (out .0) (out .1) (out .2), omega arith, omega (arith, ones-empty))
 
 returns : tie.Need-returns
 returns c =
     let at-list = c .before .before .before .before .before in
-    let a = at-list .before .before .before .before .before .before .before .before .before .before .before in
+    let a = at-list .before .before .before .before .before .before .before .before .before .before in
     let out = at-list .list-entries .ensures in
     let same = kept-preds _ _ _ _ _ _ _ _ (a .pre .0) (a .pre .1) _ _ (out .0) (out .1) (out .2) in
     least-unknown _ _ _ _ _ _ _ _ (a .pre .0) _ (rw same at (c .before .predicate-step .ensures)) (c .if1 .taken)

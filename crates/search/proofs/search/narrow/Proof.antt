@@ -12,17 +12,18 @@ returns : tie.Need-returns
 unfolding predAt
 returns c =
     let at-shared = c .before in
-    let a = at-shared .before .before .before .before .before .before .before .before .before in
+    let a = at-shared .before .before .before .before .before .before .before .before in
     rw (row-hit _ (getD (a .args .listed .now) (a .args .j) 0) (a .args .set) (a .pre .1) _ (at-shared .shared .ensures) (c .if1 .taken)) refl
 
 returns-2 : tie.Need-returns-2
 unfolding predAt
 returns-2 c =
-    let at-shared = c .before .before .before .before .before in
-    let a = at-shared .before .before .before .before .before .before .before .before .before in
-    let miss = c .before .before .before .before .if1 .left in
+    let at-rest = c .before .before .before in
+    let at-shared = at-rest .before .before in
+    let a = at-shared .before .before .before .before .before .before .before .before in
+    let miss = at-rest .before .if1 .left in
     let row = getD (a .args .listed .now) (a .args .j) 0 in
-    row-narrow _ row (a .args .set) (a .pre .1) _ (at-shared .shared .ensures) miss _ refl _ _
+    row-narrow _ row (a .args .set) (a .pre .1) _ (at-shared .shared .ensures) miss _ _ (at-rest .rest-at .ensures .0) (at-rest .rest-at .ensures .1) _ _
     (rw (c .before .union .ensures) at (c .narrow-terms .ensures))
 
 pub narrow-spec : {M : Type 1} → statement M
@@ -36,11 +37,7 @@ narrow-spec =
     (λ c. search needs)
     (λ c κs. search needs)
     returns
-    (λ c. search needs)
-    (λ c. search needs)
-    (λ c. search needs)
-    (λ c. search needs)
-    (λ c. search needs)
+    (λ c κs. search needs)
     (λ c. search needs)
     (λ c. search needs)
     (λ c. search needs)

@@ -13,11 +13,11 @@ use Rattle.search.proofs.search.next_unexplained.Statement.{statement}
 use Rattle.search.proofs.search.next_unexplained.Tie as tie
 
 abbrev Inv-loop : tie.InvT-loop
-Inv-loop listed counts masks several rests singles n i set k₀ k =
-    (i ≤ k) × (k ≤ n) × (skipped set (drop k (preds n listed (rowsOf counts masks several rests singles))) ≡ skipped set (drop i (preds n listed (rowsOf counts masks several rests singles))))
+Inv-loop listed counts masks several singles n i set k₀ k =
+    (i ≤ k) × (k ≤ n) × (skipped set (drop k (preds n listed (rowsOf counts masks several singles))) ≡ skipped set (drop i (preds n listed (rowsOf counts masks several singles))))
 
 abbrev μ-loop : tie.MeasureT-loop
-μ-loop listed counts masks several rests singles n i set k₀ k = n - k
+μ-loop listed counts masks several singles n i set k₀ k = n - k
 
 loop-holds : tie.Need-loop-holds Inv-loop μ-loop
 loop-holds c = (le-refl _, search needs, refl)
@@ -25,7 +25,7 @@ loop-holds c = (le-refl _, search needs, refl)
 holds-at-requires : tie.Need-holds-at-requires Inv-loop μ-loop
 holds-at-requires c κs =
     let head = c .before in
-    let a = head .before .before .before .before .before .before .before in
+    let a = head .before .before .before .before .before .before in
     let rows = a .pre .0 in
     let h = c .loop-test .taken in
     (omega (arith, rows .listed-long), rows .parted (head .loop .k) h)
@@ -33,7 +33,7 @@ holds-at-requires c κs =
 returns : tie.Need-returns Inv-loop μ-loop
 returns c =
     let head = c .before .before .before in
-    let a = head .before .before .before .before .before .before .before .args in
+    let a = head .before .before .before .before .before .before .args in
     let k = head .loop .k in (
       head .loop .inv .0,
       head .loop .inv .1,
@@ -44,7 +44,7 @@ returns c =
 loop-again : tie.Need-loop-again Inv-loop μ-loop
 loop-again c =
     let head = c .before .before .before in
-    let a = head .before .before .before .before .before .before .before .args in
+    let a = head .before .before .before .before .before .before .args in
     let k = head .loop .k in (
       omega arith,
       omega arith,
@@ -55,7 +55,7 @@ loop-again c =
 returns-2 : tie.Need-returns-2 Inv-loop μ-loop
 returns-2 c =
     let head = c .before in
-    let a = head .before .before .before .before .before .before .before .args in (
+    let a = head .before .before .before .before .before .before .args in (
       omega arith,
       le-refl _,
       skip-done (a .n) (a .listed .now) _ (a .set) (head .loop .k) (c .loop-test .left) ∙ head .loop .inv .2,
