@@ -1,5 +1,5 @@
 #!/usr/bin/env bash
-# Compiles hand.c, compares it with the engine and prints the table of times. `run.sh quick` takes seconds; target/staticlib/libmonitor.a has to be there.
+# Compiles hand.c, compares it with the engine (target/staticlib/libmonitor.a) and prints the table of times. `run.sh quick` takes seconds.
 set -euo pipefail
 cd "$(dirname "$0")/../.."
 rounds=() batches=()
