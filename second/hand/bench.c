@@ -1,0 +1,231 @@
+/* How long each call takes, by the engine and by hand.c: a table in Markdown. `bench` is the full measure, `bench N` one of N rounds.
+ *
+ * The states are those of second/src/samples/loads.rs, from the same random numbers, and states whose terms are all single names. Engine and C
+ * run in turn in batches of about 20 microseconds; the numbers are medians for one call. */
+#define _POSIX_C_SOURCE 199309L
+#include <stdio.h>
+#include <stdlib.h>
+#include <time.h>
+
+#include "hand.h"
+#include "samples.h"
+
+#define STATES 8
+#define BATCH_NS 20000.0
+#define MOST_ROUNDS 100001
+
+/* ---- states */
+
+/* How full a state is to be, how many terms a message has at most, how many senders are far off, and whether terms are single names. */
+struct filling {
+    const char *name;
+    unsigned data, entries, terms, astray, single;
+};
+
+static const struct filling fillings[] = {
+    {"quiet", 3, 0, 1, 0, 0},
+    {"usual", 8, 4, 2, 1, 0},
+    {"full", MOST_DATA, MOST_ENTRIES, 7, 3, 0},
+    {"full, single names", MOST_DATA, MOST_ENTRIES, 7, 3, 1},
+};
+
+/* What a call is lent: a state, and a message that it has just received, so that receiving it again changes nothing. */
+struct load {
+    uint8_t state[MONITOR_STATE_BYTES], message[MONITOR_MESSAGE_BYTES], out[MONITOR_MESSAGE_BYTES];
+    size_t len;
+    uint64_t reading;
+};
+
+#define OWN 5u
+#define INSTANT UINT64_C(1000000000000)
+
+/* Any name but the own one. */
+static uint32_t other(struct source *r)
+{
+    return (uint32_t)(OWN + 1 + below(r, NAMES - 1)) % NAMES;
+}
+
+static uint32_t term(struct source *r, const struct filling *f)
+{
+    static const unsigned sizes[] = {1, 2, 2, 3};
+    unsigned size = f->single ? 1 : sizes[below(r, 4)];
+    uint32_t t = 0;
+    while (size-- > 0)
+        t |= 1u << other(r);
+    return t;
+}
+
+/* A message, and whether its sender is far off. */
+static int message(struct source *r, const struct filling *f, struct load *load)
+{
+    uint32_t sender = other(r), terms[DATUM_TERMS];
+    int astray = (sender + NAMES - OWN - 1) % NAMES < f->astray;
+    uint64_t centre = INSTANT + (astray ? UINT64_C(1000000) * (sender + 1) : 0);
+    centre += below(r, 100);
+    uint64_t low = 100 + below(r, 1000), high = 100 + below(r, 1000);
+    unsigned count = (unsigned)below(r, f->terms + 1);
+    for (unsigned i = 0; i < count; i++)
+        terms[i] = term(r, f);
+    struct message m = message_of(sender, centre - low, centre + high, terms, normal(terms, count), 0);
+    load->len = 4 * m.count;
+    memcpy(load->message, m.words, load->len);
+    return astray;
+}
+
+static uint32_t receive(uint8_t *state, const struct load *load)
+{
+    return monitor_receive(state, MONITOR_STATE_BYTES, 10, 60, load->message, load->len);
+}
+
+/* Whether a run of receipts comes to such a load. */
+static int reached(struct source *r, const struct filling *f, int far, struct load *load)
+{
+    uint8_t again[MONITOR_STATE_BYTES];
+    load->reading = 1000000;
+    monitor_set_up(load->state, sizeof load->state, OWN, 100, load->reading);
+    for (int i = 0; i < 60; i++) {
+        int astray = message(r, f, load);
+        receive(load->state, load);
+        memcpy(again, load->state, sizeof again);
+        int settled = receive(again, load) == 0 && memcmp(again, load->state, sizeof again) == 0;
+        if (settled && astray == far && get32(again + HELD_AT) == f->data && get32(again + KNOWN_AT) == f->entries)
+            return 1;
+    }
+    return 0;
+}
+
+static void make_loads(const struct filling *f, int far, struct load loads[STATES])
+{
+    unsigned made = 0;
+    for (uint64_t seed = 0; made < STATES; seed++) {
+        struct source r = {seed};
+        made += (unsigned)reached(&r, f, far, &loads[made]);
+    }
+}
+
+/* ---- calls */
+
+/* A call with its other arguments, by one of the two programs, and the number that it returns. */
+struct call {
+    const char *name;
+    uint32_t (*engine)(struct load *), (*hand)(struct load *);
+    uint32_t number;
+};
+
+/* Both programs' functions for a call on a load. */
+#define BY(name, ...)                             \
+    static uint32_t engine_##name(struct load *l) \
+    {                                             \
+        return monitor_##__VA_ARGS__;             \
+    }                                             \
+    static uint32_t by_hand_##name(struct load *l)\
+    {                                             \
+        return hand_##__VA_ARGS__;                \
+    }
+#define CALL(text, name, number) {text, engine_##name, by_hand_##name, number}
+
+BY(fresh, set_up(l->state, sizeof l->state, 3, 100, 7))
+BY(form, write(l->state, sizeof l->state, UINT64_MAX, l->out, sizeof l->out))
+BY(older, age(l->state, sizeof l->state, ++l->reading))
+BY(taken, receive(l->state, sizeof l->state, 10, 60, l->message, l->len))
+BY(ask0, ask(l->state, sizeof l->state, 0, l->out, MONITOR_ANSWER_BYTES))
+BY(ask1, ask(l->state, sizeof l->state, 1, l->out, MONITOR_ANSWER_BYTES))
+BY(ask2, ask(l->state, sizeof l->state, 2, l->out, MONITOR_ANSWER_BYTES))
+BY(ask3, ask(l->state, sizeof l->state, 3, l->out, MONITOR_ANSWER_BYTES))
+BY(ask4, ask(l->state, sizeof l->state, 4, l->out, MONITOR_ANSWER_BYTES))
+BY(least, fewest(l->state, sizeof l->state, l->out, MONITOR_FEWEST_BYTES))
+BY(written, write(l->state, sizeof l->state, 2, l->out, sizeof l->out))
+
+static const struct call set_up = CALL("set up", fresh, 0);
+static const struct call receiving = CALL("receive", taken, 0);
+static const struct call calls[] = {
+    CALL("form check", form, 23), CALL("age", older, 0), CALL("ask 0", ask0, 0), CALL("ask 1", ask1, 0),  CALL("ask 2", ask2, 0),
+    CALL("ask 3", ask3, 0),       CALL("ask 4", ask4, 0), CALL("fewest", least, 0), CALL("write", written, 0),
+};
+
+/* ---- times */
+
+static double now(void)
+{
+    struct timespec t;
+    clock_gettime(CLOCK_MONOTONIC, &t);
+    return 1e9 * (double)t.tv_sec + (double)t.tv_nsec;
+}
+
+/* The time of so many passes over the states, in nanoseconds. */
+static double time_of(uint32_t (*run)(struct load *), uint32_t number, struct load loads[STATES], unsigned passes)
+{
+    double begun = now();
+    for (unsigned pass = 0; pass < passes; pass++)
+        for (unsigned i = 0; i < STATES; i++)
+            if (run(&loads[i]) != number) {
+                printf("another number than %u\n", number);
+                exit(1);
+            }
+    return now() - begun;
+}
+
+/* So many passes that they take a batch's time; the first are slow, as nothing of theirs is in the caches yet. */
+static unsigned passes_of(uint32_t (*run)(struct load *), uint32_t number, struct load loads[STATES])
+{
+    unsigned passes = 1;
+    while (time_of(run, number, loads, passes) < BATCH_NS && passes < 1u << 20)
+        passes *= 2;
+    return passes;
+}
+
+static int rising(const void *a, const void *b)
+{
+    double x = *(const double *)a, y = *(const double *)b;
+    return (x > y) - (x < y);
+}
+
+static double median(double *times, unsigned rounds)
+{
+    qsort(times, rounds, sizeof *times, rising);
+    return times[rounds / 2];
+}
+
+/* Measures a call in all of the states, and prints its line. */
+static void line(const struct call *call, const char *state, const struct load loads[STATES], unsigned rounds)
+{
+    static struct load of_engine[STATES], of_hand[STATES];
+    static double engine[MOST_ROUNDS], hand[MOST_ROUNDS];
+    memcpy(of_engine, loads, sizeof of_engine);
+    memcpy(of_hand, loads, sizeof of_hand);
+    unsigned by_engine = passes_of(call->engine, call->number, of_engine);
+    unsigned by_hand = passes_of(call->hand, call->number, of_hand);
+    for (unsigned i = 0; i < rounds; i++) {
+        engine[i] = time_of(call->engine, call->number, of_engine, by_engine) / (by_engine * STATES);
+        hand[i] = time_of(call->hand, call->number, of_hand, by_hand) / (by_hand * STATES);
+    }
+    double e = median(engine, rounds), h = median(hand, rounds);
+    printf("| %s | %s | %.0f | %.0f | %.2f |\n", call->name, state, e, h, e / h);
+    fflush(stdout);
+}
+
+int main(int argc, char **argv)
+{
+    static struct load near[STATES], far[STATES];
+    long wanted = argc > 1 ? atol(argv[1]) : 1001;
+    unsigned rounds = wanted < 1 ? 1 : wanted > MOST_ROUNDS ? MOST_ROUNDS : (unsigned)wanted;
+    printf("| call | state | engine ns | C ns | engine / C |\n|---|---|---|---|---|\n");
+    make_loads(&fillings[0], 0, near);
+    line(&set_up, "any", near, rounds);
+    for (unsigned f = 0; f < sizeof fillings / sizeof *fillings; f++) {
+        char name[60];
+        make_loads(&fillings[f], 0, near);
+        for (unsigned c = 0; c < sizeof calls / sizeof *calls; c++) {
+            line(&calls[c], fillings[f].name, near, rounds);
+            if (c != 1)
+                continue;
+            line(&receiving, fillings[f].name, near, rounds);
+            if (fillings[f].entries == 0)
+                continue;
+            make_loads(&fillings[f], 1, far);
+            snprintf(name, sizeof name, "%s, far off", fillings[f].name);
+            line(&receiving, name, far, rounds);
+        }
+    }
+    return 0;
+}

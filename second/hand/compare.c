@@ -1,0 +1,509 @@
+/* Compares hand.c with the engine over seeded random calls: numbers, and every byte of state and output, guards around them too. `compare` is
+ * the full comparison, `compare N` one of N rounds. Fails at the first difference, and if a number of document 01's list was never seen. */
+#include <stdio.h>
+#include <stdlib.h>
+
+#include "hand.h"
+#include "samples.h"
+
+#define ROUNDS 100000
+#define GUARD 64
+#define BUFFER (GUARD + 8 + MONITOR_STATE_BYTES + 40 + GUARD)
+#define COUNT(array) (sizeof(array) / sizeof *(array))
+#define PICK(r, ...) (((const uint64_t[]){__VA_ARGS__})[below(r, COUNT(((const uint64_t[]){__VA_ARGS__})))])
+
+enum kind { SET_UP, AGE, RECEIVE, WRITE, ASK, FEWEST, KINDS };
+static const char *const kind_names[KINDS] = {"set_up", "age", "receive", "write", "ask", "fewest"};
+
+/* Document 01's numbers for each call; 0 is taken and stands first. */
+static const unsigned expected[KINDS][17] = {
+    {0, 1, 2, 3, 24},
+    {0, 3, 20, 24, 25, 30},
+    {0, 10, 11, 12, 13, 14, 15, 16, 17, 18, 21, 24, 25, 30, 31, 32},
+    {0, 23, 24, 25},
+    {0, 22, 24, 25},
+    {0, 24, 25},
+};
+
+static unsigned long seen[KINDS][64];
+static unsigned long answers[3], counts[6];
+
+/* ---- calls by both programs */
+
+/* Bytes lent to both, between filled guards and at any alignment. */
+struct lent {
+    uint8_t engine[BUFFER], hand[BUFFER], before[BUFFER];
+    size_t at, len;
+};
+
+/* A call with its arguments, the lent bytes aside. */
+struct call {
+    enum kind kind;
+    uint32_t own, drift;
+    uint64_t a, b; /* reading, delays, position or limit */
+    uint8_t message[200];
+    size_t len;
+};
+
+/* Lends a copy of the bytes to both; those around them are random. */
+static void lend(struct source *r, struct lent *l, const uint8_t *bytes, size_t count, size_t len)
+{
+    for (size_t i = 0; i < BUFFER; i += 8)
+        put64(l->before + (i + 8 <= BUFFER ? i : BUFFER - 8), bits(r));
+    l->at = GUARD + below(r, 8);
+    l->len = len;
+    memcpy(l->before + l->at, bytes, count);
+    memcpy(l->engine, l->before, BUFFER);
+    memcpy(l->hand, l->before, BUFFER);
+}
+
+static uint32_t by_engine(const struct call *c, uint8_t *state, size_t len, uint8_t *out, size_t out_len)
+{
+    switch (c->kind) {
+    case SET_UP:
+        return monitor_set_up(state, len, c->own, c->drift, c->a);
+    case AGE:
+        return monitor_age(state, len, c->a);
+    case RECEIVE:
+        return monitor_receive(state, len, c->a, c->b, c->message, c->len);
+    case WRITE:
+        return monitor_write(state, len, c->a, out, out_len);
+    case ASK:
+        return monitor_ask(state, len, c->a, out, out_len);
+    default:
+        return monitor_fewest(state, len, out, out_len);
+    }
+}
+
+static uint32_t by_hand(const struct call *c, uint8_t *state, size_t len, uint8_t *out, size_t out_len)
+{
+    switch (c->kind) {
+    case SET_UP:
+        return hand_set_up(state, len, c->own, c->drift, c->a);
+    case AGE:
+        return hand_age(state, len, c->a);
+    case RECEIVE:
+        return hand_receive(state, len, c->a, c->b, c->message, c->len);
+    case WRITE:
+        return hand_write(state, len, c->a, out, out_len);
+    case ASK:
+        return hand_ask(state, len, c->a, out, out_len);
+    default:
+        return hand_fewest(state, len, out, out_len);
+    }
+}
+
+static void differ(const struct call *c, uint64_t round, const char *what, uint32_t engine, uint32_t hand)
+{
+    printf("FAILED: round %llu, %s: %s, engine %u, C %u\n", (unsigned long long)round, kind_names[c->kind], what, engine, hand);
+    exit(1);
+}
+
+/* Runs a call in both programs, and compares. A refused call has changed nothing. */
+static uint32_t compare(uint64_t round, const struct call *c, struct lent *state, struct lent *out)
+{
+    uint32_t engine = by_engine(c, state->engine + state->at, state->len, out->engine + out->at, out->len);
+    uint32_t hand = by_hand(c, state->hand + state->at, state->len, out->hand + out->at, out->len);
+    if (engine != hand)
+        differ(c, round, "numbers", engine, hand);
+    for (size_t i = 0; i < BUFFER; i++) {
+        if (state->engine[i] != state->hand[i])
+            differ(c, round, "bytes of the state", state->engine[i], state->hand[i]);
+        if (out->engine[i] != out->hand[i])
+            differ(c, round, "bytes of the output", out->engine[i], out->hand[i]);
+    }
+    if (hand != 0 && (memcmp(state->before, state->hand, BUFFER) != 0 || memcmp(out->before, out->hand, BUFFER) != 0))
+        differ(c, round, "a refused call has changed bytes", engine, hand);
+    seen[c->kind][hand < 63 ? hand : 63]++;
+    if (c->kind == ASK && hand == 0)
+        answers[out->hand[out->at] % 3]++;
+    if (c->kind == FEWEST && hand == 0)
+        counts[out->hand[out->at] % 6]++;
+    return hand;
+}
+
+/* Lends a state of 3,032 bytes and an output to a call, seldom too few bytes of them, and keeps what it makes of the state. */
+static uint32_t run(struct source *r, uint64_t round, const struct call *c, uint8_t *state)
+{
+    static struct lent lent, out;
+    uint8_t filler[MONITOR_MESSAGE_BYTES] = {0};
+    size_t wanted = c->kind == WRITE ? MONITOR_MESSAGE_BYTES : c->kind == ASK ? MONITOR_ANSWER_BYTES : MONITOR_FEWEST_BYTES;
+    size_t len = once_in(r, 40) ? MONITOR_STATE_BYTES - 1 - below(r, PICK(r, 1, 4, 3000)) : MONITOR_STATE_BYTES + below(r, 9);
+    lend(r, &lent, state, MONITOR_STATE_BYTES, len);
+    lend(r, &out, filler, sizeof filler, once_in(r, 10) ? below(r, wanted) : wanted);
+    uint32_t number = compare(round, c, &lent, &out);
+    memcpy(state, lent.hand + lent.at, MONITOR_STATE_BYTES);
+    return number;
+}
+
+/* ---- what the calls are drawn from */
+
+/* Names below a number, and intervals that meet, contradict and better each other often; in places far from each other, if there are some. */
+struct world {
+    uint32_t own, drift, names;
+    uint64_t reading, base, span, places;
+    int crowded;
+};
+
+static struct world small_world(struct source *r)
+{
+    uint32_t names = (uint32_t)PICK(r, 3, 3, 4, 4, 5, 6, 9, NAMES);
+    uint64_t span = PICK(r, 6, 12, 12, 30, 1000);
+    return (struct world){
+        .own = (uint32_t)below(r, names),
+        .drift = (uint32_t)PICK(r, 0, 1, 100, below(r, 1001), MONITOR_GREATEST_DRIFT),
+        .names = names,
+        .reading = PICK(r, 0, 5, 1000000, MONITOR_GREATEST_READING - 3 * span),
+        .base = PICK(r, 0, 0, 0, 1 << 29, MONITOR_GREATEST_END - 3 * span),
+        .span = span,
+    };
+}
+
+static struct world crowded_world(struct source *r)
+{
+    return (struct world){
+        .own = (uint32_t)below(r, NAMES),
+        .drift = (uint32_t)PICK(r, 0, 1, 100),
+        .names = (uint32_t)PICK(r, 12, 20, NAMES),
+        .reading = below(r, 1000000),
+        .base = PICK(r, 0, 1 << 29, UINT64_C(1) << 40),
+        .span = 1000,
+        .places = PICK(r, 2, 3, 8, 9, 10),
+        .crowded = 1,
+    };
+}
+
+/* One to three names, now and then any of them. */
+static uint32_t any_term(struct source *r, uint32_t names)
+{
+    uint32_t t = 0;
+    if (once_in(r, 12))
+        return (uint32_t)below(r, UINT64_C(1) << names);
+    for (uint64_t size = PICK(r, 1, 1, 2, 2, 3); size > 0; size--)
+        t |= 1u << below(r, names);
+    return t;
+}
+
+/* A normal form of at most so many terms, none of them empty or with a name of these. */
+static unsigned any_terms(struct source *r, uint32_t names, uint32_t without, unsigned most, uint32_t *terms)
+{
+    unsigned count = (unsigned)PICK(r, 0, 1, 2, below(r, most), most, 2 * most), kept = 0;
+    for (unsigned i = 0; i < count; i++) {
+        uint32_t t = any_term(r, names) & ~without;
+        terms[kept] = t;
+        kept += t != 0;
+    }
+    kept = normal(terms, kept);
+    for (; kept > most; kept--)
+        terms[below(r, kept)] = terms[kept - 1];
+    return normal(terms, kept);
+}
+
+/* Ends near those of a held datum. */
+static void near_ends(struct source *r, const uint8_t *state, uint64_t *left, uint64_t *right)
+{
+    const uint8_t *datum = state + DATA_AT + DATUM * below(r, get32(state + HELD_AT));
+    uint64_t low = PICK(r, 0, 0, 1, 2), high = PICK(r, 0, 0, 1, 2), from = get64(datum), to = get64(datum + 8);
+    switch (below(r, 4)) {
+    case 0:
+        *left = from > low ? from - low : 0;
+        *right = to + high;
+        break;
+    case 1:
+        *left = from + low;
+        *right = to > high ? to - high : 0;
+        break;
+    case 2:
+        *left = to + low;
+        *right = to + low + high;
+        break;
+    default:
+        *left = from > low + high ? from - low - high : 0;
+        *right = from > low ? from - low : 0;
+    }
+}
+
+static void any_ends(struct source *r, const struct world *w, const uint8_t *state, uint64_t *left, uint64_t *right)
+{
+    uint64_t reading = get64(state + READING_AT), from = w->base + (reading > w->reading ? reading - w->reading : 0);
+    uint32_t held = get32(state + HELD_AT);
+    if (held > 0 && held <= MOST_DATA && once_in(r, 4)) {
+        near_ends(r, state, left, right);
+    } else if (w->crowded) {
+        uint64_t place = below(r, w->places);
+        *left = from + 100 * place + below(r, 20);
+        *right = *left + PICK(r, 40, 50, below(r, 60), 100 * below(r, w->places), 5000);
+    } else {
+        *left = from + below(r, w->span);
+        *right = *left + below(r, PICK(r, 1, 4, w->span));
+    }
+    if (*right > MONITOR_GREATEST_END)
+        *right = MONITOR_GREATEST_END;
+    if (*left > *right)
+        *left = *right;
+}
+
+/* One damage to the words: a bit, a kind, a payload, one lost, doubled or moved, or the length. */
+static void damage_words(struct source *r, struct message *m)
+{
+    unsigned one = (unsigned)below(r, m->count), other = (unsigned)below(r, m->count);
+    uint32_t word = m->words[one];
+    switch (below(r, 7)) {
+    case 0:
+        m->words[one] ^= 1u << below(r, 32);
+        break;
+    case 1:
+        m->words[one] = (uint32_t)below(r, 8) << 29 | (word & PAYLOAD);
+        break;
+    case 2:
+        m->words[one] = (word & ~PAYLOAD) | (bits(r) & PAYLOAD);
+        break;
+    case 3:
+        m->words[one] = m->words[other];
+        m->words[other] = word;
+        break;
+    case 4:
+        m->count = (unsigned)below(r, 22);
+        break;
+    case 5:
+        m->words[0] = (word & ~1023u) | (uint32_t)below(r, 1024);
+        break;
+    default:
+        memmove(m->words + one + 1, m->words + one, 4 * (m->count - one));
+        m->count++;
+    }
+    if (m->count > 0 && !once_in(r, 4))
+        correct(m);
+}
+
+/* A message of this world, damaged now and then, in bytes that are seldom not a multiple of 4. */
+static void any_message(struct source *r, const struct world *w, const uint8_t *state, struct call *c)
+{
+    uint32_t terms[2 * ENTRY_TERMS], sender = (uint32_t)below(r, w->names), held = get32(state + HELD_AT);
+    uint64_t left, right;
+    unsigned count = any_terms(r, w->names, 0, DATUM_TERMS, terms);
+    if (sender == get32(state) && !once_in(r, 6))
+        sender = (sender + 1) % w->names;
+    if (held > 0 && held <= MOST_DATA && once_in(r, 8)) {
+        /* the predicate of a held datum: the sender goes into a term of its own */
+        const uint8_t *row = state + DATA_AT + DATUM * below(r, held) + 16;
+        count = get32(row) % (DATUM_TERMS + 1);
+        memcpy(terms, row + 4, 4 * count);
+        for (unsigned i = 0; i < count; i++)
+            if (terms[i] != 0 && terms[i] < 1u << NAMES && (terms[i] & (terms[i] - 1)) == 0)
+                sender = (uint32_t)__builtin_ctz(terms[i]);
+    }
+    if (once_in(r, 30)) {
+        terms[0] = 0;
+        count = (unsigned)below(r, 3);
+    }
+    any_ends(r, w, state, &left, &right);
+    struct message m = message_of(sender, left, right, terms, count, once_in(r, 2));
+    for (uint64_t damages = PICK(r, 0, 0, 0, 0, 0, 0, 0, 0, 1, 2); damages > 0 && m.count > 0; damages--)
+        damage_words(r, &m);
+    c->len = 4 * m.count;
+    memcpy(c->message, m.words, c->len);
+    if (c->len > 3 && once_in(r, 60))
+        c->len -= 1 + below(r, 3);
+}
+
+static struct call any_call(struct source *r, const struct world *w, const uint8_t *state)
+{
+    struct call c = {.kind = (enum kind)PICK(r, RECEIVE, RECEIVE, RECEIVE, RECEIVE, RECEIVE, RECEIVE, AGE, WRITE, ASK, ASK, FEWEST)};
+    uint64_t reading = get64(state + READING_AT), most = w->span / 6 + 1;
+    switch (c.kind) {
+    case RECEIVE:
+        c.a = PICK(r, 0, 0, below(r, most));
+        c.b = c.a + below(r, most);
+        if (once_in(r, 30)) {
+            c.a = PICK(r, c.b, c.b + 1, bits(r));
+            c.b = PICK(r, c.b, MONITOR_GREATEST_DELAY, MONITOR_GREATEST_DELAY + 1, UINT64_MAX);
+        }
+        any_message(r, w, state, &c);
+        break;
+    case AGE:
+        c.a = PICK(r, reading, reading + 1, reading + below(r, w->span), reading + below(r, 3000000), reading - 1,
+                   reading + below(r, UINT64_C(1) << 50), MONITOR_GREATEST_READING, MONITOR_GREATEST_READING + 1, bits(r));
+        if (!once_in(r, 8))
+            c.a = reading + below(r, w->span);
+        break;
+    case WRITE:
+        c.a = PICK(r, below(r, MOST_DATA + 1), below(r, 4), 0, UINT64_C(1) << 32, UINT64_MAX);
+        break;
+    default:
+        c.a = PICK(r, 0, 1, 2, 2, 3, 3, 4, 4, 4, 5, UINT64_C(1) << 32, bits(r));
+    }
+    return c;
+}
+
+static struct call any_set_up(struct source *r)
+{
+    return (struct call){
+        .kind = SET_UP,
+        .own = (uint32_t)PICK(r, 0, 2, 28, 28, 29, 256, bits(r)),
+        .drift = (uint32_t)PICK(r, 0, 1, 1000, 1000, 1001, 65536, bits(r)),
+        .a = PICK(r, 0, 9, MONITOR_GREATEST_READING, MONITOR_GREATEST_READING + 1, UINT64_MAX),
+    };
+}
+
+/* ---- states */
+
+static void put_terms(struct source *r, uint8_t *row, uint32_t names, uint32_t own, unsigned most)
+{
+    uint32_t terms[2 * ENTRY_TERMS];
+    unsigned count = any_terms(r, names, 1u << own, most, terms);
+    if (count == 0)
+        terms[count++] = 1u << (own + 1 + below(r, NAMES - 1)) % NAMES;
+    put32(row, count);
+    memcpy(row + 4, terms, 4 * count);
+}
+
+/* One more name that makes every entry true, so that few failures often explain all; it is left out where it is the highest of 17 terms. */
+static void add_suspect(uint8_t *state, uint32_t name)
+{
+    for (uint32_t i = 0; i < get32(state + KNOWN_AT); i++) {
+        uint8_t *row = state + ENTRIES_AT + ENTRY * i;
+        uint32_t terms[ENTRY_TERMS + 1], count = get32(row);
+        memcpy(terms, row + 4, 4 * count);
+        terms[count] = name;
+        count = normal(terms, count + 1);
+        memset(row, 0, ENTRY);
+        put32(row, count > ENTRY_TERMS ? ENTRY_TERMS : count);
+        memcpy(row + 4, terms, 4 * get32(row));
+    }
+}
+
+/* Any state in form: runs reach few of them. */
+static void any_state(struct source *r, uint8_t *state)
+{
+    uint32_t own = (uint32_t)below(r, NAMES), names = (uint32_t)PICK(r, 3, 4, 5, 8, 12, NAMES);
+    uint32_t held = (uint32_t)PICK(r, 0, 1, 3, below(r, 17), 15, 16), known = (uint32_t)PICK(r, 0, 0, 1, 3, below(r, 33), 31, 32);
+    uint64_t span = PICK(r, 10, 40, 1000, MONITOR_GREATEST_END), base = span < 1001 ? PICK(r, 0, 1 << 29, MONITOR_GREATEST_END - 1000) : 0;
+    memset(state, 0, MONITOR_STATE_BYTES);
+    put32(state, own);
+    put32(state + 4, (uint32_t)PICK(r, 0, 1, 100, 1000));
+    put64(state + READING_AT, PICK(r, 0, 7, below(r, MONITOR_GREATEST_READING), MONITOR_GREATEST_READING - 5, MONITOR_GREATEST_READING));
+    put32(state + HELD_AT, held);
+    put32(state + KNOWN_AT, known);
+    for (uint32_t i = 0; i < held; i++) {
+        uint8_t *datum = state + DATA_AT + DATUM * i;
+        uint64_t one = below(r, span), other = below(r, span);
+        put64(datum, base + (one < other ? one : other));
+        put64(datum + 8, base + (one < other ? other : one));
+        put_terms(r, datum + 16, names, own, DATUM_TERMS);
+    }
+    for (uint32_t i = 0; i < known; i++)
+        put_terms(r, state + ENTRIES_AT + ENTRY * i, names, own, ENTRY_TERMS);
+    if (once_in(r, 2))
+        add_suspect(state, 1u << (own + 1 + below(r, NAMES - 1)) % NAMES);
+}
+
+/* One damage, in the head, in a row in use or anywhere; the state may stay in form. */
+static void damage_state(struct source *r, uint8_t *state)
+{
+    size_t data = DATUM * (1 + get32(state + HELD_AT) % MOST_DATA), entries = ENTRY * (1 + get32(state + KNOWN_AT) % MOST_ENTRIES);
+    size_t at = PICK(r, below(r, DATA_AT), DATA_AT + below(r, data), ENTRIES_AT + below(r, entries), below(r, MONITOR_STATE_BYTES));
+    size_t word = at / 4 * 4, from = below(r, MONITOR_STATE_BYTES / 4) * 4;
+    uint32_t x = get32(state + word);
+    switch (below(r, 6)) {
+    case 0:
+        state[at] ^= (uint8_t)(1u << below(r, 8));
+        break;
+    case 1:
+        put32(state + word, x + (uint32_t)PICK(r, 1, UINT32_MAX));
+        break;
+    case 2:
+        put32(state + word, (uint32_t)PICK(r, 0, 1, below(r, 34), 1u << 28, 1u << 29, UINT32_MAX));
+        break;
+    case 3:
+        put32(state + word, x ^ 1u << below(r, NAMES));
+        break;
+    case 4:
+        put32(state + word, get32(state + from));
+        break;
+    default:
+        put32(state + (word + 4 < MONITOR_STATE_BYTES ? word + 4 : word), x);
+    }
+}
+
+/* ---- rounds */
+
+/* A run after a set up, with ageings, questions and refusals in between. */
+static void long_run(struct source *r, uint64_t round)
+{
+    uint8_t state[MONITOR_STATE_BYTES], damaged[MONITOR_STATE_BYTES];
+    struct world w = once_in(r, 2) ? crowded_world(r) : small_world(r);
+    struct call first = {.kind = SET_UP, .own = w.own, .drift = w.drift, .a = w.reading}, other = any_set_up(r);
+    memset(state, 7, sizeof state);
+    run(r, round, &other, state);
+    while (run(r, round, &first, state) != 0)
+        ;
+    for (uint64_t steps = PICK(r, 10, 30, 60, 120); steps > 0; steps--) {
+        struct call c = any_call(r, &w, state);
+        run(r, round, &c, state);
+        if (once_in(r, 6)) {
+            memcpy(damaged, state, sizeof state);
+            damage_state(r, damaged);
+            c = any_call(r, &w, damaged);
+            run(r, round, &c, damaged);
+        }
+    }
+}
+
+/* A few calls in a state in form that no run reaches, and in damaged copies of it. */
+static void any_state_round(struct source *r, uint64_t round)
+{
+    uint8_t state[MONITOR_STATE_BYTES], copy[MONITOR_STATE_BYTES];
+    any_state(r, state);
+    struct world w = small_world(r);
+    w.own = get32(state);
+    w.reading = get64(state + READING_AT);
+    if (get32(state + HELD_AT) > 0)
+        w.base = get64(state + DATA_AT);
+    for (int i = 0; i < 10; i++) {
+        memcpy(copy, state, sizeof copy);
+        for (uint64_t damages = PICK(r, 0, 0, 1, 2); damages > 0; damages--)
+            damage_state(r, copy);
+        struct call c = any_call(r, &w, copy);
+        run(r, round, &c, copy);
+    }
+}
+
+static int report(void)
+{
+    int missing = 0;
+    unsigned long all = 0;
+    for (int k = 0; k < KINDS; k++) {
+        printf("%-8s", kind_names[k]);
+        for (unsigned n = 0; n < 64; n++) {
+            all += seen[k][n];
+            if (seen[k][n] > 0)
+                printf(" %u: %lu,", n, seen[k][n]);
+        }
+        printf("\n");
+        for (unsigned i = 0; i < COUNT(expected[k]) && (i == 0 || expected[k][i] > 0); i++)
+            if (seen[k][expected[k][i]] == 0) {
+                printf("FAILED: %s never returned %u\n", kind_names[k], expected[k][i]);
+                missing = 1;
+            }
+    }
+    printf("answers: contradicted %lu, open %lu, between %lu\n", answers[0], answers[1], answers[2]);
+    printf("fewest: 0 %lu, 1 %lu, 2 %lu, 3 %lu, 4 %lu, over %lu\n", counts[0], counts[1], counts[2], counts[3], counts[4], counts[5]);
+    for (int i = 0; i < 6; i++)
+        missing |= (i < 3 && answers[i] == 0) || counts[i] == 0;
+    printf("%lu calls compared, %s\n", all, missing ? "but not all that was to be seen was" : "no difference");
+    return missing;
+}
+
+int main(int argc, char **argv)
+{
+    unsigned long rounds = argc > 1 ? strtoul(argv[1], NULL, 10) : ROUNDS;
+    for (uint64_t round = 0; round < rounds; round++) {
+        struct source r = {round};
+        if (once_in(&r, 2))
+            long_run(&r, round);
+        else
+            any_state_round(&r, round);
+    }
+    return report();
+}
