@@ -92,7 +92,7 @@ fn plain(s: &[u8]) -> Answer
 }
 
 // Whether an instant counts where no name has failed.
-pub fn agree(s: &[u8]) -> bool
+pub(crate) fn agree(s: &[u8]) -> bool
     requires { ⌜ (stateSize ≤ length (now s)) × T (inForm (now s)) ⌝ }
     ensures { λ r. ⌜ r ≡ notContradicted (answer 0 (stateOf (now (s .entry)))) ⌝ }
 {
@@ -264,7 +264,7 @@ fn ask_many(s: &[u8], limit: u32, n: usize, rows: usize) -> Answer
 }
 
 // Whether the entries tell by themselves that no set within the limit makes all of them true.
-pub fn hopeless(s: &[u8], n: usize, limit: u32) -> bool
+pub(crate) fn hopeless(s: &[u8], n: usize, limit: u32) -> bool
     requires { ⌜ (stateSize ≤ length (now s)) × T (inForm (now s)) × (n ≡ entryCount (now s)) ⌝ }
     ensures { λ r. ⌜ r ≡ Claims·hopeless limit (stateOf (now (s .entry))) ⌝ }
 {

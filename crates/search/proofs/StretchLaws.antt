@@ -278,3 +278,16 @@ module _ (n rows : ℕ) (lefts rights : List ℕ) (table : Rows) (order : List �
         back-stop r b h =
             back-first (λ k a c d. stretch-fails from x (stretch-part from found (first .stretch some) x (last .over) (omega (arith, last-lt)))
             (first .earlier some) (no-set small x r b h) k a c (omega (arith, last .most k a c (omega arith))))
+
+-- no left end behind it belongs to the stretch: a right end would stand between
+pub stretch-last : (n rows : ℕ) (lefts rights : List ℕ) (x roof r : ℕ) → Next rights n rows x roof → Last lefts n rows x roof r
+    → ((k : ℕ) → getD lefts k 0 ≤ noEnd) → (y : ℕ) → IsEnd n rows lefts y → Unbroken n rows rights x y → y ≤ r
+stretch-last n rows lefts rights x roof r next last fits y (k, a, b, e) u = omega (arith, last .most k a b (omega (arith, e, under (next .one))))
+  where
+    under : (roof ≡ noEnd) ⊎ ((j : ℕ) × (n ≤ j) × (j < rows) × (roof ≡ getD rights j 0) × (x ≤ roof)) → y ≤ roof
+    under (inl z) = omega (arith, fits k)
+    under (inr w) = go (decLt roof y)
+      where
+        go : Dec (roof < y) → y ≤ roof
+        go (no l) = omega arith
+        go (yes l) = absurd (omega (arith, u .clear (w .0) (w .1) (w .2) (omega (arith, w .3)), w .3, w .4))

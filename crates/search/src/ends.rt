@@ -20,14 +20,14 @@ pub struct Reached {
 
 // A stretch of left ends with no right end between them: its first and its last end, and the set that explains the last; 2^29 where no stretch has
 // one.
-pub struct Stretch {
+struct Stretch {
     pub from: u64,
     pub end: u64,
     pub set: u32,
 }
 
 // The least of the ends in places `from` to `to` that is no less than the floor; 2^64 - 1 where there is none.
-pub fn next_end(ends: &[u64], from: usize, to: usize, floor: u64) -> u64
+pub(crate) fn next_end(ends: &[u64], from: usize, to: usize, floor: u64) -> u64
     requires { ⌜ (from ≤ to) × (to ≤ length (now ends)) ⌝ }
     ensures { λ r. ⌜ Next (now (ends .entry)) from to floor r ⌝ }
 {
@@ -44,7 +44,7 @@ pub fn next_end(ends: &[u64], from: usize, to: usize, floor: u64) -> u64
 }
 
 // The greatest of the ends in places `from` to `to` that lies from the floor to the roof; the floor where there is none.
-pub fn last_end(ends: &[u64], from: usize, to: usize, floor: u64, roof: u64) -> u64
+fn last_end(ends: &[u64], from: usize, to: usize, floor: u64, roof: u64) -> u64
     requires { ⌜ (from ≤ to) × (to ≤ length (now ends)) ⌝ }
     ensures { λ r. ⌜ Last (now (ends .entry)) from to floor roof r ⌝ }
 {
@@ -61,16 +61,17 @@ pub fn last_end(ends: &[u64], from: usize, to: usize, floor: u64, roof: u64) -> 
 }
 
 // The last end of the stretch that the left end x begins.
-pub fn stretch_end(lefts: &[u64], rights: &[u64], n: usize, rows: usize, x: u64) -> u64
+pub(crate) fn stretch_end(lefts: &[u64], rights: &[u64], n: usize, rows: usize, x: u64) -> u64
     requires { ⌜ (n ≤ rows) × (rows ≤ length (now lefts)) × (rows ≤ length (now rights)) ⌝ }
-    ensures { λ r. ⌜ Unbroken n rows (now (rights .entry)) x r × ((r ≡ x) ⊎ IsEnd n rows (now (lefts .entry)) r) ⌝ }
+    ensures { λ r. ⌜ Unbroken n rows (now (rights .entry)) x r × ((r ≡ x) ⊎ IsEnd n rows (now (lefts .entry)) r)
+        × ((y : ℕ) → IsEnd n rows (now (lefts .entry)) y → Unbroken n rows (now (rights .entry)) x y → y ≤ r) ⌝ }
 {
     let roof = next_end(rights, n, rows, x);
     last_end(lefts, n, rows, x, roof)
 }
 
 // Lists, in the order of the search, the rows whose interval lacks the instant x. Answers how many.
-pub fn list_outside(
+pub(crate) fn list_outside(
     order: &[u32],
     rows: usize,
     lefts: &[u64],
@@ -97,7 +98,7 @@ pub fn list_outside(
 }
 
 // Lists, in the order of the search, the first n rows: the entries. Answers how many.
-pub fn list_entries(order: &[u32], rows: usize, n: usize, listed: &mut [u32]) -> usize
+pub(crate) fn list_entries(order: &[u32], rows: usize, n: usize, listed: &mut [u32]) -> usize
     requires { ⌜ (rows ≤ rowsMost) × (rows ≤ length (now order)) × (rows ≤ length (now listed))
         × ((j : ℕ) → j < rows → getD (now order) j 0 < rows) ⌝ }
     ensures { λ r. ⌜ (let kept : List ℕ = keep (λ k. ltb k n) (take rows (now (order .entry))) in

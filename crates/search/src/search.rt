@@ -14,7 +14,7 @@ ghost use Rattle.predicates.specs.Predicates.{holds as Predicates·holds};
 ghost use Rattle.search.specs.code.Search.{Rows, rowsOf, rowWidth, Best, RowsFit, rowTerms, Parted, predAt, preds, skipped, gather, alone};
 
 // The lesser of two masks.
-pub fn lesser(a: u32, b: u32) -> u32
+fn lesser(a: u32, b: u32) -> u32
     ensures { λ r. ⌜ r ≡ min a b ⌝ }
 {
     if a < b {
@@ -24,13 +24,13 @@ pub fn lesser(a: u32, b: u32) -> u32
 }
 
 // Where the terms of a predicate stand in the array.
-pub struct Part {
+pub(crate) struct Part {
     pub at: usize,
     pub end: usize,
 }
 
 // Where the terms of the predicate at place j stand.
-pub fn terms_at(listed: &[u32], counts: &[u32], masks: &[u32], j: usize) -> Part
+pub(crate) fn terms_at(listed: &[u32], counts: &[u32], masks: &[u32], j: usize) -> Part
     requires { ⌜ (let row : ℕ = getD (now listed) j 0 in
         (j < length (now listed)) × (row < length (now counts)) × (row * rowWidth + getD (now counts) row 0 ≤ length (now masks))) ⌝ }
     ensures { λ r. ⌜ (let row : ℕ = getD (now (listed .entry)) j 0 in
@@ -55,7 +55,7 @@ fn rest_at(counts: &[u32], masks: &[u32], several: &[u32], row: usize) -> Part
 }
 
 // Whether the set makes the predicate of the row true: it has a name that is a term, or one of the terms of several names.
-pub fn row_holds(
+pub(crate) fn row_holds(
     counts: &[u32],
     masks: &[u32],
     several: &[u32],
@@ -247,7 +247,7 @@ fn last_name(
 }
 
 // Whether a term may lead to a set below `best`: its names are in the set or free, and joined with the set they are within the limit.
-pub fn worth(t: u32, set: u32, free: u32, limit: u32, best: u32) -> bool
+pub(crate) fn worth(t: u32, set: u32, free: u32, limit: u32, best: u32) -> bool
     ensures { λ r. ⌜ r ≡ subset t (union set free) && (ltb (union set t) best && leb (ones (union set t)) limit) ⌝ }
 {
     let wider = names::union(set, t);
@@ -261,7 +261,7 @@ pub fn worth(t: u32, set: u32, free: u32, limit: u32, best: u32) -> bool
 }
 
 // What is free once a term was tried: where it adds one name to the set, that name no more.
-pub fn freed(t: u32, set: u32, free: u32) -> u32
+pub(crate) fn freed(t: u32, set: u32, free: u32) -> u32
     ensures { λ r. ⌜ r ≡ cond (eqb (ones (union set t)) (ones set + 1)) (minus free t) free ⌝ }
 {
     let added = names::minus(t, set);
@@ -337,7 +337,7 @@ pub fn predicate_step(
 }
 
 // The best of the sets that hold one of the terms in masks[at..end] and make the predicates after i true.
-pub fn term_step(
+fn term_step(
     listed: &[u32],
     counts: &[u32],
     masks: &[u32],
