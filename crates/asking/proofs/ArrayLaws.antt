@@ -5,13 +5,12 @@
 use Prim.Native.Nat.{ℕ, _+_, _-_, _≤_, _<_}
 use mathlib.Core.Path.{_≡_, sym, ap, _∙_}
 use mathlib.Core.Bool.{Bool, true, false, _&&_, not}
-use mathlib.Core.List.{List, [], _++_, map}
+use mathlib.Core.List.{List, [], map}
 use native.Mathlib.Decide.{decLt, decLe}
 use native.Mathlib.Omega.{arith}
 use borrow.Author.Tests.{le-leb, lt-leb}
 use lib.Dec.{T, not-T, leb, leb→le}
-use lib.ListN.{length, getD, take, length-map, List·getD-append}
-use lib.Seq.{getD-append-add}
+use lib.ListN.{length, getD, take}
 use Rattle.numbers.specs.Numbers.{tab}
 use Rattle.numbers.proofs.NumberLaws.{length-tab, getD-tab}
 use Rattle.names.specs.Sets.{subset, union}
@@ -26,10 +25,11 @@ use Rattle.state.proofs.LayoutLaws.{all-tab}
 use Rattle.asking.specs.Instants.{Allowed}
 use Rattle.asking.specs.code.Claims.{inside, neededAt, everything}
 use Rattle.search.specs.code.Search.{Rows, Fits, RowsFit, rowTerms, predAt, preds}
-use Rattle.claims.specs.code.Tables.{entryClaim, claimsOf, claimAt, Loaded, Bounded}
+use Rattle.claims.specs.code.Tables.{entryClaim, claimAt, Loaded, Bounded}
+use Rattle.claims.proofs.TableLaws.{claim-entry, claim-datum}
 use Rattle.search.specs.code.LeftEnds.{outside, needs, Complete}
 use Rattle.asking.proofs.ClaimLaws.{claims-in, claims-out}
-use Rattle.predicates.proofs.IndexLaws.{in-take, take-in, at-in, getD-map, in-at}
+use Rattle.predicates.proofs.IndexLaws.{in-take, take-in, at-in, in-at}
 
 -- ---- sets
 
@@ -54,17 +54,6 @@ module _ (k : Store) where
   abbrev entries : List (List ℕ)
   entries = k .entries
 
-  pub claim-entry : (i : ℕ) → i < length entries → claimAt k i ≡ entryClaim (getD entries i [])
-  unfolding claimAt claimsOf
-  claim-entry i h =
-      List·getD-append (map entryClaim entries) (k .held) (entryClaim []) i (rw length-map h) ∙ getD-map entryClaim entries [] (entryClaim []) i h
-
-  pub claim-datum : (i : ℕ) → claimAt k (length entries + i) ≡ getD (k .held) i (entryClaim [])
-  unfolding claimAt claimsOf
-  claim-datum i =
-      ap (λ (n : ℕ). getD (map entryClaim entries ++ k .held) (n + i) (entryClaim [])) (sym (length-map entries entryClaim))
-      ∙ getD-append-add (map entryClaim entries) (k .held) i (entryClaim [])
-
   -- no instant is in the interval of an entry
   entry-outside : (x : ℕ) (e : List ℕ) → T (not (inside x (entryClaim e)))
   unfolding inside
@@ -82,10 +71,10 @@ module _ (k : Store) where
         parts = claims-out f entries (k .held) h
 
         go : Dec (i < length entries) → T (f (claimAt k i .terms))
-        go (yes a) = rw (claim-entry i a) (all-out f entries (parts .0) (getD entries i []) (at-in entries [] i a))
+        go (yes a) = rw (claim-entry k i a) (all-out f entries (parts .0) (getD entries i []) (at-in entries [] i a))
         go (no a) =
             let place : i ≡ length entries + (i - length entries) = omega arith in
-            let same : claimAt k i ≡ getD (k .held) (i - length entries) (entryClaim []) = ap (claimAt k) place ∙ claim-datum (i - length entries) in
+            let same : claimAt k i ≡ getD (k .held) (i - length entries) (entryClaim []) = ap (claimAt k) place ∙ claim-datum k (i - length entries) in
             rw same (parts .1 _ (at-in (k .held) (entryClaim []) (i - length entries) (omega arith)))
 
     pub at-everything : ((i : ℕ) → i < rows → T (f (claimAt k i .terms))) → T (all f (everything k))
@@ -95,13 +84,13 @@ module _ (k : Store) where
         entry : (e : List ℕ) → In e entries → T (f e)
         entry e m =
             let w = in-at entries [] e m in
-            let t : T (f (getD entries (w .0) [])) = rw (claim-entry (w .0) (w .1)) at (g (w .0) (omega (arith, w .1))) in
+            let t : T (f (getD entries (w .0) [])) = rw (claim-entry k (w .0) (w .1)) at (g (w .0) (omega (arith, w .1))) in
             rw (w .2) t
 
         datum : (d : Datum) → In d (k .held) → T (f (d .terms))
         datum d m =
             let w = in-at (k .held) (entryClaim []) d m in
-            let c : claimAt k (length entries + w .0) ≡ d = claim-datum (w .0) ∙ sym (w .2) in
+            let c : claimAt k (length entries + w .0) ≡ d = claim-datum k (w .0) ∙ sym (w .2) in
             rw c at (g (length entries + w .0) (omega (arith, w .1)))
 
   module _ (rows : ℕ) (r : rows ≡ length entries + length (k .held)) (u : ℕ) where
@@ -117,10 +106,10 @@ module _ (k : Store) where
         parts = claims-out (holds u) entries (keep (λ d. not (inside y d)) (k .held)) h
 
         go : Dec (i < length entries) → T (not (inside y (claimAt k i))) → T (holds u (claimAt k i .terms))
-        go (yes a) = rw (claim-entry i a) (λ _. all-out (holds u) entries (parts .0) (getD entries i []) (at-in entries [] i a))
+        go (yes a) = rw (claim-entry k i a) (λ _. all-out (holds u) entries (parts .0) (getD entries i []) (at-in entries [] i a))
         go (no a) =
             let place : i ≡ length entries + (i - length entries) = omega arith in
-            let same : claimAt k i ≡ getD (k .held) (i - length entries) (entryClaim []) = ap (claimAt k) place ∙ claim-datum (i - length entries) in
+            let same : claimAt k i ≡ getD (k .held) (i - length entries) (entryClaim []) = ap (claimAt k) place ∙ claim-datum k (i - length entries) in
             rw same (λ o. parts .1 _ (keep-in (λ d. not (inside y d)) (k .held) _ (at-in (k .held) (entryClaim []) (i - length entries) (omega arith)) o))
 
     pub each-needed : (y : ℕ) → Each y → T (all (holds u) (neededAt y k))
@@ -132,14 +121,14 @@ module _ (k : Store) where
         entry : (e : List ℕ) → In e entries → T (holds u e)
         entry e m =
             let w = in-at entries [] e m in
-            let c = claim-entry (w .0) (w .1) in
+            let c = claim-entry k (w .0) (w .1) in
             let t : T (not (inside y (entryClaim (getD entries (w .0) [])))) → T (holds u (getD entries (w .0) [])) = rw c at (f (w .0) (omega (arith, w .1))) in
             rw (w .2) (t (entry-outside y (getD entries (w .0) [])))
 
         datum : (d : Datum) → In d (k .held) × T (not (inside y d)) → T (holds u (d .terms))
         datum d m =
             let w = in-at (k .held) (entryClaim []) d (m .0) in
-            let c : claimAt k (length entries + w .0) ≡ d = claim-datum (w .0) ∙ sym (w .2) in
+            let c : claimAt k (length entries + w .0) ≡ d = claim-datum k (w .0) ∙ sym (w .2) in
             (rw c at (f (length entries + w .0) (omega (arith, w .1)))) (m .1)
 
     pub everything-each : T (all (holds u) (everything k)) → (i : ℕ) → i < rows → T (holds u (claimAt k i .terms))

@@ -31,11 +31,12 @@ use Rattle.search.specs.code.Search.{Rows, Fits, Best, preds}
 use Rattle.claims.specs.code.Tables.{entryClaim, claimAt, Loaded, Bounded, claimLeft, claimRight}
 use Rattle.search.specs.code.LeftEnds.{outside, Ready, needs, FirstEnd, Complete}
 use Rattle.claims.proofs.TableLaws.{bounded-in}
-use Rattle.asking.proofs.ReadyLaws.{ready-in, rows-most, ends-below}
+use Rattle.claims.proofs.ReadyLaws.{ready-in, rows-most, ends-below}
 use Rattle.asking.proofs.PlainLaws.{plain-contradicted, plain-open, plain-interval, form-bare, form-right}
 use Rattle.asking.proofs.EndLaws.{answer-open, answer-none, answer-between, right-too}
 use Rattle.predicates.proofs.IndexLaws.{in-at}
-use Rattle.asking.proofs.ArrayLaws.{fits-allowed, allowed-fits, claim-datum, order-everything, everything-order, needs-needed, needed-needs, left-outside, right-outside}
+use Rattle.claims.proofs.TableLaws.{claim-datum}
+use Rattle.asking.proofs.ArrayLaws.{fits-allowed, allowed-fits, order-everything, everything-order, needs-needed, needed-needs, left-outside, right-outside}
 
 -- ---- the held data, one after the other
 

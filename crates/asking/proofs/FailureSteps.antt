@@ -25,9 +25,10 @@ use Rattle.asking.specs.Fewest.{notContradicted, fewest, Works}
 use Rattle.asking.specs.code.Claims.{FirstLimit, Floor}
 use Rattle.asking.proofs.QuickLaws.{hopeless-none}
 use Rattle.predicates.proofs.IndexLaws.{at-in}
-use Rattle.asking.proofs.ArrayLaws.{fits-allowed, allowed-fits, claim-datum, order-everything, everything-order, needs-needed, needed-needs, left-outside}
+use Rattle.claims.proofs.TableLaws.{claim-datum}
+use Rattle.asking.proofs.ArrayLaws.{fits-allowed, allowed-fits, order-everything, everything-order, needs-needed, needed-needs, left-outside}
 use Rattle.predicates.proofs.IndexLaws.{in-at}
-use Rattle.asking.proofs.ReadyLaws.{Prepared}
+use Rattle.claims.proofs.ReadyLaws.{Prepared}
 use Rattle.asking.proofs.FewestLaws.{Seen, works-ends, ends-works, fewest-found, fewest-over, works-failed}
 use Rattle.search.proofs.LeastLaws.{Tried, least-out}
 

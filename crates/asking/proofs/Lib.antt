@@ -8,6 +8,5 @@ pub mod QuickLaws
 pub mod EndLaws
 pub mod FewestLaws
 pub mod ArrayLaws
-pub mod ReadyLaws
 pub mod AskSteps
 pub mod FailureSteps

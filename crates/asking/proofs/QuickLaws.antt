@@ -35,7 +35,8 @@ use Rattle.asking.specs.Instants.{Allowed}
 use Rattle.asking.specs.Asking.{answer}
 use Rattle.asking.specs.code.Claims.{hopeless, FirstLimit}
 use Rattle.asking.proofs.AnswerLaws.{answer-is}
-use Rattle.asking.proofs.ArrayLaws.{claim-entry, everything-at, at-everything}
+use Rattle.claims.proofs.TableLaws.{claim-entry}
+use Rattle.asking.proofs.ArrayLaws.{everything-at, at-everything}
 use Rattle.asking.proofs.EndLaws.{answer-open}
 use Rattle.asking.proofs.PlainLaws.{form-bare, form-terms}
 

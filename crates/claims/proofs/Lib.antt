@@ -1,5 +1,6 @@
--- The laws of the claims of a state in flat arrays: as they are read, their parts, and their order.
+-- The laws of the claims of a state in flat arrays: as they are read, their parts, their order, and what the search asks of them.
 pub mod TableLaws
 pub mod PartingLaws
 pub mod OrderLaws
 pub mod DegreeLaws
+pub mod ReadyLaws

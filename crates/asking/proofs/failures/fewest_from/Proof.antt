@@ -8,7 +8,7 @@ use Rattle.names.specs.code.Parts.{others}
 use Rattle.state.specs.Layout.{headOf, stateOf}
 use Rattle.state.proofs.StateLaws.{form-ok, state-out}
 use Rattle.search.specs.code.Search.{rowsMost, rowsOf}
-use Rattle.asking.proofs.ReadyLaws.{Prepared, counts-fit, prepared-in}
+use Rattle.claims.proofs.ReadyLaws.{Prepared, counts-fit, prepared-in}
 use Rattle.asking.specs.code.Claims.{Floor}
 use Rattle.asking.proofs.FailureSteps.{floor-found, floor-next, floor-over}
 use borrow.Author.Needs.{needs}

@@ -16,11 +16,10 @@ use Rattle.state.specs.Form.{inForm, stateOk, datumOk}
 use Rattle.state.proofs.StateLaws.{state-out, held-count-le, entry-count-le, form-ok}
 use Rattle.state.proofs.OkLaws.{ok-datum-out}
 use Rattle.search.specs.code.Search.{Rows}
 use Rattle.claims.specs.code.Tables.{entryClaim, claimAt, Loaded, Bounded, claimLeft, claimRight}
 use Rattle.search.specs.code.LeftEnds.{noEnd, Ready, Complete}
-use Rattle.claims.proofs.TableLaws.{bounded-in}
+use Rattle.claims.proofs.TableLaws.{claim-entry, claim-datum, bounded-in}
 use Rattle.predicates.proofs.IndexLaws.{at-in}
-use Rattle.asking.proofs.ArrayLaws.{claim-entry, claim-datum}
 
 module _ {k : Store} {n rows : ℕ} {table : Rows} (loaded : Loaded k n rows table) (most : rows ≤ 48) where
   pub ready-in : (lefts rights order : List ℕ) → Bounded k rows lefts rights → Complete rows order → ((i : ℕ) → i < rows → getD lefts i 0 < noEnd)
