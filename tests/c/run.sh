@@ -225,6 +225,17 @@ words() {
     done
 }
 
+# the lines of README's C example are those of the file
+readme_example() {
+    diff examples/first/first.c <(awk '/^```c$/ { on = 1; next } /^```$/ { on = 0 } on' README.md)
+}
+
+changelog_version() {
+    local version
+    version=$(awk '$2 == "MONITOR_VERSION" { print $3 }' include/monitor.h)
+    [ -n "$version" ] && diff <(echo "$version") <(awk '/^## / { print $2; exit }' CHANGELOG.md)
+}
+
 [ -f "$archive" ] || { printf 'no archive at %s: rt staticlib monitor writes it\n0 passed, 1 failed\n' "$archive"; exit 1; }
 for tool in gcc:gcc g++:g++ clang:clang clang++:clang valgrind:valgrind nm:binutils; do
     need "${tool%:*}" "${tool#*:}" || { printf 'no %s, and it cannot be installed\n0 passed, 1 failed\n' "${tool%:*}"; exit 1; }
@@ -238,5 +249,7 @@ try 'the archive has the calls alone' exports_only
 links
 examples
 words
+try "README's example is examples/first/first.c" readme_example
+try 'CHANGELOG.md begins with MONITOR_VERSION' changelog_version
 printf '%d passed, %d failed\n' "$passed" "$failed"
 [ "$failed" -eq 0 ]
