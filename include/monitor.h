@@ -11,8 +11,8 @@
  *  Instants and readings are whole microseconds. Names of monitors are 0 to MONITOR_GREATEST_NAME. Numbers in bytes are little-endian. A radio
  *  message is handed in as its 32-bit words, four bytes each; docs/layouts.md has all layouts.
  *
- *  monitor_text.h reads and puts the numbers and has a text for each refusal. Link with libmonitor.a (x86-64, the calling convention of Linux and
- *  the BSDs), which the package has and `rt staticlib monitor` writes to target/staticlib. */
+ *  monitor_text.h reads and puts the numbers and has a text for each refusal. Link with libmonitor.a (x86-64 alone; ELF, the calling convention of
+ *  Linux), which the package has and `rt staticlib monitor` writes to target/staticlib. */
 #ifndef MONITOR_H
 #define MONITOR_H
 

@@ -158,14 +158,14 @@ examples() {
         try "stamp by $compiler" build "$compiler" examples/stamp/stamp.c "$scratch/stamp"
         try "stamp by $compiler, dates" prints examples/stamp/expected stamp "$scratch/stamp"
         try "stamp by $compiler, under valgrind" prints examples/stamp/expected stamp watch "$scratch/stamp"
-        try "stamp by $compiler, with its checks" build "$compiler" examples/stamp/stamp.c "$scratch/stamp" -g -fsanitize=address,undefined
-        try "stamp by $compiler, with its checks, dates" prints examples/stamp/expected stamp "$scratch/stamp"
         try "first by $compiler" build "$compiler" examples/first/first.c "$scratch/first"
         try "first by $compiler, answers" prints examples/first/expected "$scratch/first"
         try "first by $compiler, under valgrind" prints examples/first/expected watch "$scratch/first"
         try "words by $compiler" build "$compiler" examples/words/words.c "$scratch/words"
         try "words by $compiler, under valgrind" watch "$scratch/words" 3 1000000 1000200 1,2 4
     done
+    try "stamp with gcc's own checks" build gcc examples/stamp/stamp.c "$scratch/stamp" -g -fsanitize=address,undefined
+    try "stamp with gcc's own checks, dates" prints examples/stamp/expected stamp "$scratch/stamp"
 }
 
 # makes WORDS ARGUMENTS..: the words that `words` prints
