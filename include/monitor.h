@@ -2,17 +2,34 @@
  *
  *  Every call takes numbers and byte slices only and returns the number of its refusal, MONITOR_TAKEN (0) if there is none. A refused call
  *  leaves every lent byte as it was; a taken one changes just the bytes that its comment names. Any bytes and numbers may be handed in, a
- *  damaged state too, and each call returns. Slices lent to one call must not overlap, and a slice of length 0 may be any non-null pointer.
+ *  damaged state too, and each call returns. Slices lent to one call must not overlap. A slice of length 0 may be any pointer, NULL too, such as
+ *  an empty C++ vector hands in.
+ *
+ *  The calls are reentrant and keep nothing between them: the archive has no data that is written, takes no memory but the stack and what is
+ *  lent, and calls memcpy and memset alone. So threads may call at once, as long as none writes what another is lent.
  *
  *  Instants and readings are whole microseconds. Names of monitors are 0 to MONITOR_GREATEST_NAME. Numbers in bytes are little-endian. A radio
  *  message is handed in as its 32-bit words, four bytes each; docs/layouts.md has all layouts.
  *
- *  Link with libmonitor.a, which `rt staticlib monitor` writes to target/staticlib. */
+ *  monitor_text.h reads and puts the numbers and has a text for each refusal. Link with libmonitor.a (x86-64 alone; ELF, the calling convention of
+ *  Linux), which the package has and `rt staticlib monitor` writes to target/staticlib. */
 #ifndef MONITOR_H
 #define MONITOR_H
 
 #include <stddef.h>
 #include <stdint.h>
+
+/** Rises by one with each change that a C program can see; CHANGELOG.md says what it was. */
+#define MONITOR_VERSION 1
+
+/** The mark of a result that must be looked at, where the compiler knows one: a refusal that nobody sees leaves a state that nobody expects. */
+#if (defined(__cplusplus) && __cplusplus >= 201703L) || (defined(__STDC_VERSION__) && __STDC_VERSION__ >= 202311L)
+#define MONITOR_CHECKED [[nodiscard]]
+#elif defined(__GNUC__)
+#define MONITOR_CHECKED __attribute__((warn_unused_result))
+#else
+#define MONITOR_CHECKED
+#endif
 
 #ifdef __cplusplus
 extern "C" {
@@ -50,6 +67,18 @@ extern "C" {
 
 /** The count that monitor_fewest writes when more than MONITOR_GREATEST_LIMIT monitors must have failed. */
 #define MONITOR_FEWEST_OVER (MONITOR_GREATEST_LIMIT + 1)
+
+/** The stack that each call takes, in bytes, its return address included: the greatest that tests/c/stack.c measures, on many states and on states
+ *  climbed for depth, rounded up to a multiple of 64. Measured and not proved, so leave some room. Not counted is what the loader takes if it
+ *  looks memcpy or memset up at the first call (link with -z now, or statically, and it does not). */
+#define MONITOR_STACK_SET_UP 64
+#define MONITOR_STACK_AGE 256
+#define MONITOR_STACK_RECEIVE 5440
+#define MONITOR_STACK_WRITE 320
+#define MONITOR_STACK_ASK 22272
+#define MONITOR_STACK_FEWEST 20736
+#define MONITOR_STACK_MESSAGE_READ 256
+#define MONITOR_STACK_MESSAGE_REWRITE 320
 
 /** The kinds of answer that monitor_ask writes. */
 enum monitor_answer {
@@ -94,14 +123,18 @@ enum monitor_refusal {
  *  @param own        the own name, 0 to MONITOR_GREATEST_NAME
  *  @param drift      the own clock's drift in parts per million, 0 to MONITOR_GREATEST_DRIFT
  *  @param reading    the own clock's reading, at most MONITOR_GREATEST_READING
- *  @return 0 when taken; else, tested in this order, 24, 1, 2 or 3, and no byte has changed */
+ *  @return 0 when taken; else, tested in this order, 24, 1, 2 or 3, and no byte has changed
+ *  Stack: MONITOR_STACK_SET_UP bytes. */
+MONITOR_CHECKED
 uint32_t monitor_set_up(uint8_t *state, size_t state_len, uint32_t own, uint32_t drift, uint64_t reading);
 
 /** Ages the state to a reading of the own clock: every interval widens by what the drift can have made of the time passed.
  *  @param state      the monitor's bytes; those beyond MONITOR_STATE_BYTES stay as they are
  *  @param state_len  how many bytes are lent
  *  @param reading    the own clock, not below the last reading; an equal one changes nothing
- *  @return 0 when taken; else, tested in this order, 24, 25, 3, 20 or 30, and no byte has changed */
+ *  @return 0 when taken; else, tested in this order, 24, 25, 3, 20 or 30, and no byte has changed
+ *  Stack: MONITOR_STACK_AGE bytes. */
+MONITOR_CHECKED
 uint32_t monitor_age(uint8_t *state, size_t state_len, uint64_t reading);
 
 /** Receives a message at the reading the state was last aged to. A message whose predicate is true is taken and changes nothing.
@@ -111,7 +144,9 @@ uint32_t monitor_age(uint8_t *state, size_t state_len, uint64_t reading);
  *  @param greatest     the channel's greatest delay, at most MONITOR_GREATEST_DELAY
  *  @param message      the words, four bytes each; they are not changed
  *  @param message_len  how many bytes they are
- *  @return 0 when taken; else, tested in this order, 24, 25, 21, 10, 12, 11, 13, 14, 15, 16, 17, 18, 30, 31 or 32, and no byte has changed */
+ *  @return 0 when taken; else, tested in this order, 24, 25, 21, 10, 12, 11, 13, 14, 15, 16, 17, 18, 30, 31 or 32, and no byte has changed
+ *  Stack: MONITOR_STACK_RECEIVE bytes. */
+MONITOR_CHECKED
 uint32_t monitor_receive(uint8_t *state, size_t state_len, uint64_t least, uint64_t greatest, const uint8_t *message, size_t message_len);
 
 /** Writes a held datum as a message in ends form, with the own name as sender.
@@ -120,7 +155,9 @@ uint32_t monitor_receive(uint8_t *state, size_t state_len, uint64_t least, uint6
  *  @param position     which datum; 0 is the oldest
  *  @param message      the message goes to its first 4 * (6 + term count) bytes; those beyond stay as they are
  *  @param message_len  how many bytes are lent; MONITOR_MESSAGE_BYTES are always enough
- *  @return 0 when taken; else, tested in this order, 24 (state), 25, 23 or 24 (message), and no byte has changed */
+ *  @return 0 when taken; else, tested in this order, 24 (state), 25, 23 or 24 (message), and no byte has changed
+ *  Stack: MONITOR_STACK_WRITE bytes. */
+MONITOR_CHECKED
 uint32_t monitor_write(const uint8_t *state, size_t state_len, uint64_t position, uint8_t *message, size_t message_len);
 
 /** Asks what time it can be at the reading the state was last aged to. An instant counts if some set of failed monitors within the limit, the
@@ -131,7 +168,9 @@ uint32_t monitor_write(const uint8_t *state, size_t state_len, uint64_t position
  *  @param answer      its kind (enum monitor_answer), left and right go to its first MONITOR_ANSWER_BYTES bytes, left and right 0 unless the
  *                     kind is MONITOR_BETWEEN; those beyond stay as they are
  *  @param answer_len  how many bytes are lent
- *  @return 0 when taken; else, tested in this order, 24 (state), 25, 22 or 24 (answer), and no byte has changed */
+ *  @return 0 when taken; else, tested in this order, 24 (state), 25, 22 or 24 (answer), and no byte has changed
+ *  Stack: MONITOR_STACK_ASK bytes. */
+MONITOR_CHECKED
 uint32_t monitor_ask(const uint8_t *state, size_t state_len, uint64_t limit, uint8_t *answer, size_t answer_len);
 
 /** Finds the fewest failures: of the sets of at most MONITOR_GREATEST_LIMIT failed monitors for which an instant counts as in monitor_ask, the
@@ -141,7 +180,9 @@ uint32_t monitor_ask(const uint8_t *state, size_t state_len, uint64_t limit, uin
  *  @param answer      the count of names and their mask, name n being the bit of value 2^n, go to its first MONITOR_FEWEST_BYTES bytes, or
  *                     MONITOR_FEWEST_OVER and 0 if there is no such set; those beyond stay as they are
  *  @param answer_len  how many bytes are lent
- *  @return 0 when taken; else, tested in this order, 24 (state), 25 or 24 (answer), and no byte has changed */
+ *  @return 0 when taken; else, tested in this order, 24 (state), 25 or 24 (answer), and no byte has changed
+ *  Stack: MONITOR_STACK_FEWEST bytes. */
+MONITOR_CHECKED
 uint32_t monitor_fewest(const uint8_t *state, size_t state_len, uint8_t *answer, size_t answer_len);
 
 /** Reads a message.
@@ -149,7 +190,9 @@ uint32_t monitor_fewest(const uint8_t *state, size_t state_len, uint8_t *answer,
  *  @param message_len  how many bytes they are
  *  @param reading      sender, left, right and term count go to its first MONITOR_READING_BYTES bytes; those beyond stay as they are
  *  @param reading_len  how many bytes are lent
- *  @return 0 when taken; else, tested in this order, 10, 12, 11, 13, 14, 15, 16, 17 or 24 (reading too short), and no byte has changed */
+ *  @return 0 when taken; else, tested in this order, 10, 12, 11, 13, 14, 15, 16, 17 or 24 (reading too short), and no byte has changed
+ *  Stack: MONITOR_STACK_MESSAGE_READ bytes. */
+MONITOR_CHECKED
 uint32_t monitor_message_read(const uint8_t *message, size_t message_len, uint8_t *reading, size_t reading_len);
 
 /** Writes a message again in ends form, with the sender, interval and terms that it has and a new check word. A message in ends form comes out
@@ -158,7 +201,9 @@ uint32_t monitor_message_read(const uint8_t *message, size_t message_len, uint8_
  *  @param message_len  how many bytes they are
  *  @param out          the message goes to its first 4 * (6 + term count) bytes; those beyond stay as they are
  *  @param out_len      how many bytes are lent; MONITOR_MESSAGE_BYTES are always enough
- *  @return 0 when taken; else, tested in this order, 10, 12, 11, 13, 14, 15, 16, 17 or 24 (out too short), and no byte has changed */
+ *  @return 0 when taken; else, tested in this order, 10, 12, 11, 13, 14, 15, 16, 17 or 24 (out too short), and no byte has changed
+ *  Stack: MONITOR_STACK_MESSAGE_REWRITE bytes. */
+MONITOR_CHECKED
 uint32_t monitor_message_rewrite(const uint8_t *message, size_t message_len, uint8_t *out, size_t out_len);
 
 #ifdef __cplusplus

@@ -15,6 +15,7 @@
 #include <string.h>
 
 #include "monitor.h"
+#include "monitor_text.h"
 
 /* The most numbers that a line can hold: two delays, and far more words than any message has. */
 #define MOST (2 + MONITOR_MOST_WORDS + 48)
@@ -28,14 +29,6 @@ static uint8_t *exactly(size_t n)
         exit(2);
     }
     return bytes;
-}
-
-static uint64_t number_at(const uint8_t *bytes)
-{
-    uint64_t x = 0;
-    for (int i = 7; i >= 0; i--)
-        x = x << 8 | bytes[i];
-    return x;
 }
 
 /* Reads one decimal number, digits alone, at most `most`; moves *text behind it. Answers whether there was one. */
@@ -69,8 +62,7 @@ static int receive(uint8_t *state, const uint64_t *delays, const uint64_t *words
     int fit = 1;
     for (int i = 0; i < n; i++) {
         fit &= words[i] <= UINT32_MAX;
-        for (int b = 0; b < 4; b++)
-            message[4 * i + b] = (uint8_t)(words[i] >> (8 * b));
+        monitor_put_word(message + 4 * i, (uint32_t)words[i]);
     }
     if (fit)
         *number = monitor_receive(state, MONITOR_STATE_BYTES, delays[0], delays[1], message, 4 * (size_t)n);
@@ -111,10 +103,10 @@ static void date(const uint8_t *state, uint64_t limit, const char *line)
     if (number == MONITOR_STATE_FORM)
         printf("NO TIME, the monitor is not set up: %s\n", line);
     else if (number != MONITOR_TAKEN)
-        printf("NO TIME, refused %" PRIu32 ": %s\n", number, line);
-    else if (number_at(answer) == MONITOR_BETWEEN)
-        printf("%" PRIu64 " to %" PRIu64 ": %s\n", number_at(answer + 8), number_at(answer + 16), line);
-    else if (number_at(answer) == MONITOR_OPEN)
+        printf("NO TIME, refused %" PRIu32 " (%s): %s\n", number, monitor_text(number), line);
+    else if (monitor_number(answer) == MONITOR_BETWEEN)
+        printf("%" PRIu64 " to %" PRIu64 ": %s\n", monitor_number(answer + 8), monitor_number(answer + 16), line);
+    else if (monitor_number(answer) == MONITOR_OPEN)
         printf("NO TIME, it is open: what was heard says nothing if %" PRIu64 " may have failed: %s\n", limit, line);
     else
         printf("NO TIME, contradicted: more than %" PRIu64 " must have failed: %s\n", limit, line);
@@ -129,7 +121,7 @@ static void one_line(uint8_t *state, uint64_t limit, const char *line)
     else if (!command(state, line, &number))
         printf("not understood: %s\n", line);
     else if (number != MONITOR_TAKEN)
-        printf("refused %" PRIu32 ": %s\n", number, line);
+        printf("refused %" PRIu32 " (%s): %s\n", number, monitor_text(number), line);
 }
 
 int main(int count, char **arguments)

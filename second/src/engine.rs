@@ -66,13 +66,22 @@ mod c {
 /// The engine's `monitor_message_read`.
 pub fn monitor_message_read(message: &[u8], reading: &mut [u8]) -> u32 {
     // Safe: each pointer goes with the length of its own slice.
-    unsafe { c::monitor_message_read(message.as_ptr(), message.len(), reading.as_mut_ptr(), reading.len()) }
+    unsafe {
+        c::monitor_message_read(
+            message.as_ptr(),
+            message.len(),
+            reading.as_mut_ptr(),
+            reading.len(),
+        )
+    }
 }
 
 /// The engine's `monitor_message_rewrite`.
 pub fn monitor_message_rewrite(message: &[u8], out: &mut [u8]) -> u32 {
     // Safe: as above.
-    unsafe { c::monitor_message_rewrite(message.as_ptr(), message.len(), out.as_mut_ptr(), out.len()) }
+    unsafe {
+        c::monitor_message_rewrite(message.as_ptr(), message.len(), out.as_mut_ptr(), out.len())
+    }
 }
 
 /// The engine's `monitor_set_up`.

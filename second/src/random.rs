@@ -1,4 +1,11 @@
 //! A small seeded generator (splitmix64): the same seed gives the same inputs everywhere.
+//!
+//! `MONITOR_SEED`, a number, moves all seeds, so that other inputs are tried; without it, or with 0,
+//! they are those that the tests name. It is printed once by each program that draws.
+
+use std::env;
+use std::io::{self, Write};
+use std::sync::OnceLock;
 
 pub struct Random {
     state: u64,
@@ -6,16 +13,13 @@ pub struct Random {
 
 impl Random {
     pub fn new(seed: u64) -> Random {
-        Random { state: seed }
+        Random { state: seed ^ moved_by() }
     }
 
     /// 64 bits, all as likely.
     pub fn bits(&mut self) -> u64 {
-        self.state = self.state.wrapping_add(0x9e37_79b9_7f4a_7c15);
-        let mut z = self.state;
-        z = (z ^ (z >> 30)).wrapping_mul(0xbf58_476d_1ce4_e5b9);
-        z = (z ^ (z >> 27)).wrapping_mul(0x94d0_49bb_1331_11eb);
-        z ^ (z >> 31)
+        self.state = self.state.wrapping_add(STEP);
+        mixed(self.state)
     }
 
     /// A number from 0 to below `bound`, which is above 0.
@@ -42,4 +46,26 @@ impl Random {
     pub fn bytes(&mut self, len: usize) -> Vec<u8> {
         (0..len).map(|_| self.bits() as u8).collect()
     }
+}
+
+const STEP: u64 = 0x9e37_79b9_7f4a_7c15;
+
+fn mixed(mut z: u64) -> u64 {
+    z = (z ^ (z >> 30)).wrapping_mul(0xbf58_476d_1ce4_e5b9);
+    z = (z ^ (z >> 27)).wrapping_mul(0x94d0_49bb_1331_11eb);
+    z ^ (z >> 31)
+}
+
+/// What `MONITOR_SEED` moves seeds by: nothing for 0.
+fn moved_by() -> u64 {
+    static MOVED: OnceLock<u64> = OnceLock::new();
+    *MOVED.get_or_init(|| {
+        let outside: u64 = match env::var("MONITOR_SEED") {
+            Err(env::VarError::NotPresent) => 0,
+            text => text.ok().and_then(|text| text.parse().ok()).expect("MONITOR_SEED is a number"),
+        };
+        // Past the capture of a passing test's output.
+        writeln!(io::stderr(), "MONITOR_SEED={outside}").expect("standard error");
+        mixed(outside)
+    })
 }

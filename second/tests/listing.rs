@@ -1,8 +1,8 @@
 //! The listing by both programs: document 01's, the one that the engine's program comes with, and
 //! seeded texts, compared whole.
 //!
-//! The engine's program is `target/bin/listing`, or `MONITOR_LISTING` says where it is. Without it
-//! the tests fail, unless `SECOND_WITHOUT_LISTING` is 1.
+//! The engine's program is `target/bin/listing`, or `MONITOR_LISTING` says where it is. Without it, or
+//! without what is stored, the tests fail.
 
 use second::asking::GREATEST_LIMIT;
 use second::listing::listing;
@@ -10,7 +10,7 @@ use second::random::Random;
 use second::samples::texts::{self, DOCUMENT_01, PRINTED};
 use std::collections::BTreeMap;
 use std::io::{Read, Write};
-use std::path::PathBuf;
+use std::path::{Path, PathBuf};
 use std::process::{Command, Stdio};
 use std::{env, fs, thread};
 
@@ -20,17 +20,17 @@ fn beside_package(path: &str) -> PathBuf {
     PathBuf::from(env!("CARGO_MANIFEST_DIR")).join("..").join(path)
 }
 
-/// Where the engine's program is; none if the tests are to be left out without it.
-fn program() -> Option<PathBuf> {
+/// A file that the tests cannot do without.
+fn stored(path: &Path) -> Vec<u8> {
+    fs::read(path).unwrap_or_else(|error| panic!("{}: {error}", path.display()))
+}
+
+/// Where the engine's program is.
+fn program() -> PathBuf {
     let named = env::var_os("MONITOR_LISTING").map(PathBuf::from);
     let path = named.unwrap_or_else(|| beside_package("target/bin/listing"));
-    if path.is_file() {
-        return Some(path);
-    }
-    let without = env::var_os("SECOND_WITHOUT_LISTING").is_some_and(|value| value == "1");
-    assert!(without, "no program at {}: `rt check listing` builds it", path.display());
-    report("left out, as SECOND_WITHOUT_LISTING is 1: the listing by the engine's program\n");
-    None
+    assert!(path.is_file(), "no program at {}: `rt check listing` builds it", path.display());
+    path
 }
 
 /// What the engine's program prints.
@@ -109,41 +109,37 @@ impl Tally {
 
 #[test]
 fn listing_of_document_01_and_the_stored_one() {
-    let Some(program) = program() else { return };
+    let program = program();
     assert_eq!(compare(&program, "document 01", DOCUMENT_01.as_bytes()), PRINTED);
-    let [stdin, stdout] = ["stdin", "stdout"].map(|name| {
-        let path = beside_package("crates/listing").join(name);
-        fs::read(path).ok()
-    });
-    if let Some(input) = stdin {
-        let second = compare(&program, "crates/listing/stdin", &input);
-        assert!(stdout.is_none_or(|stdout| stdout == second.as_bytes()), "crates/listing/stdout");
-    }
+    let crate_folder = beside_package("crates/listing");
+    let [stdin, stdout] = ["stdin", "stdout"].map(|name| stored(&crate_folder.join(name)));
+    let second = compare(&program, "crates/listing/stdin", &stdin);
+    assert_eq!(second.as_bytes(), stdout, "crates/listing/stdout");
 }
 
 /// The files of examples/scenarios, each beside what is printed for it.
 #[test]
 fn listing_of_the_scenarios() {
-    let Some(program) = program() else { return };
+    let program = program();
     let mut scenarios = 0;
     for file in fs::read_dir(beside_package("examples/scenarios")).expect("the scenarios") {
-        let printed = file.expect("a scenario").path();
-        if printed.extension().is_some_and(|extension| extension == "printed") {
-            let path = printed.with_extension("");
-            let input = fs::read(&path).expect("a scenario");
-            let wanted = fs::read(&printed).expect("what it prints");
-            let second = compare(&program, &path.display().to_string(), &input);
-            assert_eq!(second.as_bytes(), wanted, "{}", path.display());
-            scenarios += 1;
+        let mut path = file.expect("a scenario").path();
+        // Either of the two asks for the other.
+        if path.extension().is_some_and(|extension| extension == "printed") {
+            path.set_extension("");
         }
+        let (input, wanted) = (stored(&path), stored(&path.with_extension("printed")));
+        let second = compare(&program, &path.display().to_string(), &input);
+        assert_eq!(second.as_bytes(), wanted, "{}", path.display());
+        scenarios += 1;
     }
-    assert!(scenarios >= 5, "{scenarios}");
+    assert!(scenarios >= 2 * 5, "{scenarios} files");
 }
 
 /// Document 01's listing cut at every byte, so at every byte of lines of all kinds.
 #[test]
 fn listing_cut_at_every_byte() {
-    let Some(program) = program() else { return };
+    let program = program();
     for len in 0..DOCUMENT_01.len() {
         compare(&program, &format!("cut to {len} bytes"), &DOCUMENT_01.as_bytes()[..len]);
     }
@@ -151,7 +147,7 @@ fn listing_cut_at_every_byte() {
 
 #[test]
 fn listing_of_seeded_texts() {
-    let Some(program) = program() else { return };
+    let program = program();
     let mut tally = Tally::default();
     let seeds: Vec<u64> = (0..20_000).collect();
     for some in seeds.chunks(200) {
@@ -165,7 +161,7 @@ fn listing_of_seeded_texts() {
 
 #[test]
 fn listing_of_seeded_texts_alone() {
-    let Some(program) = program() else { return };
+    let program = program();
     let mut bad = 0;
     for seed in 0..1_000 {
         let text = texts::loose(&mut Random::new(seed));

@@ -6,6 +6,7 @@
 #include <stdio.h>
 
 #include "monitor.h"
+#include "monitor_text.h"
 
 #define GUARD 16
 #define MOST (MONITOR_STATE_BYTES + 40)
@@ -18,7 +19,7 @@
 
 static int passed, failed;
 
-static void check(int ok, const char *what)
+static inline void check(int ok, const char *what)
 {
     if (ok) {
         passed++;
@@ -28,8 +29,11 @@ static void check(int ok, const char *what)
     }
 }
 
-static int report(void)
+/* The status of the test. One that checked nothing has failed. */
+static inline int report(void)
 {
+    if (passed == 0)
+        failed++;
     printf("%d passed, %d failed\n", passed, failed);
     return failed != 0;
 }
@@ -40,12 +44,12 @@ struct lent {
     size_t n;
 };
 
-static uint8_t pattern(size_t i)
+static inline uint8_t pattern(size_t i)
 {
     return (uint8_t)(0x5a ^ (i * 7));
 }
 
-static uint8_t *lend(struct lent *b, size_t n)
+static inline uint8_t *lend(struct lent *b, size_t n)
 {
     for (size_t i = 0; i < sizeof b->all; i++)
         b->all[i] = pattern(i);
@@ -54,27 +58,12 @@ static uint8_t *lend(struct lent *b, size_t n)
 }
 
 /* Whether every byte but the first `written` of the buffer is as it was lent. */
-static int untouched(const struct lent *b, size_t written)
+static inline int untouched(const struct lent *b, size_t written)
 {
     for (size_t i = 0; i < sizeof b->all; i++)
         if ((i < GUARD || i >= GUARD + written) && b->all[i] != pattern(i))
             return 0;
     return 1;
-}
-
-static size_t bytes_of(uint8_t *out, const uint32_t *words, size_t n)
-{
-    for (size_t i = 0; i < n * 4; i++)
-        out[i] = (uint8_t)(words[i / 4] >> (8 * (i % 4)));
-    return n * 4;
-}
-
-static uint64_t number(const uint8_t *bytes)
-{
-    uint64_t x = 0;
-    for (int i = 7; i >= 0; i--)
-        x = x << 8 | bytes[i];
-    return x;
 }
 
 #endif

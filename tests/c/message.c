@@ -15,11 +15,11 @@ static void reading(void)
 {
     struct lent m, r;
     uint8_t *message = lend(&m, sizeof ends_form), *out = lend(&r, MONITOR_READING_BYTES);
-    size_t len = bytes_of(message, ends_form, 6);
+    size_t len = monitor_put_words(message, ends_form, 6);
 
     check(monitor_message_read(message, len, out, r.n) == MONITOR_TAKEN, "document 01's first message is taken");
-    check(number(out) == 1 && number(out + 8) == 1000000 && number(out + 16) == 1000200 && number(out + 24) == 0,
-          "sender, left, right and term count");
+    check(monitor_number(out) == 1 && monitor_number(out + 24) == 0, "sender and term count");
+    check(monitor_number(out + 8) == 1000000 && monitor_number(out + 16) == 1000200, "left and right");
     check(untouched(&r, MONITOR_READING_BYTES), "nothing beside the reading is written");
 
     for (size_t n = 0; n < MONITOR_READING_BYTES; n++) {
@@ -39,14 +39,14 @@ static void rewriting(void)
 {
     struct lent m, r;
     uint8_t *message = lend(&m, sizeof ends_form), *out = lend(&r, sizeof ends_form);
-    size_t len = bytes_of(message, ends_form, 6);
+    size_t len = monitor_put_words(message, ends_form, 6);
 
     check(monitor_message_rewrite(message, len, out, r.n) == MONITOR_TAKEN, "an ends form message is taken");
     check(memcmp(out, message, len) == 0 && untouched(&r, len), "and comes out as the same words");
 
     const size_t written = 4 * 8;
     message = lend(&m, sizeof centre_form);
-    len = bytes_of(message, centre_form, 7);
+    len = monitor_put_words(message, centre_form, 7);
     for (size_t n = 0; n < written; n++) {
         out = lend(&r, n);
         check(monitor_message_rewrite(message, len, out, n) == MONITOR_BUFFER && untouched(&r, 0), "8 words do not fit, nothing is written");
@@ -58,7 +58,7 @@ static void rewriting(void)
     uint8_t *before = lend(&a, MONITOR_READING_BYTES), *after = lend(&b, MONITOR_READING_BYTES);
     check(monitor_message_read(message, len, before, a.n) == MONITOR_TAKEN && monitor_message_read(out, written, after, b.n) == MONITOR_TAKEN,
           "both forms are read");
-    check(memcmp(before, after, MONITOR_READING_BYTES) == 0 && number(before + 8) == 1000000 && number(before + 16) == 1000200,
+    check(memcmp(before, after, MONITOR_READING_BYTES) == 0 && monitor_number(before + 8) == 1000000 && monitor_number(before + 16) == 1000200,
           "with the same sender, interval and term count");
     check(memcmp(out + 20, message + 16, 8) == 0, "and the same term words");
 }

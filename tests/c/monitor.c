@@ -27,7 +27,7 @@ static int answers(const uint8_t *state, uint64_t limit, uint64_t kind, uint64_t
     struct lent a;
     uint8_t *answer = lend(&a, MONITOR_ANSWER_BYTES);
     return monitor_ask(state, MONITOR_STATE_BYTES, limit, answer, a.n) == MONITOR_TAKEN && untouched(&a, MONITOR_ANSWER_BYTES) &&
-           number(answer) == kind && number(answer + 8) == left && number(answer + 16) == right;
+           monitor_number(answer) == kind && monitor_number(answer + 8) == left && monitor_number(answer + 16) == right;
 }
 
 /* The same for the fewest failures. */
@@ -36,7 +36,7 @@ static int fewest(const uint8_t *state, uint64_t count, uint64_t mask)
     struct lent a;
     uint8_t *answer = lend(&a, MONITOR_FEWEST_BYTES);
     return monitor_fewest(state, MONITOR_STATE_BYTES, answer, a.n) == MONITOR_TAKEN && untouched(&a, MONITOR_FEWEST_BYTES) &&
-           number(answer) == count && number(answer + 8) == mask;
+           monitor_number(answer) == count && monitor_number(answer + 8) == mask;
 }
 
 static void refusals_leave(uint8_t *state, const uint8_t *message, size_t len)
@@ -55,8 +55,8 @@ static void writing(const uint8_t *state)
     uint8_t *out = lend(&o, MONITOR_MESSAGE_BYTES), reading[MONITOR_READING_BYTES];
     check(monitor_write(state, MONITOR_STATE_BYTES, 0, out, o.n) == MONITOR_TAKEN && untouched(&o, 28), "the oldest is written as 7 words");
     check(monitor_message_read(out, 28, reading, sizeof reading) == MONITOR_TAKEN, "what is written is read");
-    check(number(reading) == 5 && number(reading + 8) == 2999800 && number(reading + 16) == 3000450 && number(reading + 24) == 1,
-          "own name, interval and one term");
+    check(monitor_number(reading) == 5 && monitor_number(reading + 24) == 1, "own name and one term");
+    check(monitor_number(reading + 8) == 2999800 && monitor_number(reading + 16) == 3000450, "and the interval");
 }
 
 static void questions_refuse(const uint8_t *state)
@@ -98,16 +98,16 @@ static void listing(void)
     check(answers(state, 0, MONITOR_OPEN, 0, 0) && answers(state, MONITOR_GREATEST_LIMIT, MONITOR_OPEN, 0, 0), "a fresh state is open");
     check(fewest(state, 0, 0), "and nobody need have failed");
 
-    size_t len = bytes_of(message, first, 6);
+    size_t len = monitor_put_words(message, first, 6);
     check(monitor_receive(state, s.n, 0, 50, message, len) == MONITOR_TAKEN, "get 0 50 of the first message");
-    check(number(state + OLDEST_LEFT) == 1000000 && number(state + OLDEST_RIGHT) == 1000250, "its interval has grown by the delays");
+    check(monitor_number(state + OLDEST_LEFT) == 1000000 && monitor_number(state + OLDEST_RIGHT) == 1000250, "its interval has grown by the delays");
     check(answers(state, 0, MONITOR_BETWEEN, 1000000, 1000250), "ask 0 is that interval");
     check(monitor_age(state, s.n, 2000000) == MONITOR_TAKEN, "age 2000000");
-    check(number(state + OLDEST_LEFT) == 2999800 && number(state + OLDEST_RIGHT) == 3000450, "it has widened by the drift");
+    check(monitor_number(state + OLDEST_LEFT) == 2999800 && monitor_number(state + OLDEST_RIGHT) == 3000450, "it has widened by the drift");
     check(answers(state, 0, MONITOR_BETWEEN, 2999800, 3000450), "and so has the answer");
     refusals_leave(state, message, len);
 
-    len = bytes_of(message, second, 6);
+    len = monitor_put_words(message, second, 6);
     check(monitor_receive(state, s.n, 0, 0, message, len) == MONITOR_TAKEN, "get 0 0 of the second message");
     check(state[HELD_COUNT] == 2 && state[ENTRY_COUNT] == 1, "two data are held, and that they are disjoint is known");
     check(answers(state, 0, MONITOR_CONTRADICTED, 0, 0), "ask 0 is contradicted");
@@ -127,7 +127,7 @@ static void over_limit(void)
     check(monitor_set_up(state, s.n, 0, 0, 0) == MONITOR_TAKEN, "a monitor is set up");
     for (uint32_t n = 1; n <= MONITOR_GREATEST_LIMIT + 2; n++) {
         uint32_t words[] = {1u << 29 | n, 2u << 29, 2u << 29 | 100 * n, 3u << 29, 3u << 29 | (100 * n + 9), 7u << 29 | (201 * n + 9)};
-        size_t len = bytes_of(message, words, 6);
+        size_t len = monitor_put_words(message, words, 6);
         check(monitor_receive(state, s.n, 0, 0, message, len) == MONITOR_TAKEN, "senders 1 to 6, all apart");
         int over = n > MONITOR_GREATEST_LIMIT + 1;
         check(over ? fewest(state, MONITOR_FEWEST_OVER, 0) : fewest(state, n - 1, (1u << n) - 2), "all but one of them have failed");
