@@ -82,7 +82,8 @@ static int reached(struct source *r, const struct filling *f, int far, struct lo
 {
     uint8_t again[MONITOR_STATE_BYTES];
     load->reading = 1000000;
-    monitor_set_up(load->state, sizeof load->state, OWN, 100, load->reading);
+    if (monitor_set_up(load->state, sizeof load->state, OWN, 100, load->reading) != MONITOR_TAKEN)
+        return 0;
     for (int i = 0; i < 60; i++) {
         int astray = message(r, f, load);
         receive(load->state, load);
