@@ -101,7 +101,8 @@ example() {
     awk '/^```c$/ { on = 1; next } /^```$/ { on = 0 } on' "$2/share/doc/monitor/README.md" >"$scratch/first.c"
     flags=$(PKG_CONFIG_PATH=$2/lib/pkgconfig pkg-config --cflags --libs monitor) || return 1
     # shellcheck disable=SC2086
-    (cd "$scratch" && "$1" -std=c11 -Wall -Wextra -Wpedantic -Werror first.c $flags -o first && ./first >answer) && diff examples/first/expected "$scratch/answer"
+    (cd "$scratch" && "$1" -std=c11 -Wall -Wextra -Wpedantic -Werror first.c $flags -o first && ./first >answer) || return 1
+    diff examples/first/expected "$scratch/answer"
 }
 
 version_says() {

@@ -64,6 +64,12 @@ tested() {
 
 # ---- the headers
 
+# object COMPILER STANDARD SOURCE: compiled alone
+object() {
+    # shellcheck disable=SC2086
+    "$1" -std="$2" $warnings -c "$3" -o "$scratch/object.o"
+}
+
 # usable by themselves in every standard that they are meant for, and older ones of C++
 standards() {
     local header compiler std
@@ -71,10 +77,10 @@ standards() {
         printf '#include "%s"\nint main(void) { return MONITOR_TAKEN + (MONITOR_VERSION < 1); }\n' "$header" >"$scratch/header.c"
         cp "$scratch/header.c" "$scratch/header.cc"
         for std in c11 c17 c2x; do
-            for compiler in gcc clang; do try "$header in $std by $compiler" "$compiler" -std=$std $warnings -c "$scratch/header.c" -o "$scratch/header.o"; done
+            for compiler in gcc clang; do try "$header in $std by $compiler" object "$compiler" $std "$scratch/header.c"; done
         done
         for std in c++11 c++14 c++17 c++20; do
-            for compiler in g++ clang++; do try "$header in $std by $compiler" "$compiler" -std=$std $warnings -c "$scratch/header.cc" -o "$scratch/header.o"; done
+            for compiler in g++ clang++; do try "$header in $std by $compiler" object "$compiler" $std "$scratch/header.cc"; done
         done
     done
 }
@@ -94,7 +100,7 @@ caller() {
 
 # with the result passed over, the warning about it is what stops the compiler
 passed_over() {
-    ! "$@" -c "$scratch/over.$kind" -o "$scratch/over.o" 2>"$scratch/over.log" && grep -qE 'unused-result|nodiscard' "$scratch/over.log"
+    ! object "$@" 2>"$scratch/over.log" && grep -qE 'unused-result|nodiscard' "$scratch/over.log"
 }
 
 marks() {
@@ -104,8 +110,8 @@ marks() {
             IFS=: read -r compiler std kind <<<"$compiler"
             caller "$call" 'return (int)' '' >"$scratch/used.$kind"
             caller "$call" '' '; return 0' >"$scratch/over.$kind"
-            try "$call looked at, in $std by $compiler" "$compiler" -std="$std" $warnings -c "$scratch/used.$kind" -o "$scratch/used.o"
-            try "$call passed over is a warning, in $std by $compiler" passed_over "$compiler" -std="$std" $warnings
+            try "$call looked at, in $std by $compiler" object "$compiler" "$std" "$scratch/used.$kind"
+            try "$call passed over is a warning, in $std by $compiler" passed_over "$compiler" "$std" "$scratch/over.$kind"
         done
     done
 }
@@ -114,7 +120,8 @@ marks() {
 
 # nothing that is written between calls: no .data, no .bss, no common or thread's own data
 no_data() {
-    size "$archive" | awk 'NR > 1 { rows++; if ($2 != 0 || $3 != 0) bad = 1 } END { exit bad || rows == 0 }' && ! nm "$archive" | grep -E ' [bBdDcCsSgG] '
+    size "$archive" | awk 'NR > 1 { rows++; if ($2 != 0 || $3 != 0) bad = 1 } END { exit bad || rows == 0 }' &&
+        ! nm "$archive" | grep -E ' [bBdDcCsSgG] '
 }
 
 needs_only() {
