@@ -8,27 +8,7 @@ cd "$(dirname "$0")/../.." || exit 2
 archive=target/staticlib/libmonitor.a
 warnings="-O2 -Wall -Wextra -Wpedantic -Werror -Iinclude"
 calls="monitor_set_up monitor_age monitor_receive monitor_write monitor_ask monitor_fewest monitor_message_read monitor_message_rewrite"
-passed=0
-failed=0
-scratch=$(mktemp -d)
-trap 'rm -rf "$scratch"' EXIT
-
-# try NAME COMMAND..: counts whether the command ends with status 0, and shows what it said if it does not
-try() {
-    local name=$1
-    shift
-    if "$@" >"$scratch/log" 2>&1; then
-        passed=$((passed + 1))
-    else
-        failed=$((failed + 1))
-        cat "$scratch/log"
-        printf 'FAILED: %s\n' "$name"
-    fi
-}
-
-need() {
-    command -v "$1" >/dev/null || apt-get install -y "$2" >/dev/null || { apt-get update >/dev/null && apt-get install -y "$2" >/dev/null; }
-}
+. tests/counted.sh
 
 # build COMPILER SOURCE PROGRAM FLAGS..: -z now, so that no call takes the stack that the loader would need
 build() {
