@@ -18,12 +18,10 @@ use Rattle.names.specs.Sets.{subset, union}
 use Rattle.names.specs.code.Parts.{shared}
 use Rattle.names.proofs.SetLaws.{test-ext, subset-empty}
 use Rattle.names.proofs.PartLaws.{shared-left}
-use Rattle.predicates.specs.Lists.{allBelow}
 use Rattle.predicates.specs.Predicates.{degree}
 use Rattle.predicates.specs.code.Marks.{singles}
 use Rattle.predicates.proofs.ListLaws.{both-l, both-r, T-false}
 use Rattle.predicates.proofs.LoopLaws.{degree-next, degree-done}
-use Rattle.predicates.proofs.IndexLaws.{below-out}
 use Rattle.state.specs.Model.{Store}
 use Rattle.state.specs.Layout.{rowAt, storeOf, entryCount, heldCount, entriesMost, dataMost}
 use Rattle.state.specs.Form.{inForm}
@@ -77,14 +75,6 @@ module _ (at : ℕ) (s : List ℕ) (few : num at 4 s ≤ rowWidth) where
   singles-end i names h w = w ∙ ap singles (take-all i row (omega (arith, length-row at s few)))
 
 -- ---- the claims one after the other
-
-module _ (f : ℕ → Bool) (i n : ℕ) where
-  pub below-stop : i < n → f i ≡ false → allBelow n f ≡ false
-  below-stop h e = T-false (allBelow n f) (not-T (allBelow n f) (λ t. subst (λ (b : Bool). T b) e (below-out n f t i h)))
-
-  pub below-more : allBelow i f ≡ true → f i ≡ true → allBelow (i + 1) f ≡ true
-  unfolding allBelow
-  below-more a b = rw (add-one, a, b)
 
 module _ (k : Store) (own : ℕ) where
   pub deciding-more : (i names : ℕ) → names ≡ shared (deciding k own i) (singles (claimAt k i .terms)) → names ≡ deciding k own (i + 1)

@@ -1,7 +1,7 @@
 -- Two taken calls that change nothing: an ageing to the last reading, and a receipt whose predicate is true.
 -- The idea: no time has passed, so both advances are 0, and every end of a right state fits as it did; a predicate that is true has the empty term
 -- alone in normal form, and the store stays. No contract cites this file. Assumes nothing.
-use Prim.Native.Nat.{ℕ, _-_, _≤_}
+use Prim.Native.Nat.{ℕ, _≤_}
 use mathlib.Core.Path.{_≡_, refl}
 use mathlib.Core.Logic.{⊎-elim}
 use mathlib.Core.Bool.{false, not}

@@ -10,7 +10,7 @@ use lib.Dec.{T, T-not, not-T, eqb, eqb→eq, eqb-refl}
 use mathlib.Core.Bool.{Bool, true, false, not}
 use lib.Arith.{bin-ind, digits-mod}
 use lib.Pow.{shr-shr}
-use lib.Bits.{bitAnd, bitOr, and-step, or-step, and-shr, or-shr, and-comm, and-self, and-le-r, or-shifted}
+use lib.Bits.{bitAnd, bitOr, and-step, or-step, and-shr, or-shr, or-zero-r, and-comm, and-self, and-le-r, or-shifted}
 use lib.Count.{ones, ones-step, ones-cat}
 use Rattle.names.specs.Sets.{subset, union, has, digit}
 
@@ -121,6 +121,10 @@ union-least s t u h k = subset-in (union s t) u (λ n. omega (arith, digit-union
 
 pub union-comm : (s t : ℕ) → union s t ≡ union t s
 union-comm s t = digits-ext (union s t) (union t s) (λ n. omega (arith, digit-union s t n, digit-union t s n))
+
+pub union-none : (s : ℕ) → union s 0 ≡ s
+unfolding union
+union-none s = or-zero-r s
 
 pub union-assoc : (s t u : ℕ) → union (union s t) u ≡ union s (union t u)
 union-assoc s t u =

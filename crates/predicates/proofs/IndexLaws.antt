@@ -9,11 +9,11 @@ use native.Mathlib.Nat.{eq-or-lt-of-le, le-of-suc-le-suc}
 use native.Mathlib.Decide.{ℕ-discrete}
 use native.Mathlib.Numerals.{add-one}
 use native.Mathlib.Omega.{arith}
-use lib.Dec.{T}
+use lib.Dec.{T, not-T}
 use lib.ListN.{length, getD, take, replicate}
 use lib.Seq.{take-suc}
 use Rattle.predicates.specs.Lists.{all, allBelow, keep, In}
-use Rattle.predicates.proofs.ListLaws.{both, both-l, both-r, keep-append}
+use Rattle.predicates.proofs.ListLaws.{both, both-l, both-r, T-false, keep-append}
 
 -- ---- tests of all elements
 
@@ -50,6 +50,10 @@ below-out (suc n) f t i h = last (eq-or-lt-of-le (le-of-suc-le-suc h)) (below-ou
     last : (i ≡ n) ⊎ (i < n) → (i < n → T (f i)) → T (f i)
     last (inl e) rest = subst (λ (k : ℕ). T (f k)) (sym e) (both-r (allBelow n f) (f n) t)
     last (inr k) rest = rest k
+
+-- one that fails decides
+pub below-stop : (f : ℕ → Bool) (i n : ℕ) → i < n → f i ≡ false → allBelow n f ≡ false
+below-stop f i n h e = T-false (allBelow n f) (not-T (allBelow n f) (λ t. subst (λ (b : Bool). T b) e (below-out n f t i h)))
 
 pub below-next : (f : ℕ → Bool) (i : ℕ) → ((k : ℕ) → k < i → f k ≡ false) → f i ≡ false → (k : ℕ) → k < i + 1 → f k ≡ false
 below-next f i h e k p = go (ℕ-discrete k i)

@@ -1,7 +1,7 @@
 -- The least set of all, stretch by stretch.
 -- The idea: a search keeps the least of the sets tried so far; the last end of a stretch needs the fewest predicates, so with all stretches tried the
 -- least set of every end is found. No contract cites this file. Assumes nothing.
-use Prim.Native.Nat.{ℕ, _+_, _-_, _≤_, _<_}
+use Prim.Native.Nat.{ℕ, _+_, _≤_, _<_}
 use mathlib.Core.Path.{_≡_, refl, sym, ap, subst, _∙_}
 use mathlib.Core.Logic.{_⊎_, inl, inr, ⊎-elim}
 use mathlib.Core.List.{List, [], map}

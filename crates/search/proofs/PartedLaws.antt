@@ -9,13 +9,12 @@ use mathlib.Core.List.{List, [], _∷_}
 use native.Mathlib.Omega.{arith}
 use borrow.Author.Tests.{le-leb, eq-eqb}
 use lib.Dec.{T, T-not, eqb→eq, leb, leb→le, le→leb}
-use lib.Bits.{or-zero-r}
 use lib.Count.{ones}
 use lib.ListN.{getD, take, drop, length-drop}
 use lib.Seq.{length-take-le, take-add, drop-drop, drop-at}
 use Rattle.names.specs.Sets.{subset, union}
 use Rattle.names.specs.code.Parts.{shared}
-use Rattle.names.proofs.SetLaws.{test-ext, digit-union, digits-ext, subset-empty, subset-out, subset-trans, union-left, union-right, union-left-comm, ones-empty, ones-none, ones-union}
+use Rattle.names.proofs.SetLaws.{test-ext, digit-union, digits-ext, subset-empty, subset-out, subset-trans, union-left, union-right, union-left-comm, ones-empty, ones-none, ones-union, union-none}
 use Rattle.names.proofs.PartLaws.{shared-greatest}
 use Rattle.predicates.specs.Lists.{In, keep}
 use Rattle.predicates.specs.Predicates.{holds}
@@ -47,10 +46,6 @@ one-not-empty : (c : ℕ) → ones c ≡ 1 → c ≡ 0 → ⊥
 one-not-empty c e z = absurd (omega (arith, e, ap ones z, ones-empty))
 
 -- ---- the mask
-
-pub union-none : (s : ℕ) → union s 0 ≡ s
-unfolding union
-union-none s = or-zero-r s
 
 pub singles-in : (p : List ℕ) (t : ℕ) → In t p → T (isSingle t) → T (subset t (singles p))
 unfolding singles

@@ -6,9 +6,11 @@ use mathlib.Core.Bool.{true}
 use native.Mathlib.Omega.{arith}
 use borrow.Author.Tests.{not-true, not-false}
 use Rattle.predicates.specs.Lists.{allBelow}
+use Rattle.predicates.proofs.IndexLaws.{below-stop}
+use Rattle.state.proofs.FormLoops.{below-turn}
 use Rattle.state.specs.Layout.{storeOf}
 use Rattle.claims.specs.code.Degrees.{degreeWithin}
-use Rattle.claims.proofs.DegreeLaws.{below-stop, below-more, claim-placed, claim-few, claim-within}
+use Rattle.claims.proofs.DegreeLaws.{claim-placed, claim-few, claim-within}
 use borrow.Author.Needs.{needs}
 use Rattle.claims.proofs.degrees.within.Statement.{statement}
 use Rattle.claims.proofs.degrees.within.Tie as tie
@@ -50,7 +52,7 @@ loop-again c =
     let a = at-test .before .before .before in
     let head = at-test .before .loop in
     let told = claim-within _ (a .pre .1) _ (a .pre .2) (head .i) (omega arith) _ (at-place .place .ensures .0) _ _ (c .before .degree-within .ensures) in
-    (omega arith, below-more _ (head .i) (a .args .rows) (head .inv .1) (sym told ∙ not-false _ (c .if1 .left)))
+    (omega arith, sym (below-turn _ (head .i) true true (sym (head .inv .1)) (sym (sym told ∙ not-false _ (c .if1 .left)))))
 
 returns-2 : tie.Need-returns-2 Inv-loop μ-loop
 returns-2 c =
