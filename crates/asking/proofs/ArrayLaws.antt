@@ -61,6 +61,18 @@ module _ (k : Store) where
       not-T (leb 1 x && leb x 0) (λ t.
       absurd (omega (arith, leb→le 1 x (both-l (leb 1 x) (leb x 0) t), leb→le x 0 (both-r (leb 1 x) (leb x 0) t))))
 
+  -- what is true of the entries is true of the claims before the held data
+  module _ (f : List ℕ → Bool) where
+    pub entries-at : T (all f entries) → (i : ℕ) → i < length entries → T (f (claimAt k i .terms))
+    entries-at h i l = rw (claim-entry k i l) (all-out f entries h (getD entries i []) (at-in entries [] i l))
+
+    pub at-entries : ((i : ℕ) → i < length entries → T (f (claimAt k i .terms))) → T (all f entries)
+    at-entries g =
+        all-in f entries (λ e m.
+        let w = in-at entries [] e m in
+        let t : T (f (getD entries (w .0) [])) = rw (claim-entry k (w .0) (w .1)) at (g (w .0) (w .1)) in
+        rw (w .2) t)
+
   module _ (rows : ℕ) (r : rows ≡ length entries + length (k .held)) (f : List ℕ → Bool) where
     -- what is true of the predicates is true of the claims
     pub everything-at : T (all f (everything k)) → (i : ℕ) → i < rows → T (f (claimAt k i .terms))
@@ -71,7 +83,7 @@ module _ (k : Store) where
         parts = claims-out f entries (k .held) h
 
         go : Dec (i < length entries) → T (f (claimAt k i .terms))
-        go (yes a) = rw (claim-entry k i a) (all-out f entries (parts .0) (getD entries i []) (at-in entries [] i a))
+        go (yes a) = entries-at f (parts .0) i a
         go (no a) =
             let place : i ≡ length entries + (i - length entries) = omega arith in
             let same : claimAt k i ≡ getD (k .held) (i - length entries) (entryClaim []) = ap (claimAt k) place ∙ claim-datum k (i - length entries) in
@@ -79,14 +91,8 @@ module _ (k : Store) where
 
     pub at-everything : ((i : ℕ) → i < rows → T (f (claimAt k i .terms))) → T (all f (everything k))
     unfolding everything
-    at-everything g = claims-in f entries (k .held) (all-in f entries entry) datum
+    at-everything g = claims-in f entries (k .held) (at-entries f (λ i l. g i (omega arith))) datum
       where
-        entry : (e : List ℕ) → In e entries → T (f e)
-        entry e m =
-            let w = in-at entries [] e m in
-            let t : T (f (getD entries (w .0) [])) = rw (claim-entry k (w .0) (w .1)) at (g (w .0) (omega (arith, w .1))) in
-            rw (w .2) t
-
         datum : (d : Datum) → In d (k .held) → T (f (d .terms))
         datum d m =
             let w = in-at (k .held) (entryClaim []) d m in

@@ -44,23 +44,23 @@ module _ (s : List ℕ) (i : ℕ) (h : i < heldCount s) where
   abbrev held : List Datum
   held = storeOf s .held
 
-  next : drop i held ≡ datumAt s i ∷ drop (i + 1) held
+  pub held-next : drop i held ≡ datumAt s i ∷ drop (i + 1) held
   unfolding storeOf
-  next =
+  held-next =
       rw add-one
       (drop-cons (tab (heldCount s) (datumAt s)) i (datumAt s i) (rw length-tab h)
       ∙ ap (λ (d : Datum). d ∷ drop (suc i) (tab (heldCount s) (datumAt s))) (getD-tab (heldCount s) i (datumAt s) (datumAt s i) h))
 
   pub greatest-left-turn : (m l r : ℕ) → l ≡ num (datumPlace i) 8 s → r ≡ max m l → greatestLeft r (drop (i + 1) held) ≡ greatestLeft m (drop i held)
   unfolding greatestLeft datumAt
-  greatest-left-turn m l r e f = sym (ap (greatestLeft m) next ∙ ap (λ (x : ℕ). greatestLeft x (drop (i + 1) held)) (sym (f ∙ ap (max m) e)))
+  greatest-left-turn m l r e f = sym (ap (greatestLeft m) held-next ∙ ap (λ (x : ℕ). greatestLeft x (drop (i + 1) held)) (sym (f ∙ ap (max m) e)))
 
   pub least-right-turn : (m l r : ℕ) → l ≡ num (datumPlace i + rightIn) 8 s → r ≡ min m l → leastRight r (drop (i + 1) held) ≡ leastRight m (drop i held)
   unfolding leastRight datumAt
-  least-right-turn m l r e f = sym (ap (leastRight m) next ∙ ap (λ (x : ℕ). leastRight x (drop (i + 1) held)) (sym (f ∙ ap (min m) e)))
+  least-right-turn m l r e f = sym (ap (leastRight m) held-next ∙ ap (λ (x : ℕ). leastRight x (drop (i + 1) held)) (sym (f ∙ ap (min m) e)))
 
 module _ (s : List ℕ) (i m : ℕ) (h : heldCount s ≤ i) where
-  none-left : drop i (storeOf s .held) ≡ []
+  pub none-left : drop i (storeOf s .held) ≡ []
   unfolding storeOf
   none-left = drop-of-length-le (tab (heldCount s) (datumAt s)) {i = i} (rw length-tab h)
 

@@ -75,7 +75,7 @@ answer-leaves : (st : State) → answer 0 st ≡ leaves 0 (st .store)
 unfolding answer sets setsOf leftBy
 answer-leaves st = either-none (leaves 0 (st .store))
 
-all-active : (ds : List Datum) → ((d : Datum) → In d ds → T (not (holds 0 (d .terms)))) → active 0 ds ≡ ds
+pub all-active : (ds : List Datum) → ((d : Datum) → In d ds → T (not (holds 0 (d .terms)))) → active 0 ds ≡ ds
 unfolding active
 all-active [] f = refl
 all-active (d ∷ ds) f =
@@ -89,7 +89,7 @@ none-false : (es : List (List ℕ)) → length es ≡ 0 → all (holds 0) es ≡
 none-false [] h = refl
 none-false (p ∷ es) h = absurd (omega arith)
 
-none-common : (ds : List Datum) → length ds ≡ 0 → common ds ≡ Open
+pub none-common : (ds : List Datum) → length ds ≡ 0 → common ds ≡ Open
 unfolding common
 none-common [] h = refl
 none-common (d ∷ ds) h = absurd (omega arith)
@@ -97,7 +97,7 @@ none-common (d ∷ ds) h = absurd (omega arith)
 -- ---- the answer; `bare`: the empty set makes no predicate true, as in a state in form
 
 module _ (st : State) (bare : T (all (λ p. not (holds 0 p)) (everything (st .store)))) where
-  each-bare : T (all (λ p. not (holds 0 p)) (st .store .entries)) × ((d : Datum) → In d (st .store .held) → T (not (holds 0 (d .terms))))
+  pub each-bare : T (all (λ p. not (holds 0 p)) (st .store .entries)) × ((d : Datum) → In d (st .store .held) → T (not (holds 0 (d .terms))))
   unfolding everything
   each-bare = claims-out (λ p. not (holds 0 p)) (st .store .entries) (st .store .held) bare
 

@@ -1,7 +1,7 @@
 // Asking (document 01, "Asking"): open, contradicted, or from the first left end that can be explained to the last right end.
 ghost use mathlib.Core.Path.{_≡_};
 ghost use mathlib.Core.List.{_++_};
-ghost use Prim.Native.Nat.{ℕ, _+_, _-_, _≤_, _<_, min, max};
+ghost use Prim.Native.Nat.{ℕ, _+_, _-_, _≤_, _<_};
 ghost use mathlib.Core.Bool.{_&&_};
 ghost use lib.Dec.{T, leb};
 ghost use lib.ListN.{length, getD, drop};
@@ -34,24 +34,6 @@ pub struct Overlap {
     pub right: u64,
 }
 
-fn greater(a: u64, b: u64) -> u64
-    ensures { λ r. ⌜ r ≡ max a b ⌝ }
-{
-    if a < b {
-        return b;
-    }
-    a
-}
-
-fn lesser(a: u64, b: u64) -> u64
-    ensures { λ r. ⌜ r ≡ min a b ⌝ }
-{
-    if b < a {
-        return b;
-    }
-    a
-}
-
 // The greatest left end of the held data and the least right end.
 fn meeting(s: &[u8], h: usize) -> Overlap
     requires { ⌜ (stateSize ≤ length (now s)) × (h ≡ heldCount (now s)) × (h ≤ dataMost) ⌝ }
@@ -65,8 +47,8 @@ fn meeting(s: &[u8], h: usize) -> Overlap
         let at = state::DATA_AT + i * state::DATUM_SIZE;
         let l = numbers::get64(s, at);
         let r = numbers::get64(s, at + state::RIGHT_IN);
-        left = greater(left, l);
-        right = lesser(right, r);
+        left = numbers::greater(left, l);
+        right = numbers::lesser(right, r);
         i += 1;
     }
     Overlap { left, right }
@@ -92,7 +74,7 @@ fn plain(s: &[u8]) -> Answer
 }
 
 // Whether an instant counts where no name has failed.
-pub(crate) fn agree(s: &[u8]) -> bool
+pub fn agree(s: &[u8]) -> bool
     requires { ⌜ (stateSize ≤ length (now s)) × T (inForm (now s)) ⌝ }
     ensures { λ r. ⌜ r ≡ notContradicted (answer 0 (stateOf (now (s .entry)))) ⌝ }
 {
@@ -264,13 +246,10 @@ fn ask_many(s: &[u8], limit: u32, n: usize, rows: usize) -> Answer
 }
 
 // Whether the entries tell by themselves that no set within the limit makes all of them true.
-pub(crate) fn hopeless(s: &[u8], n: usize, limit: u32) -> bool
+pub fn hopeless(s: &[u8], n: usize, limit: u32) -> bool
     requires { ⌜ (stateSize ≤ length (now s)) × T (inForm (now s)) × (n ≡ entryCount (now s)) ⌝ }
     ensures { λ r. ⌜ r ≡ Claims·hopeless limit (stateOf (now (s .entry))) ⌝ }
 {
-    if limit == 1 {
-        return claims::degrees::undecided(s, n);
-    }
     !claims::degrees::within(s, n, n, limit)
 }
 
@@ -292,6 +271,9 @@ pub fn ask(s: &[u8], limit: u32) -> Answer
 {
     if limit == 0 {
         return plain(s);
+    }
+    if limit == 1 {
+        return super::one::ask_one(s);
     }
     let h = numbers::get32(s, state::HELD_AT) as usize;
     let n = numbers::get32(s, state::KNOWN_AT) as usize;

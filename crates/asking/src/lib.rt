@@ -1,8 +1,8 @@
-// Asking (document 01, "Asking"): what the held data and the failure knowledge of a state in form leave possible, and the fewest failures that
-// explain them. Every function here is proved, and the crate assumes nothing of its own.
+// Asking (document 01, "Asking"): what the held data and the failure knowledge of a state in form leave possible, and the one name that explains them
+// where one is enough. Every function here is proved, and the crate assumes nothing of its own.
 
 pub mod ask;
-pub mod failures;
+pub mod one;
 
 // What asking answers.
 pub enum Answer {

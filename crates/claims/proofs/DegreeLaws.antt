@@ -3,13 +3,13 @@
 -- No contract cites this file. Assumes nothing.
 use Prim.Native.Nat.{ℕ, zero, suc, _+_, _*_, _≤_, _<_, min}
 use mathlib.Core.Path.{_≡_, refl, sym, ap, subst, _∙_}
-use mathlib.Core.Bool.{Bool, true, false, _&&_}
+use mathlib.Core.Bool.{Bool, true, false}
 use mathlib.Core.List.{List, [], _∷_, _++_}
 use native.Mathlib.Numerals.{add-one}
 use native.Mathlib.Omega.{arith}
 use native.Mathlib.Decide.{decLt}
 use borrow.Author.Tests.{le-leb}
-use lib.Dec.{T, not-T, leb, leb→le, le→leb, ltb, ltb→lt, eqb, eqb→eq}
+use lib.Dec.{T, leb, leb→le, le→leb}
 use lib.Count.{ones}
 use lib.ListN.{length, getD, take, drop}
 use lib.Seq.{take-suc, take-all}
@@ -20,7 +20,6 @@ use Rattle.names.proofs.SetLaws.{test-ext, subset-empty}
 use Rattle.names.proofs.PartLaws.{shared-left}
 use Rattle.predicates.specs.Predicates.{degree}
 use Rattle.predicates.specs.code.Marks.{singles}
-use Rattle.predicates.proofs.ListLaws.{both-l, both-r, T-false}
 use Rattle.predicates.proofs.LoopLaws.{degree-next, degree-done}
 use Rattle.state.specs.Model.{Store}
 use Rattle.state.specs.Layout.{rowAt, storeOf, entryCount, heldCount, entriesMost, dataMost}
@@ -94,12 +93,6 @@ module _ (k : Store) (own : ℕ) where
       go rest (no l) = let z : i ≡ suc n = omega arith in subst (λ (j : ℕ). deciding k own j ≡ 0) z e
       go rest (yes l) = subset-empty _ (subst (λ (m : ℕ). T (subset (shared (deciding k own n) (singles (claimAt k n .terms))) m)) (rest (omega arith)) less)
 
-  -- some name is left behind the last entry
-  pub deciding-some : (n names : ℕ) → names ≡ deciding k own n → (0 < n → names ≡ 0 → ⊥) → ltb 0 n && eqb (deciding k own n) 0 ≡ false
-  deciding-some n names e f =
-      T-false (ltb 0 n && eqb (deciding k own n) 0) (not-T (ltb 0 n && eqb (deciding k own n) 0) (λ t.
-      f (ltb→lt 0 n (both-l (ltb 0 n) _ t)) (e ∙ eqb→eq (deciding k own n) 0 (both-r (ltb 0 n) _ t))))
-
 -- ---- a claim in the state's bytes
 
 module _ (s : List ℕ) (t : T (inForm s)) (n : ℕ) (a : n ≡ entryCount s) (i : ℕ) (h : i < n + heldCount s) where
@@ -120,5 +113,5 @@ module _ (s : List ℕ) (t : T (inForm s)) (n : ℕ) (a : n ≡ entryCount s) (i
     unfolding degreeWithin
     claim-within most r k = k ∙ ap (λ (p : List ℕ). leb (degree p) most) terms
 
-    pub claim-single : (names r : ℕ) → r ≡ shared names (singles (rowAt rowWidth at s)) → r ≡ shared names (singles (claimAt (storeOf s) i .terms))
-    claim-single names r k = k ∙ ap (λ (p : List ℕ). shared names (singles p)) terms
+    pub claim-singles : (r : ℕ) → r ≡ singles (rowAt rowWidth at s) → r ≡ singles (claimAt (storeOf s) i .terms)
+    claim-singles r k = k ∙ ap singles terms

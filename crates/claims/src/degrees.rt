@@ -1,17 +1,18 @@
 // Claims told by the names that they need, on the bytes of a state in form: what asking looks at before it loads anything. "How many names a set
 // holds decides every limit": a claim whose degree is above the limit cannot be made true.
 ghost use mathlib.Core.Path.{_≡_};
-ghost use mathlib.Core.Bool.{_&&_};
+ghost use mathlib.Core.List.{_++_};
 ghost use Prim.Native.Nat.{_+_, _*_, _≤_, _<_};
-ghost use lib.Dec.{T, eqb, leb, ltb};
-ghost use lib.ListN.{length};
-ghost use Rattle.numbers.specs.Numbers.{num};
+ghost use lib.Dec.{T, leb};
+ghost use lib.ListN.{length, drop};
+ghost use Rattle.numbers.specs.Numbers.{num, tab};
 ghost use Rattle.predicates.specs.Lists.{allBelow};
 ghost use Rattle.predicates.specs.Predicates.{degree};
 ghost use Rattle.predicates.specs.code.Marks.{singles};
 ghost use Rattle.state.specs.Layout.{stateSize, ownAt, heldCount, entryCount, rowAt, storeOf};
 ghost use Rattle.state.specs.Form.{inForm};
 ghost use Rattle.search.specs.code.Search.{rowWidth};
+ghost use Rattle.claims.specs.code.Tables.{claimAt};
 ghost use Rattle.claims.specs.code.Degrees.{degreeWithin, deciding};
 
 // Whether the predicate of the row at `at` has a degree of at most so many names. It stops at the first term that has no more.
@@ -63,19 +64,33 @@ fn single_names(s: &[u8], at: usize) -> u32
     names
 }
 
-// Whether there are entries and no name makes all n of them true alone. It stops where no name is left.
-pub fn undecided(s: &[u8], n: usize) -> bool
+// The names, without the own one, that each make all n entries true alone. It stops where no name is left.
+pub fn deciding_names(s: &[u8], n: usize) -> u32
     requires { ⌜ (stateSize ≤ length (now s)) × T (inForm (now s)) × (n ≡ entryCount (now s)) ⌝ }
-    ensures { λ r. ⌜ r ≡ (ltb 0 n && eqb (deciding (storeOf (now (s .entry))) (num ownAt 4 (now (s .entry))) n) 0) ⌝ }
+    ensures { λ r. ⌜ r ≡ deciding (storeOf (now (s .entry))) (num ownAt 4 (now (s .entry))) n ⌝ }
 {
     let mut names = names::others(numbers::get32(s, state::OWN_AT));
     let mut i: usize = 0;
     while i < n {
         names = names::shared(names, single_names(s, super::place(n, i)));
         if names == 0 {
-            return true;
+            return 0;
         }
         i += 1;
     }
-    false
+    names
+}
+
+// Makes, of each of h held data, the mask of the names that make its predicate true alone; what stands behind them stays.
+pub fn get_singles(s: &[u8], n: usize, h: usize, masks: &mut [u32])
+    requires { ⌜ (stateSize ≤ length (now s)) × T (inForm (now s)) × (n ≡ entryCount (now s)) × (h ≡ heldCount (now s)) ⌝ }
+    requires { ⌜ h ≤ length (now masks) ⌝ }
+    ensures { λ _. ⌜ now (masks .exit) ≡
+        tab h (λ i. singles (claimAt (storeOf (now (s .entry))) (n + i) .terms)) ++ drop h (now (masks .entry)) ⌝ }
+{
+    let mut i: usize = 0;
+    while i < h {
+        masks[i] = single_names(s, super::place(n, n + i));
+        i += 1;
+    }
 }

@@ -1,15 +1,15 @@
-// Receiving a datum that is not true, on the bytes of a state in form: the counted places go into local arrays, the four steps are taken there,
-// what they leave is counted, and the bytes are written only once nothing refuses.
+// Receiving a datum that is not true, on the bytes of a state in form: the held data go into local arrays, the entries stay where they are, and what
+// is learnt stands beside them; what the four steps leave is counted, and the bytes are written only once nothing refuses.
 ghost use mathlib.Core.Path.{_≡_};
 ghost use mathlib.Core.Bool.{cond};
-ghost use Prim.Native.Nat.{_+_, _≤_, _<_};
+ghost use Prim.Native.Nat.{_*_, _≤_, _<_};
 ghost use lib.Dec.{T};
 ghost use lib.ListN.{length};
 ghost use Rattle.state.specs.Model.{Store};
 ghost use Rattle.state.specs.Layout.{stateSize, datumTerms, entryTerms, stateBytes, heldCount, entryCount, headOf, storeOf};
 ghost use Rattle.state.specs.Form.{inForm};
 ghost use Rattle.state.specs.Refusal.{after};
-ghost use Rattle.state.specs.code.Tables.{table, TableFits, datumOf};
+ghost use Rattle.state.specs.code.Tables.{datumOf};
 ghost use Rattle.steps.specs.Steps.{settled, tooMany};
 use state::Ends;
 use steps::Rows;
@@ -19,28 +19,18 @@ const DATA_ROWS: usize = state::DATA_MOST + 1;
 
 const DATA_MASKS: usize = DATA_ROWS * state::DATUM_TERMS;
 
-// The masks of all rows that entries can have within a receipt: those that are known, and one for each held datum.
-const ENTRY_MASKS: usize = state::ROWS_MOST * state::ENTRY_TERMS;
+// The masks of the entries that one receipt can learn, one for each held datum; and of those that it can learn where few data are held.
+const LEARNT_MASKS: usize = state::DATA_MOST * state::ENTRY_TERMS;
 
-// So many rows are few, and their masks.
-const FEW_ROWS: usize = 12;
+const FEW_DATA: usize = 4;
 
-const FEW_MASKS: usize = FEW_ROWS * state::ENTRY_TERMS;
+const FEW_MASKS: usize = FEW_DATA * state::ENTRY_TERMS;
 
-// Takes the four steps with the datum of these ends under p, which is not true. The arrays have a row for each entry that is known and for each that
-// can be learnt. Answers 0 or 32.
-fn take_in(
-    state: &mut [u8],
-    new: Ends,
-    p: &[u32],
-    old: Rows,
-    counts: &mut [u32],
-    masks: &mut [u32],
-) -> u32
+// Takes the four steps with the datum of these ends under p, which is not true. The array has a row for each entry that can be learnt. Answers 0 or 32.
+fn take_in(state: &mut [u8], new: Ends, p: &[u32], old: Rows, masks: &mut [u32]) -> u32
     requires { ⌜ (stateSize ≤ length (now state)) × T (inForm (now state)) ⌝ }
     requires { ⌜ (old .held ≡ heldCount (now state)) × (old .known ≡ entryCount (now state)) ⌝ }
-    requires { ⌜ (0 < length (now p)) × (length (now p) ≤ datumTerms) ⌝ }
-    requires { ⌜ TableFits entryTerms (old .known + old .held) (table (now counts) (now masks)) ⌝ }
+    requires { ⌜ (0 < length (now p)) × (length (now p) ≤ datumTerms) × (old .held * entryTerms ≤ length (now masks)) ⌝ }
     ensures { λ r. ⌜ r ≡ cond (tooMany (settled (datumOf new (now (p .entry))) (storeOf (now (state .entry))))) 32 0 ⌝ }
     ensures { λ r. ⌜ (let k : Store = settled (datumOf new (now (p .entry))) (storeOf (now (state .entry))) in
         now (state .exit) ≡ after r (stateBytes (record { head = headOf (now (state .entry)); store = k })) (now (state .entry))) ⌝ }
@@ -49,6 +39,7 @@ fn take_in(
     let mut rights = [0u64; DATA_ROWS];
     let mut held = [0u32; DATA_ROWS];
     let mut terms = [0u32; DATA_MASKS];
+    let mut counts = [0u32; state::ROWS_MOST];
     state::store::get_data(
         state,
         old.held,
@@ -57,19 +48,19 @@ fn take_in(
         &mut held,
         &mut terms,
     );
-    state::store::get_entries(state, old.known, counts, masks);
-    let left = steps::settling::settle(
+    let left = settling::settle(
         &mut lefts,
         &mut rights,
         &mut held,
         &mut terms,
         new,
         p,
-        counts,
+        state,
+        &mut counts,
         masks,
         old,
     );
-    let live = steps::settling::count(&held, counts, left);
+    let live = settling::count(&held, &counts, left);
     if (state::DATA_MOST < live.held) | (state::ENTRIES_MOST < live.known) {
         return 32;
     }
@@ -80,14 +71,14 @@ fn take_in(
         &held,
         &terms,
         left.held,
-        counts,
+        &counts,
         masks,
         left.known,
     );
     0
 }
 
-// The same with arrays for any number of rows.
+// The same with an array for any number of held data.
 fn take_many(state: &mut [u8], new: Ends, p: &[u32], old: Rows) -> u32
     requires { ⌜ (stateSize ≤ length (now state)) × T (inForm (now state)) ⌝ }
     requires { ⌜ (old .held ≡ heldCount (now state)) × (old .known ≡ entryCount (now state)) ⌝ }
@@ -96,13 +87,11 @@ fn take_many(state: &mut [u8], new: Ends, p: &[u32], old: Rows) -> u32
     ensures { λ r. ⌜ (let k : Store = settled (datumOf new (now (p .entry))) (storeOf (now (state .entry))) in
         now (state .exit) ≡ after r (stateBytes (record { head = headOf (now (state .entry)); store = k })) (now (state .entry))) ⌝ }
 {
-    let mut counts = [0u32; state::ROWS_MOST];
-    let mut masks = [0u32; ENTRY_MASKS];
-    take_in(state, new, p, old, &mut counts, &mut masks)
+    let mut masks = [0u32; LEARNT_MASKS];
+    take_in(state, new, p, old, &mut masks)
 }
 
-// Takes the four steps with the datum of these ends under p, which is not true. Answers 0 or 32. Where the rows are few, as they mostly are, few are
-// cleared.
+// Takes the four steps with the datum of these ends under p, which is not true. Answers 0 or 32. Where few data are held, less is cleared.
 pub(crate) fn take_datum(state: &mut [u8], new: Ends, p: &[u32]) -> u32
     requires { ⌜ (stateSize ≤ length (now state)) × T (inForm (now state)) ⌝ }
     requires { ⌜ (0 < length (now p)) × (length (now p) ≤ datumTerms) ⌝ }
@@ -113,10 +102,9 @@ pub(crate) fn take_datum(state: &mut [u8], new: Ends, p: &[u32]) -> u32
     let h = numbers::get32(state, state::HELD_AT) as usize;
     let n = numbers::get32(state, state::KNOWN_AT) as usize;
     let old = Rows { held: h, known: n };
-    if FEW_ROWS < n + h {
+    if FEW_DATA < h {
         return take_many(state, new, p, old);
     }
-    let mut counts = [0u32; FEW_ROWS];
     let mut masks = [0u32; FEW_MASKS];
-    take_in(state, new, p, old, &mut counts, &mut masks)
+    take_in(state, new, p, old, &mut masks)
 }

@@ -21,7 +21,7 @@ fn put_fresh(s: &mut [u8], own: u32, drift: u32, reading: u64)
     let known = state::knowledge::fresh();
     let counts = known.counts;
     let masks = known.masks;
-    state::store::put_known(s, &counts, &masks, known.count, state::ENTRIES_MOST);
+    state::store::put_known(s, 0, &counts, &masks, known.count, state::ENTRIES_MOST);
 }
 
 // Sets a monitor up. Answers 0, or the number of the refusal and leaves the bytes as they are.

@@ -1,7 +1,7 @@
 -- Tables of predicates in flat arrays: what the loops over them find, give up and put last, as facts on the lists that they hold.
 -- The idea: a row that is given up is passed over and no other row moves, so a table holds the list of the rows that have terms, and the mark of
 -- a row stays right until the row is gone. No contract cites this file. Assumes nothing.
-use Prim.Native.Nat.{ℕ, zero, suc, _+_, _*_, _-_, _≤_, _<_}
+use Prim.Native.Nat.{ℕ, zero, suc, _+_, _*_, _-_, _^_, _≤_, _<_}
 use mathlib.Core.Path.{_≡_, refl, sym, ap, ap₂, subst, _∙_}
 use mathlib.Core.Bool.{Bool, true, false, _&&_, _||_, not, cond, and-false, or-false, or-true}
 use mathlib.Core.List.{List, [], _∷_, _++_, append-assoc}
@@ -11,15 +11,20 @@ use native.Mathlib.Omega.{arith}
 use native.Mathlib.Decide.{ℕ-discrete, decLt}
 use lib.ListN.{length, getD, take, drop, set, length-append, length-drop, length-set, List·getD-append}
 use lib.Seq.{sets, sets-eq, length-sets, take-at, drop-at, take-append-le, drop-append-le, length-take-le, getD-drop, getD-append-add, set-at, getD-set-same, getD-set-other, drop-cons}
+use lib.Dec.{T, not-T}
+use Rattle.names.specs.Sets.{subset}
 use Rattle.numbers.specs.Numbers.{tab}
 use Rattle.numbers.proofs.NumberLaws.{length-tab, getD-tab, tab-cong, tab-suc}
 use Rattle.predicates.specs.Lists.{any, keep}
-use Rattle.predicates.specs.Predicates.{holds, implies}
+use Rattle.predicates.specs.Predicates.{holds, implies, normal}
 use Rattle.predicates.specs.code.Marks.{markOf, Apart}
 use Rattle.entries.specs.Entries.{explained, learn}
 use Rattle.state.specs.code.Tables.{table, TableFits, rowOf, hasTerms, entriesIn}
-use Rattle.entries.specs.code.Marks.{Marked, givenUp}
-use Rattle.predicates.proofs.ListLaws.{keep-append, any-append}
+use Rattle.entries.specs.code.Marks.{Marked, Left, givenUp}
+use Rattle.predicates.proofs.ListLaws.{T-false, cond-ind, any-in, keep-append, any-append}
+use Rattle.predicates.proofs.IndexLaws.{take-in}
+use Rattle.predicates.proofs.PredicateLaws.{implies-normal}
+use Rattle.predicates.proofs.MarkLaws.{implies-not}
 use Rattle.state.proofs.RowLaws.{row-empty, table-less}
 
 -- ---- a loop that looks for a row
@@ -108,6 +113,30 @@ module _ (test : ℕ → Bool) (counts : List ℕ) where
   given-up-count n i h =
       let f : ℕ → ℕ = λ k. cond (test k) 0 (getD counts k 0) in
       List·getD-append (tab n f) (drop n counts) 0 i (omega (arith, length-tab n f)) ∙ getD-tab n i f 0 h
+
+-- ---- rows that have been given up or are as they were
+
+pub left-given-up : (n : ℕ) (test : ℕ → Bool) (counts c : List ℕ) → c ≡ givenUp n test counts → Left n counts c
+left-given-up n test counts c p i h f =
+    let same : getD c i 0 ≡ cond (test i) 0 (getD counts i 0) = rw p (given-up-count test counts n i h) in
+    cond-ind (λ (x : ℕ). getD c i 0 ≡ x → getD c i 0 ≡ getD counts i 0) (test i) 0 (getD counts i 0) (λ _ z. absurd (f z)) (λ _ z. z) same
+
+-- those that are given up, and one that is put behind them
+pub left-learnt : (n v : ℕ) (test : ℕ → Bool) (counts a b : List ℕ) → a ≡ givenUp n test counts → b ≡ set a n v → Left n counts b
+left-learnt n v test counts a b p q i h f =
+    let same : getD b i 0 ≡ getD a i 0 = rw q (getD-set-other a n i v 0 (λ e. omega arith)) in
+    same ∙ left-given-up n test counts a p i h (λ z. f (same ∙ z))
+
+-- one row
+pub left-zero : (n r : ℕ) (counts : List ℕ) → r < length counts → Left n counts (set counts r 0)
+left-zero n r counts h i l f = go (ℕ-discrete i r)
+  where
+    go : Dec (i ≡ r) → getD (set counts r 0) i 0 ≡ getD counts i 0
+    go (yes p) = absurd (f (ap (λ (k : ℕ). getD (set counts r 0) k 0) p ∙ getD-set-same counts r 0 0 h))
+    go (no p) = getD-set-other counts r i 0 0 p
+
+pub left-trans : (n : ℕ) (a b c : List ℕ) → Left n a b → Left n b c → Left n a c
+left-trans n a b c p q i l f = q i l f ∙ p i l (λ z. f (q i l f ∙ z))
 
 -- ---- rows in use
 
@@ -201,10 +230,25 @@ module _ (i : ℕ) (counts masks p : List ℕ) (a b : ℕ) (f : (getD counts i 0
       go (yes z) = implies-none p 16 i counts masks s z
       go (no n) = h p (rowOf 16 (table counts masks) i) g (f n)
 
+-- no mark of the first n lets its row imply p
+pub rows-apart : (n : ℕ) (counts masks marks p : List ℕ) (b : ℕ) → Marked n (table counts masks) marks → b ≡ markOf p → ((i : ℕ) → getD marks i 0 < 2 ^ 32)
+    → any (λ m. subset m b) (take n marks) ≡ false → (i : ℕ) → i < n → hasTerms (rowOf 16 (table counts masks) i) && implies (rowOf 16 (table counts masks) i) p ≡ false
+rows-apart n counts masks marks p b k g w e i h =
+    let m = getD marks i 0 in
+    let none : T (subset m b) → ⊥ =
+    λ t. subst (λ (x : Bool). T x) e (any-in (λ x. subset x b) (take n marks) m (take-in n marks (k .reach) (i, h, refl)) t) in
+    row-apart i counts masks p m b (k .mark i h) g (λ q r x y. implies-not q r m b x y (w i) (T-false (subset m b) (not-T (subset m b) none)))
+
 pub explained-rows : (n : ℕ) (counts masks p : List ℕ) →
     explained (entriesIn n (table counts masks)) p ≡ anyBelow n (λ i. hasTerms (rowOf 16 (table counts masks) i) && implies (rowOf 16 (table counts masks) i) p)
 unfolding explained entriesIn
 explained-rows n counts masks p = any-kept hasTerms (λ e. implies e p) n (rowOf 16 (table counts masks))
+
+-- to be explained is a matter of what is said, not of the form
+pub explained-normal : (es : List (List ℕ)) (p : List ℕ) → explained es (normal p) ≡ explained es p
+unfolding explained
+explained-normal [] p = refl
+explained-normal (e ∷ es) p = ap₂ (λ (a b : Bool). a || b) (implies-normal e p) (explained-normal es p)
 
 -- what lies behind the rows that were given up
 given-up-behind : (m i : ℕ) (test : ℕ → Bool) (counts : List ℕ) → m ≤ i → getD (givenUp m test counts) i 0 ≡ getD counts i 0
@@ -253,9 +297,6 @@ pub given-up-turn : (test : ℕ → Bool) (counts c d : List ℕ) (i : ℕ) (b :
 given-up-turn test counts c d i b h p q r = r ∙ rw (q, p) (sym (given-up-next test counts i h))
 
 -- ---- marks
-
-pub marked-none : (counts masks marks : List ℕ) → Marked 0 (table counts masks) marks
-marked-none counts masks marks = record { reach = omega arith; mark = λ i h. absurd (omega arith) }
 
 pub marked-less : (n m : ℕ) (counts masks marks : List ℕ) → Marked n (table counts masks) marks → m ≤ n → Marked m (table counts masks) marks
 marked-less n m counts masks marks k h = record { reach = omega (arith, k .reach); mark = λ i l. k .mark i (omega arith) }

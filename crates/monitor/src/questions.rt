@@ -92,6 +92,6 @@ pub extern "C" fn monitor_fewest(state: &[u8], answer: &mut [u8]) -> u32
     if answer.len() < FEWEST_SIZE {
         return 24;
     }
-    put_fewest(answer, asking::failures::fewest_failures(state));
+    put_fewest(answer, fewest::fewest_failures(state));
     0
 }

@@ -1,7 +1,7 @@
 -- One turn of each loop of the crate, on plain values. No contract cites this file. Assumes nothing.
 use Prim.Native.Nat.{ℕ, _+_, _-_, _≤_, _<_, min}
 use mathlib.Core.Path.{_≡_, sym, ap, _∙_}
-use mathlib.Core.Bool.{Bool, true, false, _&&_, and-assoc}
+use mathlib.Core.Bool.{Bool, true, false, _&&_, _||_, and-assoc, or-assoc, or-false}
 use mathlib.Core.List.{List, _∷_}
 use native.Mathlib.Numerals.{add-one}
 use native.Mathlib.Omega.{arith}
@@ -26,6 +26,13 @@ module _ (f : ℕ → Bool) (l : List ℕ) (i : ℕ) where
 
   pub any-done : length l ≤ i → any f (drop i l) ≡ false
   any-done h = rw (drop-of-length-le l {i = i} h)
+
+  -- a test that is carried along, and what it has found at the end
+  pub any-turn : (a b t : Bool) → i < length l → b ≡ f (getD l i 0) → a || any f (drop i l) ≡ t → (a || b) || any f (drop (i + 1) l) ≡ t
+  any-turn a b t h e q = rw e (or-assoc a (f (getD l i 0)) (any f (drop (i + 1) l)) ∙ rw (drop-next l i h) at q)
+
+  pub any-all : (a t : Bool) → length l ≤ i → a || any f (drop i l) ≡ t → a ≡ t
+  any-all a t h q = sym (or-false a) ∙ rw (any-done h) at q
 
   pub all-here : i < length l → f (getD l i 0) ≡ false → all f (drop i l) ≡ false
   all-here h e = rw (drop-next l i h, e)

@@ -2,26 +2,26 @@
 -- The idea: a set of one name makes a predicate true only by a term that is that name, or by the empty one; so what p has of such terms, q must
 -- have if p implies q. No contract cites this file. Assumes nothing.
 use mathlib.Core.Path.{_≡_, refl, sym, ap, subst, _∙_}
-use mathlib.Core.Bool.{Bool, true, false, not}
+use mathlib.Core.Bool.{Bool, true, false, not, cond}
 use mathlib.Core.Logic.{inl, inr, ⊎-elim}
-use mathlib.Core.List.{List, [], _∷_}
+use mathlib.Core.List.{List, [], _∷_, _++_}
 use Prim.Native.Nat.{ℕ, _+_, _-_, _^_, _≤_, _<_}
 use native.Mathlib.Nat.{mod-eq-of-lt}
 use native.Mathlib.Omega.{arith}
 use native.Mathlib.Decide.{ℕ-discrete}
 use borrow.Author.Tests.{eq-eqb}
-use lib.Bits.{and-zero-r, or-zero-r, and-mask}
+use lib.Bits.{and-zero-r, and-mask}
 use lib.Count.{ones}
 use lib.Dec.{T, T-not, not-T, eqb, eqb→eq, leb, leb→le, le→leb}
 use lib.ListN.{length, getD, drop, drop-of-length-le}
 use Rattle.names.specs.Sets.{subset, union, digit}
 use Rattle.names.specs.code.Parts.{shared}
-use Rattle.names.proofs.SetLaws.{digit-union, and-subset, subset-empty, digit-empty, digits-ext, subset-trans, empty-subset, union-left, union-right, union-least, ones-none, union-assoc}
+use Rattle.names.proofs.SetLaws.{digit-union, and-subset, subset-empty, digit-empty, digits-ext, subset-trans, empty-subset, union-left, union-right, union-least, union-none, union-comm, ones-none, union-assoc}
 use Rattle.names.proofs.PartLaws.{digit-shared, shared-left, shared-right, subset-same}
-use Rattle.predicates.specs.Lists.{In}
+use Rattle.predicates.specs.Lists.{all, In}
 use Rattle.predicates.specs.Predicates.{holds, implies}
 use Rattle.predicates.specs.code.Marks.{markOf, singles}
-use Rattle.predicates.proofs.ListLaws.{true-T, T-true, T-false, or-l, or-r, cond-ind, all-out}
+use Rattle.predicates.proofs.ListLaws.{true-T, T-true, T-false, both-l, both-r, or-l, or-r, cond-ind, all-out}
 use Rattle.predicates.proofs.LoopLaws.{drop-next, any-here, any-next, any-done}
 use Rattle.predicates.proofs.PredicateLaws.{holds-in, holds-out, holds-mono, implies-out}
 
@@ -109,10 +109,6 @@ holds-mark s a r p e d f =
 
 -- ---- the loop
 
-union-empty : (m : ℕ) → union m 0 ≡ m
-unfolding union
-union-empty m = or-zero-r m
-
 -- the empty term adds no name
 singles-few : (t : ℕ) (p : List ℕ) → leb (ones t) 1 ≡ true → singles (t ∷ p) ≡ union t (singles p)
 unfolding singles union
@@ -153,4 +149,47 @@ mark-all p i e h z =
 pub mark-some : (p : List ℕ) (i m : ℕ) → holds 0 p ≡ holds 0 (drop i p) → length p ≤ i → union m (singles (drop i p)) ≡ singles p → markOf p ≡ m
 unfolding markOf holds singles
 mark-some p i m e h k =
-    let none : holds 0 p ≡ false = e ∙ any-done (λ t. subset t 0) p i h in rw none (sym k ∙ rw (drop-of-length-le p {i = i} h) (union-empty m))
+    let none : holds 0 p ≡ false = e ∙ any-done (λ t. subset t 0) p i h in rw none (sym k ∙ rw (drop-of-length-le p {i = i} h) (union-none m))
+
+-- ---- a mark from the terms of one name alone
+
+-- what one term adds
+pub alone-few : (t : ℕ) → leb (ones t) 1 ≡ true → singles (t ∷ []) ≡ t
+unfolding singles
+alone-few t h = singles-few t [] h ∙ union-none t
+
+pub alone-many : (t : ℕ) → leb (ones t) 1 ≡ false → singles (t ∷ []) ≡ 0
+unfolding singles
+alone-many t h = singles-many t [] h
+
+singles-first : (t : ℕ) (p : List ℕ) → singles (t ∷ p) ≡ union (singles (t ∷ [])) (singles p)
+unfolding singles
+singles-first t p = go (eqb (ones t) 1)
+  where
+    go : (b : Bool) → cond b (union t (singles p)) (singles p) ≡ union (cond b (union t 0) 0) (singles p)
+    go true = rw (union-none t)
+    go false = sym (union-comm 0 (singles p) ∙ union-none (singles p))
+
+-- a turn and the end of the loop over all terms; a are the names of the term at i
+pub singles-turn : (p : List ℕ) (i m a : ℕ) → i < length p → a ≡ singles (getD p i 0 ∷ []) → union (union m a) (singles (drop (i + 1) p)) ≡ union m (singles (drop i p))
+singles-turn p i m a h e =
+    rw (drop-next p i h, singles-first (getD p i 0) (drop (i + 1) p), e) (union-assoc m (singles (getD p i 0 ∷ [])) (singles (drop (i + 1) p)))
+
+pub singles-done : (p : List ℕ) (i m : ℕ) → length p ≤ i → union m (singles (drop i p)) ≡ singles p → m ≡ singles p
+unfolding singles
+singles-done p i m h k = sym (union-none m) ∙ rw (drop-of-length-le p {i = i} h) at k
+
+-- zeros behind the terms count for nothing
+pub singles-zeros : (p l : List ℕ) → T (all (λ t. eqb t 0) l) → singles (p ++ l) ≡ singles p
+unfolding singles ones
+singles-zeros [] [] z = refl
+singles-zeros [] (t ∷ l) z =
+    let none : t ≡ 0 = eqb→eq t 0 (both-l (eqb t 0) _ z) in rw none (singles-zeros [] l (both-r (eqb t 0) _ z))
+singles-zeros (t ∷ p) l z = rw (singles-zeros p l z)
+
+-- without the empty term they are the mark
+pub mark-singles : (p : List ℕ) → ((t : ℕ) → In t p → 0 < t) → markOf p ≡ singles p
+unfolding markOf
+mark-singles p f =
+    cond-ind (λ (x : ℕ). x ≡ singles p) (holds 0 p) (2 ^ 32 - 1) (singles p)
+    (λ h. let r = holds-out 0 p h in absurd (omega (arith, f (r .0) (r .1), subset-empty (r .0) (r .2)))) (λ _. refl)

@@ -3,7 +3,7 @@
 -- Above this file nothing needs the definition of `normal`. Assumes nothing.
 use mathlib.Core.Path.{_≡_, refl, sym, ap, ap₂, subst, _∙_}
 use mathlib.Core.Logic.{_⊎_, inl, inr, ⊎-elim}
-use mathlib.Core.Bool.{Bool, true, false, _||_, not, or-assoc}
+use mathlib.Core.Bool.{Bool, true, false, _&&_, _||_, not, or-assoc}
 use mathlib.Core.List.{List, [], _∷_, _++_, append-assoc, append-nil}
 use Prim.Native.Nat.{ℕ, _^_, _≤_, _<_, min}
 use native.Mathlib.Omega.{arith}
@@ -12,7 +12,7 @@ use lib.Count.{ones}
 use lib.ListN.{length}
 use Rattle.names.specs.Sets.{subset, has}
 use Rattle.names.proofs.SetLaws.{subset-refl, subset-trans, subset-antisym, subset-le, empty-subset, ones-mono, test-ext}
-use Rattle.predicates.specs.Lists.{all, In}
+use Rattle.predicates.specs.Lists.{any, all, In}
 use Rattle.predicates.specs.Predicates.{holds, implies, degree, isTrue, struck, precedes, isNormal, insert, rising, minimal, normal, formed}
 use Rattle.predicates.proofs.ListLaws.{both, both-l, both-r, or-l, or-r, or-cases, or-swap, cond-ind, in-cases, any-in, any-out, all-in, all-out, keep-out}
 
@@ -85,18 +85,23 @@ degree-some (t ∷ p) h = go (leb (ones t) (degree p)) refl (λ k. degree-some p
 
 -- ---- normal form: the order
 
-pub holds-insert : (s t : ℕ) (p : List ℕ) → holds s (insert t p) ≡ subset t s || holds s p
-unfolding holds insert
-holds-insert s t [] = refl
-holds-insert s t (u ∷ p) =
-    let rest = holds-insert s t p in
-    cond-ind (λ q. holds s q ≡ subset t s || holds s (u ∷ p)) (leb t u) (t ∷ u ∷ p) (u ∷ insert t p) (λ _. refl)
-    (λ _. ap (λ (b : Bool). subset u s || b) rest ∙ or-swap (subset u s) (subset t s) (holds s p))
+-- a test passes for some term after sorting where it did before
+any-insert : (f : ℕ → Bool) (t : ℕ) (p : List ℕ) → any f (insert t p) ≡ f t || any f p
+unfolding insert
+any-insert f t [] = refl
+any-insert f t (u ∷ p) =
+    let rest = any-insert f t p in
+    cond-ind (λ q. any f q ≡ f t || any f (u ∷ p)) (leb t u) (t ∷ u ∷ p) (u ∷ insert t p) (λ _. refl)
+    (λ _. ap (λ (b : Bool). f u || b) rest ∙ or-swap (f u) (f t) (any f p))
 
-pub holds-rising : (s : ℕ) (p : List ℕ) → holds s (rising p) ≡ holds s p
-unfolding holds rising
-holds-rising s [] = refl
-holds-rising s (t ∷ p) = holds-insert s t (rising p) ∙ ap (λ (b : Bool). subset t s || b) (holds-rising s p)
+pub any-rising : (f : ℕ → Bool) (p : List ℕ) → any f (rising p) ≡ any f p
+unfolding rising
+any-rising f [] = refl
+any-rising f (t ∷ p) = any-insert f t (rising p) ∙ ap (λ (b : Bool). f t || b) (any-rising f p)
+
+holds-rising : (s : ℕ) (p : List ℕ) → holds s (rising p) ≡ holds s p
+unfolding holds
+holds-rising s p = any-rising (λ t. subset t s) p
 
 insert-out : (t : ℕ) (p : List ℕ) (a : ℕ) → In a (insert t p) → (a ≡ t) ⊎ In a p
 unfolding insert
@@ -232,6 +237,11 @@ minimal-normal kept (t ∷ p) n f r =
 pub holds-normal : (s : ℕ) (p : List ℕ) → holds s (normal p) ≡ holds s p
 unfolding normal
 holds-normal s p = holds-minimal s [] (rising p) ∙ holds-rising s p
+
+pub implies-normal : (e p : List ℕ) → implies e (normal p) ≡ implies e p
+unfolding implies
+implies-normal [] p = refl
+implies-normal (t ∷ e) p = ap₂ (λ (a b : Bool). a && b) (holds-normal t p) (implies-normal e p)
 
 pub normal-normal : (p : List ℕ) → T (isNormal (normal p))
 unfolding normal isNormal

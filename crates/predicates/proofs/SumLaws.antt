@@ -70,25 +70,17 @@ strike-done name n l s e k i h j inv r =
           ∙ rw (front, behind) (ap (λ (x : ℕ). (kept ++ replicate (n - x) 0) ++ drop n l) count),
     )
 
--- ---- the sum of two predicates
+-- ---- two predicates, one behind the other
 
--- p and q are copied one after the other, and the normal form is made of both
-pub sum-calls : (l p q s t e : List ℕ) (r : ℕ) → length p + length q ≤ length l → s ≡ sets l 0 p → t ≡ sets s (length p) q
-    → (r ≡ length (normal (take (length p + length q) t))) × (r ≤ length p + length q)
-    → e ≡ padded (length p + length q) (normal (take (length p + length q) t)) ++ drop (length p + length q) t
-    → ((r ≡ length (normal (p ++ q))) × (r ≤ length p + length q)) × (e ≡ padded (length p + length q) (normal (p ++ q)) ++ drop (length p + length q) l)
-sum-calls l p q s t e r h a b c d =
+pub both-calls : (l p q s t : List ℕ) → length p + length q ≤ length l → s ≡ sets l 0 p → t ≡ sets s (length p) q
+    → t ≡ (p ++ q) ++ drop (length p + length q) l
+both-calls l p q s t h a b =
     let n = length p + length q in
     let one : s ≡ p ++ drop (length p) l = a ∙ sets-eq p l 0 (omega arith) ∙ rw zero-add in
     let long : length s ≡ length l = ap length a ∙ length-sets l 0 p in
     let behind : drop n s ≡ drop n l =
     ap (λ (x : List ℕ). drop n x) one ∙ drop-append-add p (drop (length p) l) (length q) ∙ drop-drop (length q) (length p) l in
-    let both : t ≡ (p ++ q) ++ drop n l =
-    b ∙ sets-eq q s (length p) (omega arith) ∙ rw (ap (λ (x : List ℕ). take (length p) x) one ∙ take-at p (drop (length p) l) (length p) refl, behind) in
-    let m : length (p ++ q) ≡ n = length-append p q in
-    let front : take n t ≡ p ++ q = ap (λ (x : List ℕ). take n x) both ∙ take-at (p ++ q) (drop n l) n m in
-    let rest : drop n t ≡ drop n l = ap (λ (x : List ℕ). drop n x) both ∙ drop-at (p ++ q) (drop n l) n m in
-    ((c .0 ∙ rw front, c .1), d ∙ rw (front, rest))
+    b ∙ sets-eq q s (length p) (omega arith) ∙ rw (ap (λ (x : List ℕ). take (length p) x) one ∙ take-at p (drop (length p) l) (length p) refl, behind)
 
 -- ---- what a receiver forms
 

@@ -1,11 +1,11 @@
-// Predicates made from others, in a lent array: struck, the sum of two, and what a receiver forms.
+// Predicates made from others, in a lent array: struck, two together, and what a receiver forms.
 ghost use mathlib.Core.Path.{_≡_};
 ghost use mathlib.Core.List.{List, _++_};
 ghost use Prim.Native.Nat.{ℕ, _+_, _-_, _<_, _≤_};
 ghost use lib.ListN.{length, take, drop, replicate};
 ghost use lib.Seq.{sets};
 ghost use Rattle.predicates.specs.Lists.{padded};
-ghost use Rattle.predicates.specs.Predicates.{formed as Predicates·formed, normal as Predicates·normal, struck};
+ghost use Rattle.predicates.specs.Predicates.{formed as Predicates·formed, struck};
 
 // Puts zeros into the places from `from` up to n.
 fn clear(terms: &mut [u32], from: usize, n: usize)
@@ -51,20 +51,16 @@ pub fn copy(terms: &mut [u32], at: usize, p: &[u32])
     }
 }
 
-// Makes the sum of p and q, in normal form, at the front of `terms`; of the places that both need, those left over are zero.
-// Answers how many terms it has.
-pub fn sum(terms: &mut [u32], p: &[u32], q: &[u32]) -> usize
+// Puts p, and q behind it, at the front of `terms`. Answers how many terms both have.
+pub fn both(terms: &mut [u32], p: &[u32], q: &[u32]) -> usize
     requires { ⌜ length (now p) + length (now q) ≤ length (now terms) ⌝ }
-    ensures { λ r. ⌜ (let both : List ℕ = Predicates·normal (now (p .entry) ++ now (q .entry)) in
-        (r ≡ length both) × (r ≤ length (now (p .entry)) + length (now (q .entry)))) ⌝ }
-    ensures { λ _. ⌜ (let both : List ℕ = Predicates·normal (now (p .entry) ++ now (q .entry)) in
-        let n : ℕ = length (now (p .entry)) + length (now (q .entry)) in
-        now (terms .exit) ≡ padded n both ++ drop n (now (terms .entry))) ⌝ }
+    ensures { λ r. ⌜ r ≡ length (now (p .entry)) + length (now (q .entry)) ⌝ }
+    ensures { λ r. ⌜ now (terms .exit) ≡ (now (p .entry) ++ now (q .entry)) ++ drop r (now (terms .entry)) ⌝ }
 {
     let n = p.len();
     copy(terms, 0, p);
     copy(terms, n, q);
-    super::normal::normal_form(terms, n + q.len())
+    n + q.len()
 }
 
 // Makes of the first n terms, a sender's predicate, what the receiver `own` forms of it; of n + 1 places those left over are zero.

@@ -67,7 +67,7 @@ at-then n at a b s e h =
 pub at-part : (n at : ℕ) (a s : List ℕ) → length a ≡ n → At at a s → part at n s ≡ a
 at-part n at a s e h = ap (λ (t : List ℕ). take n t) (h .1) ∙ take-at a (h .0) n e
 
-num-drop : (n k at : ℕ) (s : List ℕ) → num at n (drop k s) ≡ num (k + at) n s
+pub num-drop : (n k at : ℕ) (s : List ℕ) → num at n (drop k s) ≡ num (k + at) n s
 unfolding num
 num-drop zero k at s = refl
 num-drop (suc n) k at s = rw (getD-drop, num-drop n k (suc at) s, add-suc)

@@ -92,12 +92,12 @@ pub zero-none : (at : ℕ) (s : List ℕ) → T (isZero at at s)
 unfolding isZero
 zero-none at s = rw (slice-empty at s) tt
 
--- what is stored in front leaves zeros as they are
-pub zero-behind : (at from to : ℕ) (vs s : List ℕ) → at + length vs ≤ from → from ≤ to → isZero from to (put at vs s) ≡ isZero from to s
+-- zeros from a place on, where nothing has changed
+pub zero-behind : (from to : ℕ) (s u : List ℕ) → from ≤ to → drop from u ≡ drop from s → isZero from to u ≡ isZero from to s
 unfolding isZero
-zero-behind at from to vs s h k =
-    let e : to ≡ from + (to - from) = omega arith in
-    rw (e, slice-part from (to - from) (put at vs s), slice-part from (to - from) s, drop-put from at vs s h)
+zero-behind from to s u k e =
+    let p : to ≡ from + (to - from) = omega arith in
+    rw (p, slice-part from (to - from) u, slice-part from (to - from) s, e)
 
 -- bytes are stored, and zeros behind them up to `used`: all is zero up to `to` then, where it was so from `used` on
 clear-rest : (at from used to : ℕ) (vs s t u : List ℕ) → at + length vs ≤ from → from ≤ to → used ≤ to → to ≤ length s → T (isZero used to s)

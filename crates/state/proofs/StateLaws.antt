@@ -19,6 +19,7 @@ use Rattle.state.specs.Layout.{datumBytes, entryBytes, dataBytes, entrie
 use Rattle.state.specs.Form.{termsFit, isZero, rowFits, datumFits, entryFits, headFits, dataFit, entriesFit, inForm, headOk, datumOk, storeOk, countsOk, stateOk}
 use Rattle.state.proofs.LayoutLaws.{all-tab, part, At, num-at}
 use Rattle.predicates.proofs.IndexLaws.{below-out}
+use Rattle.state.proofs.PutLaws.{part-stands}
 use Rattle.state.proofs.PartLaws.{Sized, placeIn, partSizes, cutFrom, cut-together, length-together, at-part-in, Begins}
 use Rattle.state.proofs.FormLaws.{length-filled, filled-part, places-in, row-out, row-part, length-row-at, datum-size, entry-size, datum-in, entry-in, datum-row, datum-out, datum-part}
 
@@ -161,7 +162,7 @@ module _ (s : List ℕ) (t : T (inForm s)) where
   unfolding inForm dataFit
   form-datum i h = below-out (heldCount s) (datumFits (num ownAt 4 s) s) (search (both-l, both-r) depth 9) i h
 
-  form-entry : (i : ℕ) → i < entryCount s → T (rowFits (num ownAt 4 s) entryTerms (entryPlace i) s)
+  pub form-entry : (i : ℕ) → i < entryCount s → T (rowFits (num ownAt 4 s) entryTerms (entryPlace i) s)
   unfolding inForm entriesFit entryFits
   form-entry i h = below-out (entryCount s) (entryFits (num ownAt 4 s) s) (search (both-l, both-r) depth 9) i h
 
@@ -191,19 +192,31 @@ module _ (s : List ℕ) (t : T (inForm s)) where
 
   -- bytes in form are those of the state that they hold
   module _ (b : Bytes s) (h : stateSize ≤ length s) where
+    datum-bytes : (i : ℕ) → i < heldCount s → datumBytes (datumAt s i) ≡ part (datumPlace i) datumSize s
+    datum-bytes i k = let c = held-count-le in datum-part (num ownAt 4 s) s i (form-datum i k) b (omega arith)
+
+    entry-bytes : (i : ℕ) → i < entryCount s → entryBytes (entryAt s i) ≡ part (entryPlace i) entrySize s
+    unfolding entryBytes entryAt
+    entry-bytes i k = let c = entry-count-le in row-part (num ownAt 4 s) entryTerms (entryPlace i) s (form-entry i k) b (omega arith)
+
+    -- each stands in its place
+    pub datum-stands : (i : ℕ) → i < heldCount s → At (datumPlace i) (datumBytes (datumAt s i)) s
+    datum-stands i k = rw (datum-bytes i k) (part-stands (datumPlace i) datumSize s)
+
+    pub entry-stands : (i : ℕ) → i < entryCount s → At (entryPlace i) (entryBytes (entryAt s i)) s
+    entry-stands i k = rw (entry-bytes i k) (part-stands (entryPlace i) entrySize s)
+
     data-part : dataBytes (storeOf s .held) ≡ part dataAt (dataMost * datumSize) s
     unfolding dataBytes storeOf inForm dataFit
     data-part =
         let c = held-count-le in
-        rw length-tab (filled-part datumBytes datumSize dataMost dataAt (heldCount s) (datumAt s) s c (omega arith)
-        (λ i k. datum-part (num ownAt 4 s) s i (form-datum i k) b (omega arith)) (search (both-l, both-r) depth 9))
+        rw length-tab (filled-part datumBytes datumSize dataMost dataAt (heldCount s) (datumAt s) s c (omega arith) datum-bytes (search (both-l, both-r) depth 9))
 
     entries-part : entriesBytes (storeOf s .entries) ≡ part entriesAt (entriesMost * entrySize) s
-    unfolding entriesBytes entryBytes entryAt storeOf inForm entriesFit
+    unfolding entriesBytes storeOf inForm entriesFit
     entries-part =
         let c = entry-count-le in
-        rw length-tab (filled-part entryBytes entrySize entriesMost entriesAt (entryCount s) (entryAt s) s c (omega arith)
-        (λ i k. row-part (num ownAt 4 s) entryTerms (entryPlace i) s (form-entry i k) b (omega arith)) (search (both-l, both-r) depth 9))
+        rw length-tab (filled-part entryBytes entrySize entriesMost entriesAt (entryCount s) (entryAt s) s c (omega arith) entry-bytes (search (both-l, both-r) depth 9))
 
     -- part by part
     parts-are : parts (stateOf s) ≡ cutFrom 0 partSizes s

@@ -3,27 +3,27 @@
 -- other; each has the laws `-none`, `-next` and `-done`. What stands in the arrays is then read off the equations that the contracts give.
 -- No contract cites this file. Assumes nothing.
 use Prim.Native.Nat.{ℕ, zero, suc, _+_, _*_, _-_, _≤_, _<_}
-use mathlib.Core.Path.{_≡_, refl, ap, _∙_}
+use mathlib.Core.Path.{_≡_, refl, sym, ap, _∙_}
 use mathlib.Core.Bool.{Bool, true, false}
 use mathlib.Core.List.{List, [], _∷_, _++_, append-nil}
 use mathlib.Core.Logic.{inl, inr, ⊎-elim}
-use native.Mathlib.Nat.{zero-add, mul-le-mul-right, suc-mul, eq-or-lt-of-le}
+use native.Mathlib.Nat.{zero-add, suc-mul, eq-or-lt-of-le}
 use native.Mathlib.Numerals.{add-one}
 use native.Mathlib.Omega.{arith}
 use native.Mathlib.Decide.{decLt}
 use lib.Dec.{T, leb, leb→le, le→leb, eqb, eqb→eq, eqb-refl}
 use lib.ListN.{length, getD, take, drop, set, length-append, length-take, length-drop, length-set, length-replicate, List·getD-append}
-use lib.Seq.{take-append-le, getD-append-add, getD-drop}
-use Rattle.numbers.specs.Numbers.{num, bytes, put, tab}
+use lib.Seq.{take-append-le, drop-at, drop-drop, getD-append-add, getD-drop}
+use Rattle.numbers.specs.Numbers.{num, bytes, put, tab, Bytes}
 use Rattle.numbers.proofs.NumberLaws.{length-bytes, num-put-apart, length-put, put-then, put-front, length-tab, getD-tab, tab-next}
 use Rattle.predicates.specs.Lists.{all, keep}
 use Rattle.predicates.proofs.ListLaws.{all-keep, both-l, both-r}
-use Rattle.state.specs.Layout.{heldAt, knownAt, dataAt, dataMost, datumSize, datumTerms, entriesAt, entriesMost, entrySize, entryTerms, dataBytes, entriesBytes, datumPlace, entryPlace, heldCount, entryCount, zeros, joined, datumBytes, entryBytes, masksAt, rowAt, datumAt, entryAt, storeOf, dataBytes, entriesBytes, entryTerms, datumTerms, entriesMost, dataMost, entrySize, ownAt, rightIn, rowIn}
+use Rattle.state.specs.Layout.{stateSize, heldAt, knownAt, dataAt, dataMost, datumSize, datumTerms, entriesAt, entriesMost, entrySize, entryTerms, dataBytes, entriesBytes, datumPlace, entryPlace, heldCount, entryCount, zeros, joined, datumBytes, entryBytes, masksAt, rowAt, datumAt, entryAt, storeOf, ownAt, rightIn, rowIn}
 use Rattle.state.specs.Form.{isZero, dataFit, entriesFit, inForm, datumOk, termsFit}
-use Rattle.state.proofs.LayoutLaws.{all-tab, At, length-joined, at-joined, length-datum, length-entry}
-use Rattle.state.proofs.PutLaws.{zero-behind, joined-last}
-use Rattle.state.proofs.StateLaws.{held-count-le, entry-count-le, datum-at-ok, length-datum-at, entry-at-ok, length-entry-at}
-use Rattle.state.specs.code.Tables.{Table, Columns, tableOf, table, columns, TableFits, ColumnsFit, rowOf, hasTerms, entriesIn, datumIn, dataIn, Columns, Table, tableOf}
+use Rattle.state.proofs.LayoutLaws.{all-tab, At, num-drop, length-joined, at-joined, length-datum, length-entry}
+use Rattle.state.proofs.PutLaws.{zero-behind, joined-last, put-swap, put-stands, drop-put}
+use Rattle.state.proofs.StateLaws.{held-count-le, entry-count-le, datum-at-ok, length-datum-at, entry-at-ok, length-entry-at, datum-stands, entry-stands}
+use Rattle.state.specs.code.Tables.{Table, Columns, tableOf, table, columns, entryMasks, tableFrom, TableFits, ColumnsFit, rowOf, hasTerms, entriesIn, datumIn, dataIn, DataStand, EntriesStand}
 use Rattle.state.specs.Model.{datum}
 use Rattle.numbers.proofs.NumberLaws.{tab-suc, tab-cong}
 use Rattle.predicates.proofs.ListLaws.{keep-append}
@@ -78,15 +78,28 @@ module _ {A : Type 0} (f : A → List ℕ) where
           stored = rw (joined-last f xs x) (put-then (r * size) at k (joined f xs) (f x) s₀ s u (w .sized) p (w .stored) q);
         }
 
+    -- an element that stood in its place needs no writing
+    pub written-stands : (xs : List A) (x : A) (r k : ℕ) (s₀ s : List ℕ) → k ≡ at + r * size → put k (f x) s₀ ≡ s₀
+        → Written f size at xs r s₀ s → s ≡ put k (f x) s
+    written-stands xs x r k s₀ s p q w =
+        let swap = put-swap at k (joined f xs) (f x) s₀ (omega (arith, w .sized)) in
+        w .stored ∙ ap (λ (l : List ℕ). put at (joined f xs) l) (sym q) ∙ swap ∙ ap (λ (l : List ℕ). put k (f x) l) (sym (w .stored))
+
 -- ---- the masks of rows, read
 
 -- the masks of the first i rows stand one row behind the other
 abbrev pub Masks : ℕ → (ℕ → ℕ) → List ℕ → ℕ → List ℕ → List ℕ → Type 0
 Masks width place s i m₀ m = Written (λ p. p) width 0 (tab i (λ k. masksAt width (place k) s)) i m₀ m
 
-length-masks : (width at : ℕ) (s : List ℕ) → length (masksAt width at s) ≡ width
+pub length-masks : (width at : ℕ) (s : List ℕ) → length (masksAt width at s) ≡ width
 unfolding masksAt
 length-masks width at s = length-tab width (λ j. num (at + 4 + j * 4) 4 s)
+
+-- one row, read into a fresh array
+pub masks-fresh : (at : ℕ) (s : List ℕ) → put 0 (masksAt entryTerms at s) (zeros entryTerms) ≡ masksAt entryTerms at s
+masks-fresh at s =
+    let row = masksAt entryTerms at s in
+    put-front entryTerms row (zeros entryTerms) (length-masks entryTerms at s) (omega arith) ∙ append-nil row
 
 module _ (width : ℕ) (place : ℕ → ℕ) (s : List ℕ) where
   pub masks-none : (m : List ℕ) → Masks width place s 0 m m
@@ -150,14 +163,14 @@ module _ (w n i : ℕ) (counts masks : List ℕ) (t : TableFits w n (table count
 -- a turn of the loop that writes entries
 module _ (n i : ℕ) (counts masks : List ℕ) (t : TableFits 16 n (table counts masks)) (h : i < n) (r : ℕ) (s₀ s : List ℕ)
     (w : Written entryBytes 68 856 (entriesIn i (table counts masks)) r s₀ s) where
-  pub entries-next : (u : List ℕ) → 0 < getD counts i 0
-      → u ≡ put (entryPlace r) (entryBytes (take (i * 16 + getD counts i 0 - i * 16) (drop (i * 16) masks))) s
+  entries-next : (u : List ℕ) → 0 < getD counts i 0
+      → u ≡ put (entryPlace r) (entryBytes (rowOf 16 (table counts masks) i)) s
       → Written entryBytes 68 856 (entriesIn (i + 1) (table counts masks)) (r + 1) s₀ u
   unfolding entriesIn
   entries-next u k q =
       rw (kept-next hasTerms (rowOf 16 (table counts masks)) i (row-live 16 n i counts masks t h k))
       (written-next entryBytes 68 856 (entriesIn i (table counts masks)) (rowOf 16 (table counts masks) i) r (entryPlace r) s₀ s u
-      (length-entry (rowOf 16 (table counts masks) i) (length-row-le 16 i counts masks (t .narrow i))) refl (rw (row-lent 16 i counts masks) at q) w)
+      (length-entry (rowOf 16 (table counts masks) i) (length-row-le 16 i counts masks (t .narrow i))) refl q w)
 
   pub entries-skip : getD counts i 0 ≤ 0 → Written entryBytes 68 856 (entriesIn (i + 1) (table counts masks)) r s₀ s
   unfolding entriesIn
@@ -170,15 +183,29 @@ module _ (n i : ℕ) (counts masks : List ℕ) (t : TableFits 16 n (table counts
 -- a turn of the loop that writes data
 module _ (n i : ℕ) (lefts rights counts masks : List ℕ) (t : ColumnsFit n (columns lefts rights counts masks)) (h : i < n) (r : ℕ) (s₀ s : List ℕ)
     (w : Written datumBytes 52 24 (dataIn i (columns lefts rights counts masks)) r s₀ s) where
-  pub data-next : (u : List ℕ) → 0 < getD counts i 0
-      → u ≡ put (datumPlace r) (datumBytes (datum (getD lefts i 0) (getD rights i 0) (take (i * 8 + getD counts i 0 - i * 8) (drop (i * 8) masks)))) s
+  data-next : (u : List ℕ) → 0 < getD counts i 0
+      → u ≡ put (datumPlace r) (datumBytes (datumIn (columns lefts rights counts masks) i)) s
       → Written datumBytes 52 24 (dataIn (i + 1) (columns lefts rights counts masks)) (r + 1) s₀ u
   unfolding dataIn datumIn
   data-next u k q =
       rw (kept-next (λ d. hasTerms (d .terms)) (datumIn (columns lefts rights counts masks)) i (row-live 8 n i counts masks (t .table) h k))
       (written-next datumBytes 52 24 (dataIn i (columns lefts rights counts masks)) (datumIn (columns lefts rights counts masks) i) r (datumPlace r) s₀ s u
-      (length-datum (datumIn (columns lefts rights counts masks) i) (length-row-le 8 i counts masks (t .table .narrow i))) refl
-      (rw (row-lent 8 i counts masks) at q) w)
+      (length-datum (datumIn (columns lefts rights counts masks) i) (length-row-le 8 i counts masks (t .table .narrow i))) refl q w)
+
+  -- the datum is stored from the part of the array that is lent, or left where it stands
+  pub datum-stored : (u : List ℕ) → 0 < getD counts i 0
+      → u ≡ put (datumPlace r) (datumBytes (datum (getD lefts i 0) (getD rights i 0) (take (i * 8 + getD counts i 0 - i * 8) (drop (i * 8) masks)))) s
+      → Written datumBytes 52 24 (dataIn (i + 1) (columns lefts rights counts masks)) (r + 1) s₀ u
+  unfolding datumIn
+  datum-stored u k q = data-next u k (rw (row-lent 8 i counts masks) at q)
+
+  pub datum-stays : 0 < getD counts i 0 → i ≤ r → r ≤ i → put (datumPlace i) (datumBytes (datumIn (columns lefts rights counts masks) i)) s₀ ≡ s₀
+      → Written datumBytes 52 24 (dataIn (i + 1) (columns lefts rights counts masks)) (r + 1) s₀ s
+  datum-stays k l m q =
+      let e : i ≡ r = omega arith in
+      let d = datumIn (columns lefts rights counts masks) i in
+      let stands : put (datumPlace r) (datumBytes d) s₀ ≡ s₀ = ap (λ (j : ℕ). put (datumPlace j) (datumBytes d) s₀) (sym e) ∙ q in
+      data-next s k (written-stands datumBytes 52 24 (dataIn i (columns lefts rights counts masks)) d r (datumPlace r) s₀ s refl stands w)
 
   pub data-skip : getD counts i 0 ≤ 0 → Written datumBytes 52 24 (dataIn (i + 1) (columns lefts rights counts masks)) r s₀ s
   unfolding dataIn datumIn
@@ -231,37 +258,41 @@ column-rest f n i s₀ s e h =
 pub length-column : (f : ℕ → ℕ) (n : ℕ) (s₀ s : List ℕ) → s ≡ tab n f ++ drop n s₀ → n ≤ length s₀ → length s ≡ length s₀
 length-column f n s₀ s e h = ap length e ∙ rw (length-append, length-tab, length-drop) (omega arith)
 
--- n rows that were read, of at most `width` terms
-module _ (width n : ℕ) (place : ℕ → ℕ) (s c₀ m₀ c m : List ℕ) (p : c ≡ tab n (λ i. num (place i) 4 s) ++ drop n c₀)
-    (q : m ≡ joined (λ l. l) (tab n (λ i. masksAt width (place i) s)) ++ drop (n * width) m₀)
-    (few : (i : ℕ) → i < n → num (place i) 4 s ≤ width) where
+-- the masks of n rows, all of one width
+module _ (width n : ℕ) (place : ℕ → ℕ) (s : List ℕ) where
   masks-wide : T (all (λ l. eqb (length l) width) (tab n (λ i. masksAt width (place i) s)))
   masks-wide =
       all-tab (λ l. eqb (length l) width) n (λ i. masksAt width (place i) s) (λ i h. rw (length-masks width (place i) s) (eqb-refl width))
 
-  pub rows-read : (i : ℕ) → i < n → rowOf width (table c m) i ≡ rowAt width (place i) s
-  unfolding rowOf rowAt
-  rows-read i h =
+  length-rows : length (joined (λ l. l) (tab n (λ i. masksAt width (place i) s))) ≡ n * width
+  length-rows = length-joined (λ l. l) (λ l. eqb (length l) width) width (λ l t. eqb→eq (length l) width t) _ masks-wide ∙ rw length-tab
+
+  -- row i of an array that begins with them
+  rows-front : (c rest m : List ℕ) → m ≡ joined (λ l. l) (tab n (λ i. masksAt width (place i) s)) ++ rest → (i : ℕ) → i < n → getD c i 0 ≤ width
+      → rowOf width (table c m) i ≡ take (getD c i 0) (masksAt width (place i) s)
+  unfolding rowOf
+  rows-front c rest m q i h k =
       let f : ℕ → List ℕ = λ k. masksAt width (place k) s in
       let there : At (i * width) (getD (tab n f) i []) m =
       rw zero-add at (at-joined (λ l. l) (λ l. eqb (length l) width) width (λ l t. eqb→eq (length l) width t) [] 0 i (tab n f) m masks-wide
-      (omega (arith, length-tab n f)) (drop (n * width) m₀, q)) in
-      rw (column-front (λ k. num (place k) 4 s) n i c₀ c p h, there .1, getD-tab n i f [] h)
-      (take-append-le (num (place i) 4 s) (f i) (there .0) (omega (arith, few i h, length-masks width (place i) s)))
+      (omega (arith, length-tab n f)) (rest, q)) in
+      rw (there .1, getD-tab n i f [] h) (take-append-le (getD c i 0) (f i) (there .0) (omega (arith, length-masks width (place i) s)))
 
-  -- the array is as long as it was
-  pub length-read : n * width ≤ length m₀ → length m ≡ length m₀
-  length-read h =
-      let front : length (joined (λ l. l) (tab n (λ i. masksAt width (place i) s))) ≡ n * width =
-      length-joined (λ l. l) (λ l. eqb (length l) width) width (λ l t. eqb→eq (length l) width t) _ masks-wide ∙ rw length-tab in
-      ap length q ∙ rw (length-append, length-drop) (omega arith)
+-- n rows that were read, of at most `width` terms
+module _ (width n : ℕ) (place : ℕ → ℕ) (s c₀ rest c m : List ℕ) (p : c ≡ tab n (λ i. num (place i) 4 s) ++ drop n c₀)
+    (q : m ≡ joined (λ l. l) (tab n (λ i. masksAt width (place i) s)) ++ rest) (few : (i : ℕ) → i < n → num (place i) 4 s ≤ width) where
+  rows-read : (i : ℕ) → i < n → rowOf width (table c m) i ≡ rowAt width (place i) s
+  unfolding rowAt
+  rows-read i h =
+      let count : getD c i 0 ≡ num (place i) 4 s = column-front (λ k. num (place k) 4 s) n i c₀ c p h in
+      rows-front width n place s c rest m q i h (omega (arith, few i h)) ∙ rw count
 
   -- the table that was lent is one still
-  pub table-read : (k : ℕ) → n ≤ k → TableFits width k (table c₀ m₀) → TableFits width k (table c m)
-  table-read k h t =
+  table-read : (k : ℕ) (m₀ : List ℕ) → n ≤ k → length m ≡ length m₀ → TableFits width k (table c₀ m₀) → TableFits width k (table c m)
+  table-read k m₀ h e t =
       record {
         counted = omega (arith, t .counted, length-column (λ i. num (place i) 4 s) n c₀ c p (omega (arith, t .counted)));
-        long = omega (arith, t .long, length-read (omega (arith, mul-le-mul-right width h, t .long)));
+        long = omega (arith, t .long);
         narrow = λ i. small i (decLt i n);
       }
     where
@@ -274,23 +305,97 @@ module _ (n : ℕ) (s l₀ r₀ c₀ m₀ l r c m : List ℕ) (e : l ≡ tab n (
     (f : r ≡ tab n (λ i. num (datumPlace i + rightIn) 8 s) ++ drop n r₀) (p : c ≡ tab n (λ i. num (datumPlace i + rowIn) 4 s) ++ drop n c₀)
     (q : m ≡ joined (λ x. x) (tab n (λ i. masksAt datumTerms (datumPlace i + rowIn) s)) ++ drop (n * 8) m₀)
     (few : (i : ℕ) → i < n → num (datumPlace i + rowIn) 4 s ≤ 8) where
-  pub data-read : tab n (datumIn (columns l r c m)) ≡ tab n (datumAt s)
+  datum-read : (i : ℕ) → i < n → datumIn (columns l r c m) i ≡ datumAt s i
   unfolding datumIn datumAt
-  data-read =
-      tab-cong n (datumIn (columns l r c m)) (datumAt s)
-      (λ i h. rw (
+  datum-read i h =
+      rw (
         column-front (λ k. num (datumPlace k) 8 s) n i l₀ l e h,
         column-front (λ k. num (datumPlace k + rightIn) 8 s) n i r₀ r f h,
-        rows-read 8 n (λ k. datumPlace k + rowIn) s c₀ m₀ c m p q few i h,
-      ))
+        rows-read 8 n (λ k. datumPlace k + rowIn) s c₀ (drop (n * 8) m₀) c m p q few i h,
+      )
+
+  pub data-read : tab n (datumIn (columns l r c m)) ≡ tab n (datumAt s)
+  data-read = tab-cong n (datumIn (columns l r c m)) (datumAt s) datum-read
 
   pub columns-read : (k : ℕ) → n ≤ k → ColumnsFit k (columns l₀ r₀ c₀ m₀) → ColumnsFit k (columns l r c m)
   columns-read k h t =
+      let long : length m ≡ length m₀ =
+      ap length q ∙ rw (length-append, length-drop) (omega (arith, length-rows 8 n (λ i. datumPlace i + rowIn) s, t .table .long)) in
       record {
-        table = table-read 8 n (λ i. datumPlace i + rowIn) s c₀ m₀ c m p q few k h (t .table);
+        table = table-read 8 n (λ i. datumPlace i + rowIn) s c₀ (drop (n * 8) m₀) c m p q few k m₀ h long (t .table);
         lefts-long = omega (arith, t .lefts-long, length-column (λ i. num (datumPlace i) 8 s) n l₀ l e (omega (arith, t .lefts-long)));
         rights-long = omega (arith, t .rights-long, length-column (λ i. num (datumPlace i + rightIn) 8 s) n r₀ r f (omega (arith, t .rights-long)));
       }
+
+-- ---- entries whose terms stand in the bytes, and those behind them
+
+pub length-entry-masks : (n : ℕ) (s : List ℕ) → length (entryMasks n s) ≡ n * 16
+unfolding entryMasks
+length-entry-masks n s = length-rows 16 n entryPlace s
+
+-- a row's masks, where nothing has changed from it on
+masks-apart : (width at : ℕ) (s u : List ℕ) → drop at u ≡ drop at s → masksAt width at u ≡ masksAt width at s
+unfolding masksAt
+masks-apart width at s u e =
+    tab-cong width (λ j. num (at + 4 + j * 4) 4 u) (λ j. num (at + 4 + j * 4) 4 s)
+    (λ j l. let p : at + 4 + j * 4 ≡ at + (4 + j * 4) = omega arith in rw (p, ← (num-drop 4 at (4 + j * 4) u), e, num-drop 4 at (4 + j * 4) s))
+
+entry-masks-apart : (n : ℕ) (s u : List ℕ) → ((at : ℕ) → entriesAt ≤ at → drop at u ≡ drop at s) → entryMasks n u ≡ entryMasks n s
+unfolding entryMasks
+entry-masks-apart n s u e =
+    ap (λ (l : List (List ℕ)). joined (λ p. p) l)
+    (tab-cong n (λ i. masksAt 16 (entryPlace i) u) (λ i. masksAt 16 (entryPlace i) s) (λ i l. masks-apart 16 (entryPlace i) s u (e (entryPlace i) (omega arith))))
+
+module _ (first i : ℕ) (s counts masks : List ℕ) where
+  pub row-front : i < first → getD counts i 0 ≤ 16 → rowOf 16 (tableFrom first s counts masks) i ≡ take (getD counts i 0) (masksAt 16 (entryPlace i) s)
+  unfolding entryMasks
+  row-front h k = rows-front 16 first entryPlace s counts masks (entryMasks first s ++ masks) refl i h k
+
+  -- a row behind them, as the part of the array that is lent
+  pub row-behind : first ≤ i
+      → take ((i - first) * 16 + getD counts i 0 - (i - first) * 16) (drop ((i - first) * 16) masks) ≡ rowOf 16 (tableFrom first s counts masks) i
+  unfolding rowOf
+  row-behind h =
+      let from = (i - first) * 16 in
+      let count : from + getD counts i 0 - from ≡ getD counts i 0 = omega arith in
+      let place : i * 16 ≡ first * 16 + from = omega arith in
+      let front : drop (first * 16) (entryMasks first s ++ masks) ≡ masks = drop-at (entryMasks first s) masks (first * 16) (length-entry-masks first s) in
+      rw (count, place, ← (drop-drop from (first * 16) (entryMasks first s ++ masks)), front)
+
+  pub room-behind : (n : ℕ) → TableFits 16 n (tableFrom first s counts masks) → i < n → first ≤ i → (i - first) * 16 + getD counts i 0 ≤ length masks
+  room-behind n t h k =
+      omega (arith, table-room 16 n counts (entryMasks first s ++ masks) t i h, length-append (entryMasks first s) masks, length-entry-masks first s)
+
+  pub length-behind-le : (n : ℕ) → TableFits 16 n (tableFrom first s counts masks) → first ≤ i
+      → length (take ((i - first) * 16 + getD counts i 0 - (i - first) * 16) (drop ((i - first) * 16) masks)) ≤ 16
+  length-behind-le n t k = rw (row-behind k) (length-row-le 16 i counts (entryMasks first s ++ masks) (t .narrow i))
+
+-- a turn of the loop that writes entries, of which the first stand in the bytes: the entry is stored from the array, moved, or left where it stands
+module _ (first n i : ℕ) (s₀ counts masks : List ℕ) (t : TableFits 16 n (tableFrom first s₀ counts masks)) (h : i < n) (r : ℕ) (s : List ℕ)
+    (w : Written entryBytes 68 856 (entriesIn i (tableFrom first s₀ counts masks)) r s₀ s) (k : 0 < getD counts i 0) where
+  pub entry-stored : (u : List ℕ) → first ≤ i
+      → u ≡ put (entryPlace r) (entryBytes (take ((i - first) * 16 + getD counts i 0 - (i - first) * 16) (drop ((i - first) * 16) masks))) s
+      → Written entryBytes 68 856 (entriesIn (i + 1) (tableFrom first s₀ counts masks)) (r + 1) s₀ u
+  entry-stored u l q = entries-next n i counts (entryMasks first s₀ ++ masks) t h r s₀ s w u k (rw (row-behind first i s₀ counts masks l) at q)
+
+  pub entry-moved : (u : List ℕ) → i < first → r ≤ i → u ≡ put (entryPlace r) (entryBytes (take (getD counts i 0) (masksAt 16 (entryPlace i) s))) s
+      → Written entryBytes 68 856 (entriesIn (i + 1) (tableFrom first s₀ counts masks)) (r + 1) s₀ u
+  entry-moved u l m q =
+      let es = joined entryBytes (entriesIn i (tableFrom first s₀ counts masks)) in
+      let same : masksAt 16 (entryPlace i) s ≡ masksAt 16 (entryPlace i) s₀ =
+      masks-apart 16 (entryPlace i) s₀ s
+      (ap (λ (x : List ℕ). drop (entryPlace i) x) (w .stored) ∙ drop-put (entryPlace i) 856 es s₀ (omega (arith, w .sized))) in
+      entries-next n i counts (entryMasks first s₀ ++ masks) t h r s₀ s w u k
+      (q ∙ ap (λ (e : List ℕ). put (entryPlace r) (entryBytes e) s) (rw same (sym (row-front first i s₀ counts masks l (t .narrow i)))))
+
+  pub entry-stays : i ≤ r → r ≤ i → put (entryPlace i) (entryBytes (rowOf 16 (tableFrom first s₀ counts masks) i)) s₀ ≡ s₀
+      → Written entryBytes 68 856 (entriesIn (i + 1) (tableFrom first s₀ counts masks)) (r + 1) s₀ s
+  entry-stays l m q =
+      let e : i ≡ r = omega arith in
+      let row = rowOf 16 (tableFrom first s₀ counts masks) i in
+      let stands : put (entryPlace r) (entryBytes row) s₀ ≡ s₀ = ap (λ (j : ℕ). put (entryPlace j) (entryBytes row) s₀) (sym e) ∙ q in
+      entries-next n i counts (entryMasks first s₀ ++ masks) t h r s₀ s w s k
+      (written-stands entryBytes 68 856 (entriesIn i (tableFrom first s₀ counts masks)) row r (entryPlace r) s₀ s refl stands w)
 
 -- ---- fresh arrays
 
@@ -305,6 +410,12 @@ length-zeros n = length-replicate n 0
 pub table-fresh : (w n j k : ℕ) → n ≤ j → n * w ≤ k → TableFits w n (table (zeros j) (zeros k))
 table-fresh w n j k g h =
     record { counted = omega (arith, length-zeros j); long = omega (arith, length-zeros k); narrow = λ i. omega (arith, zero-at j i) }
+
+-- a table of whose rows the first have their terms in a state's bytes, and nothing is known of any yet
+pub table-awaiting : (first n j : ℕ) (s masks : List ℕ) → n ≤ j → n * 16 ≤ first * 16 + length masks → TableFits 16 n (tableFrom first s (zeros j) masks)
+table-awaiting first n j s masks g h =
+    let t = table-fresh 16 n j (n * 16) g (omega arith) in
+    record { counted = t .counted; long = omega (arith, length-append (entryMasks first s) masks, length-entry-masks first s); narrow = t .narrow }
 
 pub columns-fresh : (n a b j k : ℕ) → n ≤ a → n ≤ b → n ≤ j → n * 8 ≤ k → ColumnsFit n (columns (zeros a) (zeros b) (zeros j) (zeros k))
 columns-fresh n a b j k e f g h =
@@ -334,23 +445,56 @@ module _ (s : List ℕ) (t : T (inForm s)) where
       let zero : T (isZero (entryPlace (entryCount s)) (entryPlace entriesMost) s) = search (both-l, both-r) depth 9 in
       rw e (entry-count-le s t, zero)
 
-  -- so are the entries' when data have been written in front of them
-  pub rest-stays : (h : ℕ) (c : Columns) (u : List ℕ) → TableFits datumTerms h (tableOf c) → length (dataIn h c) ≤ dataMost
-      → u ≡ put heldAt (bytes 4 (length (dataIn h c))) (put dataAt (dataBytes (dataIn h c)) s) → (n : ℕ) → n ≡ entryCount u
-      → (n ≤ entriesMost) × T (isZero (entryPlace n) (entryPlace entriesMost) u)
-  rest-stays h c u f l e n a =
-      let count = bytes 4 (length (dataIn h c)) in
-      let ds = dataBytes (dataIn h c) in
-      let same : entryCount u ≡ entryCount s =
-      ap (λ (x : List ℕ). num knownAt 4 x) e
-      ∙ num-put-apart 4 heldAt knownAt count (put dataAt ds s) (inr (omega (arith, length-bytes 4 (length (dataIn h c)))))
-      ∙ num-put-apart 4 dataAt knownAt ds s (inl (omega arith)) in
-      let rest = entries-rest n (a ∙ same) in
-      let behind : isZero (entryPlace n) (entryPlace entriesMost) u ≡ isZero (entryPlace n) (entryPlace entriesMost) s =
-      ap (λ (x : List ℕ). isZero (entryPlace n) (entryPlace entriesMost) x) e
-      ∙ zero-behind heldAt (entryPlace n) (entryPlace entriesMost) count (put dataAt ds s) (omega (arith, length-bytes 4 (length (dataIn h c)))) (omega (arith, rest .0))
-      ∙ zero-behind dataAt (entryPlace n) (entryPlace entriesMost) ds s (omega (arith, length-data-in h c f l)) (omega (arith, rest .0)) in
-      (rest .0, rw behind (rest .1))
+  entry-few : (i : ℕ) → i < entryCount s → num (entryPlace i) 4 s ≤ 16
+  unfolding termsFit
+  entry-few i k =
+      let ok = entry-at-ok s t i k in
+      omega (arith, leb→le (length (entryAt s i)) 16 (search (both-l, both-r) depth 9), length-entry-at s t i k)
+
+  -- data that are as the bytes have them stand in their places
+  pub data-stand : Bytes s → stateSize ≤ length s → (c : Columns) → DataStand s c → (n : ℕ) → n ≡ heldCount s
+      → (i : ℕ) → i < n → (getD (c .counts) i 0 ≡ 0 → ⊥) → put (datumPlace i) (datumBytes (datumIn c i)) s ≡ s
+  data-stand b l c d n e i h f =
+      let k : i < heldCount s = omega arith in
+      rw (d i k f) (put-stands (datumPlace i) (datumBytes (datumAt s i)) s (datum-stands s t b l i k))
+
+  -- when data have been written in front of the entries, their places are as they were
+  module _ (h : ℕ) (c : Columns) (u : List ℕ) (f : TableFits datumTerms h (tableOf c)) (l : length (dataIn h c) ≤ dataMost)
+      (e : u ≡ put heldAt (bytes 4 (length (dataIn h c))) (put dataAt (dataBytes (dataIn h c)) s)) where
+    behind-stays : (at : ℕ) → entriesAt ≤ at → drop at u ≡ drop at s
+    behind-stays at k =
+        ap (λ (x : List ℕ). drop at x) e
+        ∙ drop-put at heldAt (bytes 4 (length (dataIn h c))) (put dataAt (dataBytes (dataIn h c)) s) (omega (arith, length-bytes 4 (length (dataIn h c))))
+        ∙ drop-put at dataAt (dataBytes (dataIn h c)) s (omega (arith, length-data-in h c f l))
+
+    known-stays : entryCount u ≡ entryCount s
+    known-stays =
+        ap (λ (x : List ℕ). num knownAt 4 x) e
+        ∙ num-put-apart 4 heldAt knownAt (bytes 4 (length (dataIn h c))) (put dataAt (dataBytes (dataIn h c)) s) (inr (omega (arith, length-bytes 4 (length (dataIn h c)))))
+        ∙ num-put-apart 4 dataAt knownAt (dataBytes (dataIn h c)) s (inl (omega arith))
+
+    module _ (n : ℕ) (a : n ≡ entryCount u) where
+      pub rest-stays : (n ≤ entriesMost) × T (isZero (entryPlace n) (entryPlace entriesMost) u)
+      rest-stays =
+          let rest = entries-rest n (a ∙ known-stays) in
+          (rest .0, rw (zero-behind (entryPlace n) (entryPlace entriesMost) s u (omega (arith, rest .0)) (behind-stays (entryPlace n) (omega arith))) (rest .1))
+
+      pub table-stays : (counts masks : List ℕ) → tableFrom n u counts masks ≡ tableFrom (entryCount s) s counts masks
+      table-stays counts masks =
+          ap (λ (l : List ℕ). table counts (l ++ masks)) (entry-masks-apart n s u behind-stays ∙ ap (λ (k : ℕ). entryMasks k s) (a ∙ known-stays))
+
+      -- entries that are as the bytes have them stand in their places
+      pub entries-stand : Bytes s → stateSize ≤ length s → (counts masks : List ℕ) → EntriesStand s counts
+          → (i : ℕ) → i < n → (getD counts i 0 ≡ 0 → ⊥) → put (entryPlace i) (entryBytes (rowOf entryTerms (tableFrom n u counts masks) i)) u ≡ u
+      unfolding entryAt rowAt
+      entries-stand b long counts masks d i k g =
+          let here : i < entryCount s = omega (arith, known-stays) in
+          let row : rowOf entryTerms (tableFrom n u counts masks) i ≡ entryAt s i =
+          ap (λ (x : Table). rowOf entryTerms x i) (table-stays counts masks)
+          ∙ row-front (entryCount s) i s counts masks here (omega (arith, d i here g, entry-few i here))
+          ∙ ap (λ (m : ℕ). take m (masksAt 16 (entryPlace i) s)) (d i here g) in
+          let stands = entry-stands s t b long i here in
+          rw row (put-stands (entryPlace i) (entryBytes (entryAt s i)) u (stands .0, behind-stays (entryPlace i) (omega arith) ∙ stands .1))
 
 -- a predicate that fits has terms
 fits-some : (own width : ℕ) (p : List ℕ) → T (termsFit own width p) → T (hasTerms p)
@@ -358,26 +502,26 @@ unfolding termsFit hasTerms
 fits-some own width [] t = t
 fits-some own width (x ∷ p) t = tt
 
-module _ (n : ℕ) (s : List ℕ) (t : T (inForm s)) (a : n ≡ entryCount s) (c₀ m₀ c m : List ℕ)
-    (p : c ≡ tab n (λ i. num (entryPlace i) 4 s) ++ drop n c₀) (q : m ≡ joined (λ x. x) (tab n (λ i. masksAt entryTerms (entryPlace i) s)) ++ drop (n * 16) m₀) where
+-- the counts of the entries have been read; their terms stand in the bytes, with room for more behind them
+module _ (n : ℕ) (s : List ℕ) (t : T (inForm s)) (a : n ≡ entryCount s) (c₀ c m : List ℕ) (p : c ≡ tab n (λ i. num (entryPlace i) 4 s) ++ drop n c₀) where
   entries-few : (i : ℕ) → i < n → num (entryPlace i) 4 s ≤ 16
-  unfolding termsFit
-  entries-few i h =
-      let k : i < entryCount s = omega arith in
-      let ok = entry-at-ok s t i k in
-      omega (arith, leb→le (length (entryAt s i)) 16 (search (both-l, both-r) depth 9), length-entry-at s t i k)
+  entries-few i h = entry-few s t i (omega arith)
 
-  -- the entries that were read are those of the state
-  pub entries-form : entriesIn n (table c m) ≡ storeOf s .entries
-  unfolding entriesIn storeOf entryAt
-  entries-form =
-      let read : tab n (rowOf 16 (table c m)) ≡ tab n (entryAt s) =
-      tab-cong n (rowOf 16 (table c m)) (entryAt s) (rows-read 16 n entryPlace s c₀ m₀ c m p q entries-few) in
+  -- each row is an entry of the state
+  pub row-standing : (i : ℕ) → i < n → rowOf 16 (tableFrom n s c m) i ≡ entryAt s i
+  unfolding entryMasks entryAt
+  row-standing = rows-read 16 n entryPlace s c₀ m c (entryMasks n s ++ m) p refl entries-few
+
+  pub entries-standing : entriesIn n (tableFrom n s c m) ≡ storeOf s .entries
+  unfolding entriesIn storeOf
+  entries-standing =
+      let read : tab n (rowOf 16 (tableFrom n s c m)) ≡ tab n (entryAt s) = tab-cong n (rowOf 16 (tableFrom n s c m)) (entryAt s) row-standing in
       rw (read, a)
       (keep-all hasTerms (tab (entryCount s) (entryAt s)) (all-tab hasTerms (entryCount s) (entryAt s) (λ i h. fits-some (num ownAt 4 s) entryTerms (entryAt s i) (entry-at-ok s t i h))))
 
-  pub entries-table : (k : ℕ) → n ≤ k → TableFits 16 k (table c₀ m₀) → TableFits 16 k (table c m)
-  entries-table = table-read 16 n entryPlace s c₀ m₀ c m p q entries-few
+  pub table-standing : (k : ℕ) → n ≤ k → TableFits 16 k (tableFrom n s c₀ m) → TableFits 16 k (tableFrom n s c m)
+  unfolding entryMasks
+  table-standing k h f = table-read 16 n entryPlace s c₀ m c (entryMasks n s ++ m) p refl entries-few k (entryMasks n s ++ m) h refl f
 
 module _ (n : ℕ) (s : List ℕ) (t : T (inForm s)) (a : n ≡ heldCount s) (l₀ r₀ c₀ m₀ l r c m : List ℕ)
     (e : l ≡ tab n (λ i. num (datumPlace i) 8 s) ++ drop n l₀) (f : r ≡ tab n (λ i. num (datumPlace i + rightIn) 8 s) ++ drop n r₀)
@@ -394,6 +538,9 @@ module _ (n : ℕ) (s : List ℕ) (t : T (inForm s)) (a : n ≡ heldCount s) (l�
   pub data-rows : tab n (datumIn (columns l r c m)) ≡ storeOf s .held
   unfolding storeOf
   data-rows = rw (data-read n s l₀ r₀ c₀ m₀ l r c m e f p q data-few, a)
+
+  pub datum-standing : (i : ℕ) → i < n → datumIn (columns l r c m) i ≡ datumAt s i
+  datum-standing = datum-read n s l₀ r₀ c₀ m₀ l r c m e f p q data-few
 
   pub data-form : dataIn n (columns l r c m) ≡ storeOf s .held
   unfolding dataIn storeOf datumOk

@@ -1,17 +1,18 @@
 // Moving held data and entries between a state's bytes and flat arrays: read row by row, and written from the front without the rows that have
 // been given up.
 ghost use mathlib.Core.Path.{_≡_};
-ghost use mathlib.Core.List.{_++_};
-ghost use Prim.Native.Nat.{_+_, _*_, _≤_, _<_};
+ghost use mathlib.Core.List.{List, _++_};
+ghost use Prim.Native.Nat.{ℕ, _+_, _*_, _≤_, _<_};
 ghost use lib.Dec.{T};
-ghost use lib.ListN.{length, drop};
+ghost use lib.ListN.{length, getD, take, drop};
 ghost use Rattle.numbers.specs.Numbers.{num, bytes, put, tab};
 ghost use Rattle.state.specs.Layout.{stateSize, heldAt, knownAt, dataAt, dataMost, datumSize, datumTerms, rightIn, rowIn};
 ghost use Rattle.state.specs.Layout.{entriesAt, entriesMost, entrySize, entryTerms, rowsMost};
-ghost use Rattle.state.specs.Layout.{datumPlace, entryPlace, masksAt, headOf};
+ghost use Rattle.state.specs.Layout.{datumPlace, entryPlace, entryCount, masksAt, headOf};
 ghost use Rattle.state.specs.Layout.{datumBytes, entryBytes, dataBytes, entriesBytes, joined, stateBytes};
 ghost use Rattle.state.specs.Form.{isZero, inForm};
-ghost use Rattle.state.specs.code.Tables.{Columns, Table, columns, table, ColumnsFit, TableFits, entriesIn, dataIn, storeIn};
+ghost use Rattle.state.specs.code.Tables.{Columns, Table, columns, tableFrom, ColumnsFit, TableFits, DataStand, EntriesStand};
+ghost use Rattle.state.specs.code.Tables.{rowOf, entriesIn, datumIn, dataIn, storeIn};
 use super::Ends;
 
 // Reads the masks of the row at `at`, used or not, into the places from `from` on.
@@ -23,22 +24,6 @@ pub fn get_masks(s: &[u8], at: usize, width: usize, masks: &mut [u32], from: usi
     while j < width {
         masks[from + j] = numbers::get32(s, at + 4 + j * 4);
         j += 1;
-    }
-}
-
-// Reads the first n entries into the front of the table; the rest of it stays.
-pub fn get_entries(s: &[u8], n: usize, counts: &mut [u32], masks: &mut [u32])
-    requires { ⌜ (stateSize ≤ length (now s)) × (n ≤ entriesMost) × (n ≤ length (now counts)) × (n * entryTerms ≤ length (now masks)) ⌝ }
-    ensures { λ _. ⌜ now (counts .exit) ≡ tab n (λ i. num (entryPlace i) 4 (now (s .entry))) ++ drop n (now (counts .entry)) ⌝ }
-    ensures { λ _. ⌜ now (masks .exit) ≡
-        joined (λ p. p) (tab n (λ i. masksAt entryTerms (entryPlace i) (now (s .entry)))) ++ drop (n * entryTerms) (now (masks .entry)) ⌝ }
-{
-    let mut i: usize = 0;
-    while i < n {
-        let at = super::ENTRIES_AT + i * super::ENTRY_SIZE;
-        counts[i] = numbers::get32(s, at);
-        get_masks(s, at, super::ENTRY_TERMS, masks, i * super::ENTRY_TERMS);
-        i += 1;
     }
 }
 
@@ -76,7 +61,8 @@ pub fn get_data(
     }
 }
 
-// Writes the data that have terms into the places from the front, in order. Answers how many there are.
+// Writes the data that have terms into the places from the front, in order. Answers how many there are. The first `used` rows came from these very
+// places, so what still stands in its own is not written again.
 fn put_data(
     s: &mut [u8],
     lefts: &[u64],
@@ -84,10 +70,13 @@ fn put_data(
     counts: &[u32],
     masks: &[u32],
     n: usize,
+    used: usize,
 ) -> usize
     requires { ⌜ ColumnsFit n (columns (now lefts) (now rights) (now counts) (now masks)) ⌝ }
     requires { ⌜ length (dataIn n (columns (now lefts) (now rights) (now counts) (now masks))) ≤ dataMost ⌝ }
     requires { ⌜ (n ≤ dataMost + 1) × (stateSize ≤ length (now s)) ⌝ }
+    requires { ⌜ ((i : ℕ) → i < used → (getD (now counts) i 0 ≡ 0 → ⊥)
+        → put (datumPlace i) (datumBytes (datumIn (columns (now lefts) (now rights) (now counts) (now masks)) i)) (now s) ≡ now s) ⌝ }
     ensures { λ r. ⌜ (let c : Columns = columns (now (lefts .entry)) (now (rights .entry)) (now (counts .entry)) (now (masks .entry)) in
         (r ≡ length (dataIn n c)) × (length (joined datumBytes (dataIn n c)) ≡ r * datumSize)) ⌝ }
     ensures { λ _. ⌜ (let c : Columns = columns (now (lefts .entry)) (now (rights .entry)) (now (counts .entry)) (now (masks .entry)) in
@@ -98,13 +87,15 @@ fn put_data(
     while i < n {
         let count = counts[i] as usize;
         if 0 < count {
-            let from = i * super::DATUM_TERMS;
-            let to = from + count;
-            let ends = Ends {
-                left: lefts[i],
-                right: rights[i],
-            };
-            super::rows::put_datum(s, r, ends, &masks[from..to]);
+            if (r < i) | (used <= i) {
+                let from = i * super::DATUM_TERMS;
+                let to = from + count;
+                let ends = Ends {
+                    left: lefts[i],
+                    right: rights[i],
+                };
+                super::rows::put_datum(s, r, ends, &masks[from..to]);
+            }
             r += 1;
         }
         i += 1;
@@ -112,13 +103,34 @@ fn put_data(
     r
 }
 
-// Writes the entries that have terms into the places from the front, in order. Answers how many there are.
-fn put_entries(s: &mut [u8], counts: &[u32], masks: &[u32], n: usize) -> usize
-    requires { ⌜ TableFits entryTerms n (table (now counts) (now masks)) ⌝ }
-    requires { ⌜ (n ≤ rowsMost) × (length (entriesIn n (table (now counts) (now masks))) ≤ entriesMost) × (stateSize ≤ length (now s)) ⌝ }
-    ensures { λ r. ⌜ (let t : Table = table (now (counts .entry)) (now (masks .entry)) in
+// Writes the entry in place i, of `count` terms, into place r.
+fn move_entry(s: &mut [u8], i: usize, count: usize, r: usize)
+    requires { ⌜ (i < entriesMost) × (r < entriesMost) × (count ≤ entryTerms) × (stateSize ≤ length (now s)) ⌝ }
+    ensures { λ _. ⌜ (let e : List ℕ = take count (masksAt entryTerms (entryPlace i) (now (s .entry))) in
+        now (s .exit) ≡ put (entryPlace r) (entryBytes e) (now (s .entry))) ⌝ }
+{
+    let mut row = [0u32; super::ENTRY_TERMS];
+    get_masks(
+        s,
+        super::ENTRIES_AT + i * super::ENTRY_SIZE,
+        super::ENTRY_TERMS,
+        &mut row,
+        0,
+    );
+    super::rows::put_entry(s, r, &row[..count]);
+}
+
+// Writes the entries that have terms into the places from the front, in order. Answers how many there are. The rows below `first` have their terms in
+// these very places; what still stands in its own is not written again.
+fn put_entries(s: &mut [u8], first: usize, counts: &[u32], masks: &[u32], n: usize) -> usize
+    requires { ⌜ TableFits entryTerms n (tableFrom first (now s) (now counts) (now masks)) ⌝ }
+    requires { ⌜ length (entriesIn n (tableFrom first (now s) (now counts) (now masks))) ≤ entriesMost ⌝ }
+    requires { ⌜ (n ≤ rowsMost) × (first ≤ entriesMost) × (stateSize ≤ length (now s)) ⌝ }
+    requires { ⌜ ((i : ℕ) → i < first → (getD (now counts) i 0 ≡ 0 → ⊥)
+        → put (entryPlace i) (entryBytes (rowOf entryTerms (tableFrom first (now s) (now counts) (now masks)) i)) (now s) ≡ now s) ⌝ }
+    ensures { λ r. ⌜ (let t : Table = tableFrom first (now (s .entry)) (now (counts .entry)) (now (masks .entry)) in
         (r ≡ length (entriesIn n t)) × (length (joined entryBytes (entriesIn n t)) ≡ r * entrySize)) ⌝ }
-    ensures { λ _. ⌜ (let t : Table = table (now (counts .entry)) (now (masks .entry)) in
+    ensures { λ _. ⌜ (let t : Table = tableFrom first (now (s .entry)) (now (counts .entry)) (now (masks .entry)) in
         now (s .exit) ≡ put entriesAt (joined entryBytes (entriesIn n t)) (now (s .entry))) ⌝ }
 {
     let mut r: usize = 0;
@@ -126,9 +138,13 @@ fn put_entries(s: &mut [u8], counts: &[u32], masks: &[u32], n: usize) -> usize
     while i < n {
         let count = counts[i] as usize;
         if 0 < count {
-            let from = i * super::ENTRY_TERMS;
-            let to = from + count;
-            super::rows::put_entry(s, r, &masks[from..to]);
+            if first <= i {
+                let from = (i - first) * super::ENTRY_TERMS;
+                let to = from + count;
+                super::rows::put_entry(s, r, &masks[from..to]);
+            } else if r < i {
+                move_entry(s, i, count, r);
+            }
             r += 1;
         }
         i += 1;
@@ -136,7 +152,8 @@ fn put_entries(s: &mut [u8], counts: &[u32], masks: &[u32], n: usize) -> usize
     r
 }
 
-// Writes the data that have terms, zeros into the places left over, and the held count. The places from `used` on are zero already.
+// Writes the data that have terms, zeros into the places left over, and the held count. The first `used` rows came from these very places, and the
+// places behind those are zero already.
 fn put_held(
     s: &mut [u8],
     lefts: &[u64],
@@ -150,10 +167,12 @@ fn put_held(
     requires { ⌜ length (dataIn n (columns (now lefts) (now rights) (now counts) (now masks))) ≤ dataMost ⌝ }
     requires { ⌜ (n ≤ dataMost + 1) × (stateSize ≤ length (now s)) ⌝ }
     requires { ⌜ (used ≤ dataMost) × T (isZero (datumPlace used) (datumPlace dataMost) (now s)) ⌝ }
+    requires { ⌜ ((i : ℕ) → i < used → (getD (now counts) i 0 ≡ 0 → ⊥)
+        → put (datumPlace i) (datumBytes (datumIn (columns (now lefts) (now rights) (now counts) (now masks)) i)) (now s) ≡ now s) ⌝ }
     ensures { λ _. ⌜ (let c : Columns = columns (now (lefts .entry)) (now (rights .entry)) (now (counts .entry)) (now (masks .entry)) in
         now (s .exit) ≡ put heldAt (bytes 4 (length (dataIn n c))) (put dataAt (dataBytes (dataIn n c)) (now (s .entry)))) ⌝ }
 {
-    let places = put_data(s, lefts, rights, counts, masks, n);
+    let places = put_data(s, lefts, rights, counts, masks, n, used);
     super::rows::clear(
         s,
         super::DATA_AT + places * super::DATUM_SIZE,
@@ -162,15 +181,19 @@ fn put_held(
     numbers::put32(s, super::HELD_AT, places as u32);
 }
 
-// Writes the entries that have terms, zeros into the places left over, and the entry count. The places from `used` on are zero already.
-pub fn put_known(s: &mut [u8], counts: &[u32], masks: &[u32], n: usize, used: usize)
-    requires { ⌜ TableFits entryTerms n (table (now counts) (now masks)) ⌝ }
-    requires { ⌜ (n ≤ rowsMost) × (length (entriesIn n (table (now counts) (now masks))) ≤ entriesMost) × (stateSize ≤ length (now s)) ⌝ }
+// Writes the entries that have terms, zeros into the places left over, and the entry count. The rows below `first` have their terms in these very
+// places; the places from `used` on are zero already.
+pub fn put_known(s: &mut [u8], first: usize, counts: &[u32], masks: &[u32], n: usize, used: usize)
+    requires { ⌜ TableFits entryTerms n (tableFrom first (now s) (now counts) (now masks)) ⌝ }
+    requires { ⌜ length (entriesIn n (tableFrom first (now s) (now counts) (now masks))) ≤ entriesMost ⌝ }
+    requires { ⌜ (n ≤ rowsMost) × (first ≤ entriesMost) × (stateSize ≤ length (now s)) ⌝ }
+    requires { ⌜ ((i : ℕ) → i < first → (getD (now counts) i 0 ≡ 0 → ⊥)
+        → put (entryPlace i) (entryBytes (rowOf entryTerms (tableFrom first (now s) (now counts) (now masks)) i)) (now s) ≡ now s) ⌝ }
     requires { ⌜ (used ≤ entriesMost) × T (isZero (entryPlace used) (entryPlace entriesMost) (now s)) ⌝ }
-    ensures { λ _. ⌜ (let t : Table = table (now (counts .entry)) (now (masks .entry)) in
+    ensures { λ _. ⌜ (let t : Table = tableFrom first (now (s .entry)) (now (counts .entry)) (now (masks .entry)) in
         now (s .exit) ≡ put knownAt (bytes 4 (length (entriesIn n t))) (put entriesAt (entriesBytes (entriesIn n t)) (now (s .entry)))) ⌝ }
 {
-    let places = put_entries(s, counts, masks, n);
+    let places = put_entries(s, first, counts, masks, n);
     super::rows::clear(
         s,
         super::ENTRIES_AT + places * super::ENTRY_SIZE,
@@ -179,7 +202,8 @@ pub fn put_known(s: &mut [u8], counts: &[u32], masks: &[u32], n: usize, used: us
     numbers::put32(s, super::KNOWN_AT, places as u32);
 }
 
-// Writes what h rows of data and n rows of entries hold into a state in form; its head stays.
+// Writes what h rows of data and n rows of entries hold into the state in form that they came from; its head stays. The entries that it had have
+// their terms in it.
 pub fn put_store(
     s: &mut [u8],
     lefts: &[u64],
@@ -191,16 +215,18 @@ pub fn put_store(
     masks: &[u32],
     n: usize,
 )
-    requires { ⌜ ColumnsFit h (columns (now lefts) (now rights) (now held) (now terms)) × TableFits entryTerms n (table (now counts) (now masks)) ⌝ }
+    requires { ⌜ ColumnsFit h (columns (now lefts) (now rights) (now held) (now terms)) ⌝ }
+    requires { ⌜ TableFits entryTerms n (tableFrom (entryCount (now s)) (now s) (now counts) (now masks)) ⌝ }
     requires { ⌜ length (dataIn h (columns (now lefts) (now rights) (now held) (now terms))) ≤ dataMost ⌝ }
-    requires { ⌜ length (entriesIn n (table (now counts) (now masks))) ≤ entriesMost ⌝ }
+    requires { ⌜ length (entriesIn n (tableFrom (entryCount (now s)) (now s) (now counts) (now masks))) ≤ entriesMost ⌝ }
     requires { ⌜ (h ≤ dataMost + 1) × (n ≤ rowsMost) × (stateSize ≤ length (now s)) × T (inForm (now s)) ⌝ }
+    requires { ⌜ DataStand (now s) (columns (now lefts) (now rights) (now held) (now terms)) × EntriesStand (now s) (now counts) ⌝ }
     ensures { λ _. ⌜ (let c : Columns = columns (now (lefts .entry)) (now (rights .entry)) (now (held .entry)) (now (terms .entry)) in
-        let t : Table = table (now (counts .entry)) (now (masks .entry)) in
+        let t : Table = tableFrom (entryCount (now (s .entry))) (now (s .entry)) (now (counts .entry)) (now (masks .entry)) in
         now (s .exit) ≡ put 0 (stateBytes (record { head = headOf (now (s .entry)); store = storeIn h c n t })) (now (s .entry))) ⌝ }
 {
     let data = numbers::get32(s, super::HELD_AT) as usize;
     put_held(s, lefts, rights, held, terms, h, data);
     let entries = numbers::get32(s, super::KNOWN_AT) as usize;
-    put_known(s, counts, masks, n, entries);
+    put_known(s, entries, counts, masks, n, entries);
 }

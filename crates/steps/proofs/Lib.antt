@@ -1,5 +1,3 @@
--- The laws that the proofs of `steps` share, lowest first: columns of data, the steps on them, what the steps keep, and what a receipt leaves.
-pub mod ColumnLaws
+-- The laws that the proofs of `steps` and the crates above share: the steps on columns of data, and what the steps keep.
 pub mod StepLaws
 pub mod ReceiveLaws
-pub mod OutcomeLaws

@@ -1,11 +1,10 @@
--- The four steps on data in columns: what each loop tests, gives up and leaves, as facts on the list of data that the columns hold.
+-- The four steps on data in columns, one by one: what each loop tests and finds, as facts on the list of data that the columns hold.
 -- No contract cites this file. Assumes nothing.
 use Prim.Native.Nat.{ℕ, zero, suc, _+_, _-_, _≤_, _<_}
 use mathlib.Core.Path.{_≡_, refl, sym, ap, ap₂, _∙_}
-use mathlib.Core.Bool.{Bool, true, false, _&&_, _||_, not, cond}
+use mathlib.Core.Bool.{Bool, true, false, _&&_, _||_, cond}
 use mathlib.Core.List.{List, [], _∷_, _++_, append-assoc, append-nil}
 use native.Mathlib.Nat.{add-zero, add-suc}
-use native.Mathlib.Numerals.{add-one}
 use native.Mathlib.Omega.{arith}
 use borrow.Author.Tests.{eq-eqb, ne-eqb, eqb-true}
 use lib.Dec.{eqb}
@@ -15,40 +14,15 @@ use Rattle.numbers.specs.Numbers.{tab}
 use Rattle.predicates.specs.Lists.{any, keep}
 use Rattle.predicates.specs.Predicates.{normal}
 use Rattle.predicates.proofs.LoopLaws.{drop-next}
-use Rattle.state.specs.Model.{Datum, Store}
-use Rattle.steps.specs.Steps.{disjoint, learnt, unexplained, same, meet, met, without, betters, stored, heldAfter, settled}
-use Rattle.entries.specs.Entries.{explained, learn}
-use Rattle.state.specs.code.Tables.{table, columns, rowOf, hasTerms, datumIn, dataIn}
-use Rattle.state.specs.Model.{datum}
-use Rattle.entries.specs.code.Marks.{givenUp}
-use Rattle.steps.specs.code.Rows.{FirstRow, liveBelow}
+use Rattle.state.specs.Model.{Datum, datum}
+use Rattle.steps.specs.Steps.{disjoint, learnt, same, meet, met, without, betters}
+use Rattle.entries.specs.Entries.{learn}
+use Rattle.state.specs.code.Tables.{table, entryMasks, tableFrom, TableFits, columns, rowOf, hasTerms, datumIn, dataIn}
+use Rattle.steps.specs.code.Rows.{FirstRow}
 use Rattle.numbers.proofs.NumberLaws.{tab-suc, tab-cong}
 use Rattle.predicates.proofs.ListLaws.{keep-append}
-use Rattle.entries.proofs.TableLaws.{given-up-count, anyBelow, any-below-none, any-kept}
-
--- ---- how many rows have terms
-
-module _ (counts : List ℕ) (i rows r : ℕ) (e : rows ≡ liveBelow i counts) where
-  pub live-pass : getD counts i 0 ≡ 0 → r ≡ rows → r ≡ liveBelow (i + 1) counts
-  unfolding liveBelow
-  live-pass h q = rw (add-one, eq-eqb _ _ h, q, e) (omega arith)
-
-  pub live-count : (getD counts i 0 ≡ 0 → ⊥) → r ≡ rows + 1 → r ≡ liveBelow (i + 1) counts
-  unfolding liveBelow
-  live-count h q = rw (add-one, ne-eqb _ _ h, q, e)
-
--- as many as are kept
-pub length-live : {A : Type 0} (g : A → Bool) (n : ℕ) (r : ℕ → A) (counts : List ℕ) → ((i : ℕ) → i < n → g (r i) ≡ not (eqb (getD counts i 0) 0))
-    → length (keep g (tab n r)) ≡ liveBelow n counts
-unfolding tab liveBelow
-length-live g zero r counts h = refl
-length-live g (suc n) r counts h =
-    ap length (keep-append g (tab n r) (r n ∷ [])) ∙ length-append (keep g (tab n r)) (keep g (r n ∷ []))
-    ∙ ap₂ _+_ (length-live g n r counts (λ i p. h i (omega arith))) (last (eqb (getD counts n 0) 0) (h n (omega arith)))
-  where
-    last : (b : Bool) → g (r n) ≡ not b → length (keep g (r n ∷ [])) ≡ cond b 0 1
-    last true e = rw e
-    last false e = rw e
+use Rattle.state.proofs.RowLaws.{table-more}
+use Rattle.entries.proofs.TableLaws.{anyBelow, any-below-none, any-kept}
 
 -- ---- equal lists of terms
 
@@ -86,44 +60,6 @@ same-eq (t ∷ p) (u ∷ q) e = go (eqb t u) refl e (λ f. same-eq p q f)
     go : (b : Bool) → eqb t u ≡ b → b && same p q ≡ true → (same p q ≡ true → p ≡ q) → t ∷ p ≡ u ∷ q
     go true f e rest = ap₂ (λ (x : ℕ) (l : List ℕ). x ∷ l) (eqb-true t u f) (rest e)
     go false f e rest = let z : _≡_ {A = ℕ} 0 1 = cc in absurd (omega arith)
-
--- ---- the data in columns, when rows are given up
-
-module _ (h : ℕ) (lefts rights counts masks : List ℕ) where
-  -- the datum of a row whose count is zero or as it was
-  datum-cond : (b : Bool) (c : List ℕ) (i : ℕ) → getD c i 0 ≡ cond b 0 (getD counts i 0) →
-      datumIn (columns lefts rights c masks) i ≡ cond b (datum (getD lefts i 0) (getD rights i 0) []) (datumIn (columns lefts rights counts masks) i)
-  unfolding datumIn rowOf
-  datum-cond true c i e = rw e
-  datum-cond false c i e = rw e
-
-  kept-cond : (t : Datum → Bool) (n : ℕ) (d : ℕ → Datum) (l r : ℕ → ℕ) →
-      keep (λ x. hasTerms (x .terms)) (tab n (λ i. cond (t (d i)) (datum (l i) (r i) []) (d i))) ≡ keep (λ x. not (t x)) (keep (λ x. hasTerms (x .terms)) (tab n d))
-  unfolding tab hasTerms
-  kept-cond t zero d l r = refl
-  kept-cond t (suc n) d l r =
-      keep-append (λ x. hasTerms (x .terms)) (tab n (λ i. cond (t (d i)) (datum (l i) (r i) []) (d i))) (cond (t (d n)) (datum (l n) (r n) []) (d n) ∷ [])
-      ∙ ap₂ (λ (a b : List Datum). a ++ b) (kept-cond t n d l r) (last (t (d n)) (hasTerms (d n .terms)) refl refl)
-      ∙ sym (ap (λ x. keep (λ y. not (t y)) x) (keep-append (λ x. hasTerms (x .terms)) (tab n d) (d n ∷ []))
-      ∙ keep-append (λ y. not (t y)) (keep (λ x. hasTerms (x .terms)) (tab n d)) (keep (λ x. hasTerms (x .terms)) (d n ∷ [])))
-    where
-      last : (a b : Bool) → t (d n) ≡ a → hasTerms (d n .terms) ≡ b
-          → keep (λ x. hasTerms (x .terms)) (cond a (datum (l n) (r n) []) (d n) ∷ []) ≡ keep (λ y. not (t y)) (keep (λ x. hasTerms (x .terms)) (d n ∷ []))
-      last true true e f = rw (f, e)
-      last true false e f = rw f
-      last false true e f = rw (f, e)
-      last false false e f = rw f
-
-  pub data-given-up : (t : Datum → Bool) →
-      dataIn h (columns lefts rights (givenUp h (λ i. t (datumIn (columns lefts rights counts masks) i)) counts) masks) ≡ keep (λ d. not (t d)) (dataIn h (columns lefts rights counts masks))
-  unfolding dataIn
-  data-given-up t =
-      ap (λ l. keep (λ x. hasTerms (x .terms)) l)
-      (tab-cong h (datumIn (columns lefts rights (givenUp h (λ i. t (datumIn (columns lefts rights counts masks) i)) counts) masks))
-      (λ i. cond (t (datumIn (columns lefts rights counts masks) i)) (datum (getD lefts i 0) (getD rights i 0) []) (datumIn (columns lefts rights counts masks) i))
-      (λ i p. datum-cond (t (datumIn (columns lefts rights counts masks) i)) (givenUp h (λ k. t (datumIn (columns lefts rights counts masks) k)) counts) i
-      (given-up-count (λ k. t (datumIn (columns lefts rights counts masks) k)) counts h i p)))
-      ∙ kept-cond t h (datumIn (columns lefts rights counts masks)) (λ i. getD lefts i 0) (λ i. getD rights i 0)
 
 -- ---- single rows
 
@@ -271,37 +207,9 @@ learnt-next n d i before after es p q =
     q ∙ ap (λ (b : List (List ℕ)). cond (disjoint (d i) n) (learn (normal (d i .terms ++ n .terms)) b) b) p
     ∙ sym (ap (λ l. learnt n l es) (tab-suc i d) ∙ learnt-last n (tab i d) (d i) es)
 
--- ---- steps 2 to 4 together
-
-pub stored-kept : (n : Datum) (ds : List Datum) → any (λ x. betters x n) ds ≡ true → ds ≡ stored n ds
-unfolding stored
-stored-kept n ds e = rw e
-
-pub stored-new : (n : Datum) (ds : List Datum) → any (λ x. betters x n) ds ≡ false → keep (λ x. not (betters n x)) ds ++ (n ∷ []) ≡ stored n ds
-unfolding stored
-stored-new n ds e = rw e
-
-module _ (h : ℕ) (lefts rights counts c masks : List ℕ) where
-  pub data-unexplained : (es : List (List ℕ)) → c ≡ givenUp h (λ i. explained es (rowOf 8 (table counts masks) i)) counts
-      → dataIn h (columns lefts rights c masks) ≡ unexplained es (dataIn h (columns lefts rights counts masks))
-  unfolding unexplained datumIn
-  data-unexplained es e = rw e (data-given-up h lefts rights counts masks (λ d. explained es (d .terms)))
-
-  pub data-bettered : (n : Datum) → c ≡ givenUp h (λ i. betters n (datumIn (columns lefts rights counts masks) i)) counts
-      → dataIn h (columns lefts rights c masks) ≡ keep (λ d. not (betters n d)) (dataIn h (columns lefts rights counts masks))
-  data-bettered n e = rw e (data-given-up h lefts rights counts masks (λ d. betters n d))
-
-pub held-explained : (n : Datum) (ds : List Datum) (es : List (List ℕ)) → explained es (n .terms) ≡ true → unexplained es ds ≡ heldAfter n ds es
-unfolding heldAfter
-held-explained n ds es e = rw e
-
-pub held-placed : (n : Datum) (ds : List Datum) (es : List (List ℕ)) → explained es (n .terms) ≡ false
-    → stored (met n (unexplained es ds)) (without (n .terms) (unexplained es ds)) ≡ heldAfter n ds es
-unfolding heldAfter
-held-placed n ds es e = rw e
-
--- the entries of step 1 and the data of steps 2 to 4 are the store of the definition
-pub settled-by : (n : Datum) (k : Store) (ds : List Datum) (es : List (List ℕ)) → es ≡ learnt n (k .held) (k .entries)
-    → ds ≡ heldAfter n (k .held) es → _≡_ {A = Store} (record { held = ds; entries = es }) (settled n k)
-unfolding settled
-settled-by n k ds es p q = ap₂ (λ (x : List Datum) (y : List (List ℕ)). record { held = x; entries = y }) (q ∙ rw p) p
+-- the table has room for what is still to be learnt
+pub table-held : (first : ℕ) (s c₀ m₀ c m : List ℕ) {k : ℕ} → TableFits 16 k (tableFrom first s c₀ m₀) → (n : ℕ) → TableFits 16 n (tableFrom first s c m)
+    → length c ≡ length c₀ → length m ≡ length m₀ → (j : ℕ) → j ≤ k → TableFits 16 j (tableFrom first s c m)
+table-held first s c₀ m₀ c m f n t p q j h =
+    table-more 16 n j c (entryMasks first s ++ m) t (omega (arith, f .counted))
+    (omega (arith, f .long, length-append (entryMasks first s) m, length-append (entryMasks first s) m₀))

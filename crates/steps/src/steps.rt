@@ -10,10 +10,10 @@ ghost use Rattle.numbers.specs.Numbers.{tab};
 ghost use Rattle.predicates.specs.Lists.{any};
 ghost use Rattle.predicates.specs.Predicates.{normal};
 ghost use Rattle.state.specs.Model.{Datum};
-ghost use Rattle.state.specs.Layout.{datumTerms, entryTerms};
-ghost use Rattle.state.specs.code.Tables.{Table, Columns, table, columns, tableOf, TableFits, ColumnsFit};
+ghost use Rattle.state.specs.Layout.{stateSize, entriesMost, datumTerms, entryTerms};
+ghost use Rattle.state.specs.code.Tables.{Table, Columns, table, tableFrom, columns, tableOf, TableFits, ColumnsFit};
 ghost use Rattle.state.specs.code.Tables.{rowOf, hasTerms, entriesIn, datumOf, datumIn, dataIn};
-ghost use Rattle.entries.specs.code.Marks.{Marked, givenUp};
+ghost use Rattle.entries.specs.code.Marks.{Marked, Left, givenUp};
 ghost use Rattle.steps.specs.code.Rows.{FirstRow};
 use super::Rows;
 use state::Ends;
@@ -34,56 +34,61 @@ fn learn_from(
     q: &[u32],
     new: Ends,
     p: &[u32],
+    s: &[u8],
+    first: usize,
     counts: &mut [u32],
     masks: &mut [u32],
     marks: &mut [u32],
     n: usize,
 ) -> usize
-    requires { ⌜ TableFits entryTerms (n + 1) (table (now counts) (now masks)) ⌝ }
+    requires { ⌜ (stateSize ≤ length (now s)) × (first ≤ entriesMost) × (first ≤ n) ⌝ }
+    requires { ⌜ TableFits entryTerms (n + 1) (tableFrom first (now s) (now counts) (now masks)) ⌝ }
     requires { ⌜ (length (now q) ≤ datumTerms) × (0 < length (now p)) × (length (now p) ≤ datumTerms) × (n < length (now marks)) ⌝ }
-    requires { ⌜ Marked n (table (now counts) (now masks)) (now marks) ⌝ }
-    ensures { λ r. ⌜ (let t : Table = table (now (counts .exit)) (now (masks .exit)) in
-        (n ≤ r) × (r ≤ n + 1) × TableFits entryTerms r t × Marked r t (now (marks .exit))) ⌝ }
+    requires { ⌜ Marked n (tableFrom first (now s) (now counts) (now masks)) (now marks) ⌝ }
+    ensures { λ r. ⌜ (let t : Table = tableFrom first (now (s .entry)) (now (counts .exit)) (now (masks .exit)) in
+        (n ≤ r) × (r ≤ n + 1) × TableFits entryTerms r t × Marked r t (now (marks .exit)) × Left n (now (counts .entry)) (now (counts .exit))) ⌝ }
     ensures { λ r. ⌜ (let d : Datum = datumOf old (now (q .entry)) in
         let new : Datum = datumOf new (now (p .entry)) in
-        let es : List (List ℕ) = entriesIn n (table (now (counts .entry)) (now (masks .entry))) in
-        entriesIn r (table (now (counts .exit)) (now (masks .exit)))
+        let es : List (List ℕ) = entriesIn n (tableFrom first (now (s .entry)) (now (counts .entry)) (now (masks .entry))) in
+        entriesIn r (tableFrom first (now (s .entry)) (now (counts .exit)) (now (masks .exit)))
         ≡ cond (Steps·disjoint d new) (learn (normal (d .terms ++ new .terms)) es) es) ⌝ }
 {
     if !disjoint(old, new) {
         return n;
     }
-    let mut terms = [0u32; state::ENTRY_TERMS];
-    let m = predicates::sums::sum(&mut terms, q, p);
-    entries::tables::learn(counts, masks, marks, n, &terms[..m])
+    entries::tables::learn_sum(s, first, counts, masks, marks, n, q, p)
 }
 
 // Step 1: what the new datum and the held data teach, oldest first. Answers how many rows of entries there are now.
-pub(crate) fn learn_all(
+pub fn learn_all(
     lefts: &[u64],
     rights: &[u64],
     held: &[u32],
     terms: &[u32],
     new: Ends,
     p: &[u32],
+    s: &[u8],
     counts: &mut [u32],
     masks: &mut [u32],
     marks: &mut [u32],
     rows: Rows,
 ) -> usize
     requires { ⌜ ColumnsFit (rows .held) (columns (now lefts) (now rights) (now held) (now terms)) ⌝ }
-    requires { ⌜ TableFits entryTerms (rows .known + rows .held) (table (now counts) (now masks)) ⌝ }
+    requires { ⌜ (stateSize ≤ length (now s)) × (rows .known ≤ entriesMost) ⌝ }
+    requires { ⌜ TableFits entryTerms (rows .known + rows .held) (tableFrom (rows .known) (now s) (now counts) (now masks)) ⌝ }
     requires { ⌜ (0 < length (now p)) × (length (now p) ≤ datumTerms) × (rows .known + rows .held ≤ length (now marks)) ⌝ }
-    requires { ⌜ Marked (rows .known) (table (now counts) (now masks)) (now marks) ⌝ }
-    ensures { λ r. ⌜ (let t : Table = table (now (counts .exit)) (now (masks .exit)) in
-        (r ≤ rows .known + rows .held) × TableFits entryTerms r t × Marked r t (now (marks .exit))) ⌝ }
+    requires { ⌜ Marked (rows .known) (tableFrom (rows .known) (now s) (now counts) (now masks)) (now marks) ⌝ }
+    ensures { λ r. ⌜ (let t : Table = tableFrom (rows .known) (now (s .entry)) (now (counts .exit)) (now (masks .exit)) in
+        (r ≤ rows .known + rows .held) × TableFits entryTerms r t × Marked r t (now (marks .exit))
+        × Left (rows .known) (now (counts .entry)) (now (counts .exit))) ⌝ }
     ensures { λ r. ⌜ (let c : Columns = columns (now (lefts .entry)) (now (rights .entry)) (now (held .entry)) (now (terms .entry)) in
-        let old : Table = table (now (counts .entry)) (now (masks .entry)) in
-        entriesIn r (table (now (counts .exit)) (now (masks .exit)))
+        let old : Table = tableFrom (rows .known) (now (s .entry)) (now (counts .entry)) (now (masks .entry)) in
+        entriesIn r (tableFrom (rows .known) (now (s .entry)) (now (counts .exit)) (now (masks .exit)))
         ≡ learnt (datumOf new (now (p .entry))) (tab (rows .held) (datumIn c)) (entriesIn (rows .known) old)) ⌝ }
 {
     let h = rows.held;
-    let mut known = rows.known;
+    let first = rows.known;
+    let mut known = first;
     let mut i: usize = 0;
     while i < h {
         let from = i * state::DATUM_TERMS;
@@ -92,7 +97,18 @@ pub(crate) fn learn_all(
             left: lefts[i],
             right: rights[i],
         };
-        known = learn_from(old, &terms[from..to], new, p, counts, masks, marks, known);
+        known = learn_from(
+            old,
+            &terms[from..to],
+            new,
+            p,
+            s,
+            first,
+            counts,
+            masks,
+            marks,
+            known,
+        );
         i += 1;
     }
     known
@@ -103,41 +119,47 @@ fn explained_row(
     held: &[u32],
     terms: &[u32],
     i: usize,
+    s: &[u8],
+    first: usize,
     counts: &[u32],
     masks: &[u32],
     marks: &[u32],
     n: usize,
 ) -> bool
     requires { ⌜ (i < length (now held)) × (i * datumTerms + getD (now held) i 0 ≤ length (now terms)) ⌝ }
-    requires { ⌜ TableFits entryTerms n (table (now counts) (now masks)) × Marked n (table (now counts) (now masks)) (now marks) ⌝ }
+    requires { ⌜ (stateSize ≤ length (now s)) × (first ≤ entriesMost) ⌝ }
+    requires { ⌜ (let t : Table = tableFrom first (now s) (now counts) (now masks) in TableFits entryTerms n t × Marked n t (now marks)) ⌝ }
     ensures { λ r. ⌜ r ≡
-        explained (entriesIn n (table (now (counts .entry)) (now (masks .entry))))
+        explained (entriesIn n (tableFrom first (now (s .entry)) (now (counts .entry)) (now (masks .entry))))
         (rowOf datumTerms (table (now (held .entry)) (now (terms .entry))) i) ⌝ }
 {
     let from = i * state::DATUM_TERMS;
     let to = from + held[i] as usize;
-    entries::tables::explained(counts, masks, marks, n, &terms[from..to])
+    entries::tables::explained(s, first, counts, masks, marks, n, &terms[from..to])
 }
 
 // Step 2: held data whose predicate is implied by one entry go.
-pub(crate) fn drop_explained(
+pub fn drop_explained(
     held: &mut [u32],
     terms: &[u32],
     h: usize,
+    s: &[u8],
+    first: usize,
     counts: &[u32],
     masks: &[u32],
     marks: &[u32],
     n: usize,
 )
     requires { ⌜ TableFits datumTerms h (table (now held) (now terms)) ⌝ }
-    requires { ⌜ TableFits entryTerms n (table (now counts) (now masks)) × Marked n (table (now counts) (now masks)) (now marks) ⌝ }
-    ensures { λ _. ⌜ (let es : List (List ℕ) = entriesIn n (table (now (counts .entry)) (now (masks .entry))) in
+    requires { ⌜ (stateSize ≤ length (now s)) × (first ≤ entriesMost) ⌝ }
+    requires { ⌜ (let t : Table = tableFrom first (now s) (now counts) (now masks) in TableFits entryTerms n t × Marked n t (now marks)) ⌝ }
+    ensures { λ _. ⌜ (let es : List (List ℕ) = entriesIn n (tableFrom first (now (s .entry)) (now (counts .entry)) (now (masks .entry))) in
         let t : Table = table (now (held .entry)) (now (terms .entry)) in
         now (held .exit) ≡ givenUp h (λ i. explained es (rowOf datumTerms t i)) (now (held .entry))) ⌝ }
 {
     let mut i: usize = 0;
     while i < h {
-        if explained_row(held, terms, i, counts, masks, marks, n) {
+        if explained_row(held, terms, i, s, first, counts, masks, marks, n) {
             held[i] = 0;
         }
         i += 1;
@@ -187,7 +209,7 @@ fn find_same(held: &[u32], terms: &[u32], h: usize, p: &[u32]) -> usize
 }
 
 // Step 3: the oldest held datum with the predicate p is given up, and the ends of the new one become those of the intersection.
-pub(crate) fn meet(
+pub fn meet(
     lefts: &[u64],
     rights: &[u64],
     held: &mut [u32],
@@ -203,7 +225,7 @@ pub(crate) fn meet(
     ensures { λ _. ⌜ (let old : Columns = columns (now (lefts .entry)) (now (rights .entry)) (now (held .entry)) (now (terms .entry)) in
         dataIn h (columns (now (lefts .entry)) (now (rights .entry)) (now (held .exit)) (now (terms .entry)))
         ≡ without (now (p .entry)) (dataIn h old)) ⌝ }
-    ensures { λ _. ⌜ TableFits datumTerms h (table (now (held .exit)) (now (terms .entry))) ⌝ }
+    ensures { λ _. ⌜ TableFits datumTerms h (table (now (held .exit)) (now (terms .entry))) × Left h (now (held .entry)) (now (held .exit)) ⌝ }
 {
     let i = find_same(held, terms, h, p);
     if i == h {
@@ -255,7 +277,7 @@ fn row_betters(
 }
 
 // Step 4, first half: whether a held datum betters the new one.
-pub(crate) fn bettered(
+pub fn bettered(
     lefts: &[u64],
     rights: &[u64],
     held: &[u32],
@@ -303,7 +325,7 @@ fn betters_row(
 }
 
 // Step 4, second half: held data that the new one betters go.
-pub(crate) fn drop_bettered(
+pub fn drop_bettered(
     lefts: &[u64],
     rights: &[u64],
     held: &mut [u32],

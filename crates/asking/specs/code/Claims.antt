@@ -1,18 +1,16 @@
 -- Definitions that serve the code alone: no statement of document 01 cites this file.
 -- What has to be explained (document 01, "Asking"): an instant counts for the sets that make every entry true and every held datum's predicate whose
 -- interval lacks the instant. Assumes nothing: these are definitions.
-use Prim.Native.Nat.{ℕ, _≤_, _<_}
-use mathlib.Core.Bool.{Bool, _&&_, not, cond}
+use Prim.Native.Nat.{ℕ}
+use mathlib.Core.Bool.{Bool, _&&_, not}
 use mathlib.Core.List.{List, _++_, map}
-use lib.Count.{ones}
-use lib.Dec.{T, eqb, leb, ltb}
+use lib.Dec.{T, leb}
 use lib.ListN.{length}
 use Rattle.predicates.specs.Lists.{all, allBelow, keep}
 use Rattle.predicates.specs.Predicates.{holds}
 use Rattle.state.specs.Model.{Datum, Store, State}
-use Rattle.claims.specs.code.Degrees.{degreeWithin, deciding}
+use Rattle.claims.specs.code.Degrees.{degreeWithin}
 use Rattle.asking.specs.Instants.{Allowed}
-use Rattle.asking.specs.Fewest.{Works}
 
 -- the instant x is in the datum's interval
 unfoldable pub inside : ℕ → Datum → Bool
@@ -35,20 +33,6 @@ Explained limit st ps = (u : ℕ) × Allowed limit (st .head .own) u × T (all (
 
 -- ---- without a search
 
--- what the entries tell by themselves: no set within the limit makes all of them true, since at limit 1 no name decides all of them alone, or since
--- the degree of one is above the limit
+-- what the entries tell by themselves: no set within the limit makes all of them true, since the degree of one is above the limit
 unfoldable pub hopeless : ℕ → State → Bool
-hopeless limit st =
-    let n = length (st .store .entries) in
-    cond (eqb limit 1) (ltb 0 n && eqb (deciding (st .store) (st .head .own) n) 0) (not (allBelow n (degreeWithin (st .store) limit)))
-
--- r is the first limit from 1 to 4 that the entries do not rule out, or 5
-pub record FirstLimit (st : State) (r : ℕ) : Type 0 where
-  pub some : 1 ≤ r
-  pub most : r ≤ 5
-  pub before : (limit : ℕ) → 1 ≤ limit → limit < r → T (hopeless limit st)
-  pub here : r < 5 → T (not (hopeless r st))
-
--- every set that works has so many names
-pub record Floor (st : State) (limit : ℕ) : Type 0 where
-  pub under : (s : ℕ) → Works st s → limit ≤ ones s
+hopeless limit st = not (allBelow (length (st .store .entries)) (degreeWithin (st .store) limit))

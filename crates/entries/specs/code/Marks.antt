@@ -15,6 +15,10 @@ pub record Marked (n : ℕ) (t : Table) (marks : List ℕ) : Type 0 where
   pub reach : n ≤ length marks
   pub mark : (i : ℕ) → i < n → (getD (t .counts) i 0 ≡ 0 → ⊥) → getD marks i 0 ≡ markOf (rowOf entryTerms t i)
 
+-- of the first n rows each has been given up or is as it was
+abbrev pub Left : ℕ → List ℕ → List ℕ → Type 0
+Left n old counts = (i : ℕ) → i < n → (getD counts i 0 ≡ 0 → ⊥) → getD counts i 0 ≡ getD old i 0
+
 -- the counts when the rows that pass the test have been given up
 unfoldable pub givenUp : ℕ → (ℕ → Bool) → List ℕ → List ℕ
 givenUp n test counts = tab n (λ i. cond (test i) 0 (getD counts i 0)) ++ drop n counts

@@ -1,14 +1,15 @@
 -- Definitions that serve the code alone: no statement of document 01 cites this file.
 -- Predicates and data in flat arrays, as calls work on them: row i has its count of terms at i and its terms from i * width on.
 -- A row without terms has been given up; in form no predicate is without terms. Assumes nothing: these are definitions.
-use Prim.Native.Nat.{ℕ, _*_, _≤_}
+use Prim.Native.Nat.{ℕ, _*_, _≤_, _<_}
+use mathlib.Core.Path.{_≡_}
 use mathlib.Core.Bool.{Bool, true, false}
-use mathlib.Core.List.{List, [], _∷_}
+use mathlib.Core.List.{List, [], _∷_, _++_}
 use lib.ListN.{length, getD, take, drop}
-use Rattle.numbers.specs.Numbers.{tab}
+use Rattle.numbers.specs.Numbers.{num, tab}
 use Rattle.predicates.specs.Lists.{keep}
 use Rattle.state.specs.Model.{Datum, datum, Store}
-use Rattle.state.specs.Layout.{datumTerms, entryTerms}
+use Rattle.state.specs.Layout.{datumTerms, entryTerms, entryPlace, masksAt, joined, heldCount, entryCount, datumAt}
 use Rattle.state.specs.declared.Ends.{Ends}
 
 -- predicates in two arrays: row i has its count of terms at i and its terms from i * width on
@@ -31,6 +32,14 @@ columns lefts rights counts masks = record { lefts = lefts; rights = rights; cou
 
 abbrev pub tableOf : Columns → Table
 tableOf c = table (c .counts) (c .masks)
+
+-- the masks of the first n rows of entries in a state's bytes, used or not
+unfoldable pub entryMasks : ℕ → List ℕ → List ℕ
+entryMasks n s = joined (λ p. p) (tab n (λ i. masksAt entryTerms (entryPlace i) s))
+
+-- entries as a receipt works on them: the rows below `first` have their terms in the state's bytes s, those from there on in an array
+abbrev pub tableFrom : ℕ → List ℕ → List ℕ → List ℕ → Table
+tableFrom first s counts masks = table counts (entryMasks first s ++ masks)
 
 -- ---- what fits
 
@@ -76,3 +85,11 @@ dataIn n c = keep (λ d. hasTerms (d .terms)) (tab n (datumIn c))
 -- what the arrays hold in h rows of data and n rows of entries
 unfoldable pub storeIn : ℕ → Columns → ℕ → Table → Store
 storeIn h c n t = record { held = dataIn h c; entries = entriesIn n t }
+
+-- ---- rows that came from a state's bytes: each has been given up or is as the bytes have it
+
+abbrev pub DataStand : List ℕ → Columns → Type 0
+DataStand s c = (i : ℕ) → i < heldCount s → (getD (c .counts) i 0 ≡ 0 → ⊥) → datumIn c i ≡ datumAt s i
+
+abbrev pub EntriesStand : List ℕ → List ℕ → Type 0
+EntriesStand s counts = (i : ℕ) → i < entryCount s → (getD counts i 0 ≡ 0 → ⊥) → getD counts i 0 ≡ num (entryPlace i) 4 s

@@ -1,5 +1,5 @@
--- `asking::ask::ask` meets its contract: at limit 0 no search is needed, nor where the entries or the degrees decide; else the arrays are as large as
--- the rows ask.
+-- `asking::ask::ask` meets its contract: at the limits 0 and 1 no search is needed, nor where the degrees decide; else the arrays are as large as the
+-- rows ask.
 use mathlib.Core.Path.{sym, _∙_}
 use native.Mathlib.Omega.{arith}
 use Rattle.state.specs.Layout.{stateOf}
@@ -12,36 +12,39 @@ use Rattle.asking.proofs.ask.ask.Tie as tie
 returns : tie.Need-returns
 returns c = rw (c .before .if1 .taken) (c .plain .ensures)
 
+returns-2 : tie.Need-returns-2
+returns-2 c = rw (c .before .if2 .taken) (c .ask-one .ensures)
+
 hopeless-requires : tie.Need-hopeless-requires
 hopeless-requires c κs =
-    let a = c .before .before .before .before in
+    let a = c .before .before .before .before .before in
     (a .pre .0, a .pre .1, c .get322 .ensures .0)
 
-returns-2 : tie.Need-returns-2
-returns-2 c =
-    let a = c .before .before .before .before .before .before in
-    hopeless-contradicted _ _ (form-ok _ (a .pre .1)) (sym (c .before .hopeless .ensures) ∙ c .if2 .taken)
+returns-3 : tie.Need-returns-3
+returns-3 c =
+    let a = c .before .before .before .before .before .before .before in
+    hopeless-contradicted _ _ (form-ok _ (a .pre .1)) (sym (c .before .hopeless .ensures) ∙ c .if3 .taken)
 
 affordable-requires : tie.Need-affordable-requires
 affordable-requires c κs =
     let at-n = c .before .before in
-    let a = at-n .before .before .before .before in
+    let a = at-n .before .before .before .before .before in
     (a .pre .0, a .pre .1, at-n .get322 .ensures .0, omega (arith, at-n .get322 .ensures .0, at-n .before .get32 .ensures .0))
 
-returns-3 : tie.Need-returns-3
+returns-4 : tie.Need-returns-4
 unfolding stateOf
-returns-3 c =
+returns-4 c =
     let at-n = c .before .before .before .before in
-    let a = at-n .before .before .before .before in
+    let a = at-n .before .before .before .before .before in
     let bytes = a .args .s .now in
     affordable-open _ (stateOf bytes) (form-ok bytes (a .pre .1)) _
     (omega (arith, at-n .get322 .ensures .0, at-n .before .get32 .ensures .0, length-entries bytes, length-held bytes))
-    (sym (c .before .affordable .ensures) ∙ c .if3 .taken)
+    (sym (c .before .affordable .ensures) ∙ c .if4 .taken)
 
 ask-few-requires : tie.Need-ask-few-requires
 ask-few-requires c κs =
     let at-n = c .before .before .before .before .before in
-    let a = at-n .before .before .before .before in
+    let a = at-n .before .before .before .before .before in
     let n-is = at-n .get322 .ensures .0 in
     let h-is = at-n .before .get32 .ensures .0 in
     ((a .pre .0, a .pre .1, n-is, omega arith), omega arith)
@@ -49,7 +52,7 @@ ask-few-requires c κs =
 ask-many-requires : tie.Need-ask-many-requires
 ask-many-requires c κs =
     let at-n = c .before .before .before .before .before in
-    let a = at-n .before .before .before .before in
+    let a = at-n .before .before .before .before .before in
     let n-is = at-n .get322 .ensures .0 in
     let h-is = at-n .before .get32 .ensures .0 in
     (a .pre .0, a .pre .1, n-is, omega arith)
@@ -61,14 +64,16 @@ ask-spec =
     (λ c κs. search needs)
     returns
     (λ c κs. search needs)
+    returns-2
+    (λ c κs. search needs)
     (λ c. search needs)
     (λ c κs. search needs)
     (λ c. search needs)
     hopeless-requires
-    returns-2
+    returns-3
     (λ c. search needs)
     affordable-requires
-    returns-3
+    returns-4
     ask-few-requires
     (λ c. search needs)
     ask-many-requires

@@ -2,7 +2,7 @@
 use native.Mathlib.Omega.{arith}
 use Rattle.numbers.specs.Numbers.{tab}
 use Rattle.state.specs.Layout.{entryPlace, entriesMost, dataBytes, joined}
-use Rattle.state.specs.code.Tables.{entriesIn}
+use Rattle.state.specs.code.Tables.{entryMasks, entriesIn}
 use Rattle.state.specs.code.Known.{nothingKnown}
 use Rattle.state.proofs.PutLaws.{zero-none}
 use Rattle.state.proofs.StoreLaws.{table-fresh}
@@ -13,12 +13,12 @@ use Rattle.engine.proofs.set_up.put_fresh.Statement.{statement}
 use Rattle.engine.proofs.set_up.put_fresh.Tie as tie
 
 put-known-requires : tie.Need-put-known-requires
-unfolding nothingKnown entriesIn tab
+unfolding nothingKnown entryMasks entriesIn tab joined
 put-known-requires c κs =
-    rw (c .before .before .before .before .before .fresh .ensures) (table-fresh 16 0 32 512 (omega arith) (omega arith), ((omega arith, omega arith, omega arith), (omega arith, zero-none (entryPlace entriesMost) _)))
+    rw (c .before .before .before .before .before .fresh .ensures) (table-fresh 16 0 32 512 (omega arith) (omega arith), (omega arith, ((omega arith, omega arith, omega arith), ((λ i h f. absurd (omega arith)), (omega arith, zero-none (entryPlace entriesMost) _)))))
 
 returns : tie.Need-returns
-unfolding nothingKnown entriesIn tab dataBytes joined
+unfolding nothingKnown entryMasks entriesIn tab dataBytes joined
 returns c =
     let a = c .before .before .before .before .before .before .before .before .before .before .before .before .before .before .before .before .before .before .before .before .before .before .before .before .before .before .before .before .before .before in
     fresh-put (setup (a .args .own) (a .args .drift) (a .args .reading)) _ _ _ _ _ _ _ (a .pre) (c .before .before .before .before .before .before .before .before .before .before .before .before .before .before .before .before .before .before .before .before .before .before .before .before .before .before .before .put32 .ensures) (c .before .before .before .before .before .before .before .before .before .before .before .before .before .before .before .before .before .before .before .before .before .before .before .put322 .ensures)

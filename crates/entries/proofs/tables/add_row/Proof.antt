@@ -1,4 +1,4 @@
--- `steps::tables::add_row` meets its contract. Invariant: the terms that are still to be stored make of the array what all of them make of the first
+-- `entries::tables::add_row` meets its contract. Invariant: the terms that are still to be stored make of the array what all of them make of the first
 -- one. Measure: the terms still to store.
 use Prim.Native.Nat.{_+_, _*_, _-_, _≤_}
 use mathlib.Core.Path.{_≡_, refl, _∙_}

@@ -1,40 +1,60 @@
--- `steps::tables::mark_rows` meets its contract: turn i makes the mark of row i.
--- Invariant: the rows before i have their marks. Measure: the rows still to mark.
+-- `entries::tables::mark_rows` meets its contract: turn i makes the count and the mark of entry i.
+-- Invariant: the entries before i have both. Measure: the entries still to mark.
 use Prim.Native.Nat.{_-_, _≤_}
-use mathlib.Core.Path.{_≡_, refl}
 use native.Mathlib.Omega.{arith}
-use lib.ListN.{length, length-set}
-use Rattle.entries.specs.code.Marks.{Marked}
-use Rattle.state.proofs.RowLaws.{table-room}
-use Rattle.entries.proofs.TableLaws.{marked-none, marked-next}
+use Rattle.numbers.specs.Numbers.{num}
+use Rattle.predicates.specs.code.Marks.{markOf}
+use Rattle.state.specs.Layout.{entryPlace, entryAt}
+use Rattle.state.proofs.StateLaws.{entry-count-le}
+use Rattle.state.proofs.StoreLaws.{Column, column-none, column-next, column-done}
+use Rattle.entries.proofs.StandingLaws.{marks-standing}
 use borrow.Author.Needs.{needs}
 use Rattle.entries.proofs.tables.mark_rows.Statement.{statement}
 use Rattle.entries.proofs.tables.mark_rows.Tie as tie
-use Rattle.state.specs.code.Tables.{table}
 
 abbrev Inv-loop : tie.InvT-loop
-Inv-loop counts masks n marks₀ i₀ marks i = (i ≤ n) × (length marks ≡ length marks₀) × Marked i (table counts masks) marks
+Inv-loop s n counts₀ marks₀ i₀ counts marks i =
+    (i ≤ n) × Column (λ k. num (entryPlace k) 4 s) i counts₀ counts × Column (λ k. markOf (entryAt s k)) i marks₀ marks
 
 abbrev μ-loop : tie.MeasureT-loop
-μ-loop counts masks n marks₀ i₀ marks i = n - i
+μ-loop s n counts₀ marks₀ i₀ counts marks i = n - i
 
 loop-holds : tie.Need-loop-holds Inv-loop μ-loop
-loop-holds c = (search needs, refl, marked-none _ _ _)
+loop-holds c = (search needs, column-none _ _, column-none _ _)
 
-row-mark-requires : tie.Need-row-mark-requires Inv-loop μ-loop
-row-mark-requires c κs =
-    let a = c .before .before .before .before .before in
-    (omega (arith, a .pre .0 .counted), table-room 16 _ _ _ (a .pre .0) (c .before .loop .i) (c .loop-test .taken))
+mul-get32 : tie.Need-mul-get32 Inv-loop μ-loop
+mul-get32 c = omega (arith, entry-count-le _ (c .before .before .before .before .before .pre .0 .1))
+
+add-get32 : tie.Need-add-get32 Inv-loop μ-loop
+add-get32 c = omega (arith, entry-count-le _ (c .before .before .before .before .before .pre .0 .1))
+
+get32-requires : tie.Need-get32-requires Inv-loop μ-loop
+get32-requires c κs = omega (arith, entry-count-le _ (c .before .before .before .before .before .pre .0 .1))
+
+mark-at-requires : tie.Need-mark-at-requires Inv-loop μ-loop
+mark-at-requires c κs =
+    let a = c .before .before .before .before .before .before in
+    (a .pre .0 .0, a .pre .0 .1, omega arith)
 
 loop-again : tie.Need-loop-again Inv-loop μ-loop
 loop-again c =
-    let head = c .before .before .loop in
-    (search needs, simp length-set (head .inv .1), marked-next (head .i) _ _ _ _ (c .row-mark .ensures) (search needs) (head .inv .2))
+    let head = c .before .before .before .loop in
+    (search needs, column-next _ (head .i) _ _ _ (c .before .get32 .ensures .0) (head .inv .1), column-next _ (head .i) _ _ _ (c .mark-at .ensures) (head .inv .2))
+
+same-length : tie.Need-same-length Inv-loop μ-loop
+same-length c = c .before .loop .inv .1 .long
+
+same-length-2 : tie.Need-same-length-2 Inv-loop μ-loop
+same-length-2 c = c .before .loop .inv .2 .long
 
 returns : tie.Need-returns Inv-loop μ-loop
 returns c =
-    let done : c .before .loop .i ≡ c .before .before .before .before .before .args .n = omega arith in
-    (rw done at (c .before .loop .inv .2), c .before .loop .inv .1)
+    let head = c .before .loop in
+    let a = c .before .before .before .before .before in
+    let n = a .args .n in
+    let counted = column-done _ n (head .i) _ _ (head .inv .0) (c .loop-test .left) (a .pre .1 .0) (head .inv .1) in
+    let marked = column-done _ n (head .i) _ _ (head .inv .0) (c .loop-test .left) (a .pre .1 .1) (head .inv .2) in
+    (counted, (λ masks. marks-standing n (a .args .s .now) (a .pre .0 .1) (a .pre .0 .2) _ _ masks _ _ counted marked (a .pre .1 .1), head .inv .2 .long))
 
 pub mark-rows-spec : {M : Type 1} → statement M
 mark-rows-spec =
@@ -43,11 +63,17 @@ mark-rows-spec =
     Inv-loop
     μ-loop
     loop-holds
-    row-mark-requires
+    mul-get32
+    add-get32
+    get32-requires
+    (λ c. search needs)
+    (λ c. search needs)
+    mark-at-requires
     (λ c. search needs)
     (λ c. search needs)
     (λ c. search needs)
     (λ c. search needs)
     loop-again
-    (λ c. search needs)
+    same-length
+    same-length-2
     returns)

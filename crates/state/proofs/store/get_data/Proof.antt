@@ -1,4 +1,4 @@
--- `engine::store::get_data` meets its contract: turn i stores the ends, the count and the masks of datum i.
+-- `state::store::get_data` meets its contract: turn i stores the ends, the count and the masks of datum i.
 -- Invariant: the arrays are what they were, with what the first i data have stored at their fronts. Measure: the data still to read.
 use Prim.Native.Nat.{_+_, _-_, _≤_}
 use Rattle.numbers.specs.Numbers.{num}

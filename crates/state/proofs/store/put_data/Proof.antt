@@ -1,24 +1,38 @@
--- `state::store::put_data` meets its contract: turn i writes datum i behind those before it, or passes it over where it has been given up.
--- Invariant: the r data among the first i that have terms stand in their places. Measure: the rows still to pass.
-use Prim.Native.Nat.{_-_, _≤_}
-use mathlib.Core.Path.{_≡_}
+-- `state::store::put_data` meets its contract: turn i writes datum i behind those before it, leaves it where it stands in its place already, or
+-- passes it over where it has been given up. Invariant: the r data among the first i that have terms stand in their places, and the bytes
+-- behind those are as they were. Measure: the rows still to pass.
+use Prim.Native.Nat.{ℕ, _-_, _≤_, _<_}
+use mathlib.Core.Path.{_≡_, refl}
+use mathlib.Core.Bool.{Bool, true, false, _||_}
 use mathlib.Core.Logic.{⊎-elim}
 use native.Mathlib.Omega.{arith}
+use borrow.Author.Tests.{ltb-false, leb-false}
+use lib.Dec.{leb, ltb}
 use Rattle.numbers.specs.Numbers.{tab}
 use Rattle.state.specs.Layout.{datumBytes}
 use Rattle.state.specs.code.Tables.{columns, dataIn}
 use Rattle.state.proofs.RowLaws.{table-room}
 use Rattle.state.proofs.StoreLaws.{length-part-le, Written, written-none}
-use Rattle.state.proofs.StoreLaws.{data-next, data-skip, data-room}
+use Rattle.state.proofs.StoreLaws.{datum-stored, datum-stays, data-skip, data-room}
 use borrow.Author.Needs.{needs}
 use Rattle.state.proofs.store.put_data.Statement.{statement}
 use Rattle.state.proofs.store.put_data.Tie as tie
 
+-- neither a row that has moved nor one that is new
+neither : (r i used : ℕ) → (ltb r i || leb used i) ≡ false → (i ≤ r) × (i < used)
+neither r i used e = go (ltb r i) (leb used i) refl refl e
+  where
+    go : (a b : Bool) → ltb r i ≡ a → leb used i ≡ b → a || b ≡ false → (i ≤ r) × (i < used)
+    go false false p q e = (ltb-false r i p, leb-false used i q)
+    go false true p q e = let z : _≡_ {A = ℕ} 0 1 = cc in absurd (omega arith)
+    go true b p q e = let z : _≡_ {A = ℕ} 0 1 = cc in absurd (omega arith)
+
 abbrev Inv-loop : tie.InvT-loop
-Inv-loop s₀ lefts rights counts masks n r₀ i₀ s r i = (i ≤ n) × (r ≤ i) × Written datumBytes 52 24 (dataIn i (columns lefts rights counts masks)) r s₀ s
+Inv-loop s₀ lefts rights counts masks n used r₀ i₀ s r i =
+    (i ≤ n) × (r ≤ i) × Written datumBytes 52 24 (dataIn i (columns lefts rights counts masks)) r s₀ s
 
 abbrev μ-loop : tie.MeasureT-loop
-μ-loop s₀ lefts rights counts masks n r₀ i₀ s r i = n - i
+μ-loop s₀ lefts rights counts masks n used r₀ i₀ s r i = n - i
 
 loop-holds : tie.Need-loop-holds Inv-loop μ-loop
 unfolding dataIn tab
@@ -31,19 +45,19 @@ cast-count c =
 
 add-to : tie.Need-add-to Inv-loop μ-loop
 add-to c =
-    let head = c .before .before .before in
+    let head = c .before .before .before .before in
     omega (arith, head .before .before .before .before .before .before .pre .0 .table .narrow (head .loop .i))
 
 part-put-datum-end : tie.Need-part-put-datum-end Inv-loop μ-loop
 part-put-datum-end c =
-    let head = c .before .before .before .before .before .before in
-    table-room 8 _ _ _ (head .before .before .before .before .before .before .pre .0 .table) (head .loop .i) (c .before .before .before .before .before .loop-test .taken)
+    let head = c .before .before .before .before .before .before .before in
+    table-room 8 _ _ _ (head .before .before .before .before .before .before .pre .0 .table) (head .loop .i) (c .before .before .before .before .before .before .loop-test .taken)
 
 put-datum-requires : tie.Need-put-datum-requires Inv-loop μ-loop
 put-datum-requires c κs =
-    let head = c .before .before .before .before .before .before .before in
+    let head = c .before .before .before .before .before .before .before .before in
     let a = head .before .before .before .before .before .before in (
-      data-room _ (head .loop .i) _ _ _ _ (a .pre .0) (c .before .before .before .before .before .before .loop-test .taken) _ _ _ (head .loop .inv .2) _ (c .before .before .before .before .if1 .taken) (a .pre .1 .0),
+      data-room _ (head .loop .i) _ _ _ _ (a .pre .0) (c .before .before .before .before .before .before .before .loop-test .taken) _ _ _ (head .loop .inv .2) _ (c .before .before .before .before .before .if1 .taken) (a .pre .1 .0),
       length-part-le 8 _ (head .loop .i) _ _ (a .pre .0 .table),
       omega arith,
     )
@@ -53,9 +67,20 @@ loop-again c =
     let head = c .before .before .before in
     let a = head .before .before .before .before .before .before in
     let turn = c .before .before .loop-test .taken in
+    let w = head .loop .inv .2 in
     ⊎-elim
-    (λ w. (search needs, omega arith, rw (w .8, w .9) (data-next _ (head .loop .i) _ _ _ _ (a .pre .0) turn _ _ _ (head .loop .inv .2) _ (w .0 .taken) (w .5 .ensures))))
-    (λ w. (search needs, omega arith, rw (w .1, w .2) (data-skip _ (head .loop .i) _ _ _ _ (a .pre .0) turn _ _ _ (head .loop .inv .2) (w .0 .left))))
+    (λ live. (
+      search needs,
+      omega arith,
+      rw (live .2, live .3)
+          (⊎-elim
+          (λ v. rw (v .8) (datum-stored _ (head .loop .i) _ _ _ _ (a .pre .0) turn _ _ _ w _ (live .0 .taken) (v .5 .ensures)))
+          (λ v. let still = neither (head .loop .r) (head .loop .i) _ (v .0 .left) in
+          rw (v .1) (datum-stays _ (head .loop .i) _ _ _ _ (a .pre .0) turn _ _ _ w (live .0 .taken) (still .0) (head .loop .inv .1)
+          (a .pre .1 .1 .1 (head .loop .i) (still .1) (λ e. omega arith))))
+          (live .1 .came)),
+    ))
+    (λ gone. (search needs, omega arith, rw (gone .1, gone .2) (data-skip _ (head .loop .i) _ _ _ _ (a .pre .0) turn _ _ _ w (gone .0 .left))))
     (c .if1 .came)
 
 returns : tie.Need-returns Inv-loop μ-loop

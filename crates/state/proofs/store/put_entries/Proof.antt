@@ -1,23 +1,23 @@
--- `state::store::put_entries` meets its contract: turn i writes entry i behind those before it, or passes it over where it has been given up.
--- Invariant: the r entries among the first i that have terms stand in their places. Measure: the rows still to pass.
+-- `state::store::put_entries` meets its contract: turn i writes entry i behind those before it, leaves it where it stands in its place already, or
+-- passes it over where it has been given up. Invariant: the r entries among the first i that have terms stand in their places, and the bytes
+-- behind those are as they were. Measure: the rows still to pass.
 use Prim.Native.Nat.{_-_, _≤_}
 use mathlib.Core.Path.{_≡_}
 use mathlib.Core.Logic.{⊎-elim}
 use native.Mathlib.Omega.{arith}
 use Rattle.numbers.specs.Numbers.{tab}
 use Rattle.state.specs.Layout.{entryBytes}
-use Rattle.state.specs.code.Tables.{table, entriesIn}
-use Rattle.state.proofs.RowLaws.{table-room}
-use Rattle.state.proofs.StoreLaws.{length-part-le, Written, written-none, entries-next, entries-skip, entries-room}
+use Rattle.state.specs.code.Tables.{tableFrom, entriesIn}
+use Rattle.state.proofs.StoreLaws.{Written, written-none, entries-skip, entries-room, room-behind, length-behind-le, entry-stored, entry-moved, entry-stays}
 use borrow.Author.Needs.{needs}
 use Rattle.state.proofs.store.put_entries.Statement.{statement}
 use Rattle.state.proofs.store.put_entries.Tie as tie
 
 abbrev Inv-loop : tie.InvT-loop
-Inv-loop s₀ counts masks n r₀ i₀ s r i = (i ≤ n) × (r ≤ i) × Written entryBytes 68 856 (entriesIn i (table counts masks)) r s₀ s
+Inv-loop s₀ first counts masks n r₀ i₀ s r i = (i ≤ n) × (r ≤ i) × Written entryBytes 68 856 (entriesIn i (tableFrom first s₀ counts masks)) r s₀ s
 
 abbrev μ-loop : tie.MeasureT-loop
-μ-loop s₀ counts masks n r₀ i₀ s r i = n - i
+μ-loop s₀ first counts masks n r₀ i₀ s r i = n - i
 
 loop-holds : tie.Need-loop-holds Inv-loop μ-loop
 unfolding entriesIn tab
@@ -30,31 +30,49 @@ cast-count c =
 
 add-to : tie.Need-add-to Inv-loop μ-loop
 add-to c =
-    let head = c .before .before .before in
+    let head = c .before .before .before .before in
     omega (arith, head .before .before .before .before .pre .0 .narrow (head .loop .i))
 
 part-put-entry-end : tie.Need-part-put-entry-end Inv-loop μ-loop
 part-put-entry-end c =
-    let head = c .before .before .before .before in
-    table-room 16 _ _ _ (head .before .before .before .before .pre .0) (head .loop .i) (c .before .before .before .loop-test .taken)
+    let head = c .before .before .before .before .before in
+    room-behind _ (head .loop .i) _ _ _ _ (head .before .before .before .before .pre .0) (c .before .before .before .before .loop-test .taken) (c .before .if2 .taken)
 
 put-entry-requires : tie.Need-put-entry-requires Inv-loop μ-loop
 put-entry-requires c κs =
-    let head = c .before .before .before .before .before in
+    let head = c .before .before .before .before .before .before in
     let a = head .before .before .before .before in (
-      entries-room _ (head .loop .i) _ _ (a .pre .0) (c .before .before .before .before .loop-test .taken) _ _ _ (head .loop .inv .2) _ (c .before .before .if1 .taken) (a .pre .1 .1),
-      length-part-le 16 _ (head .loop .i) _ _ (a .pre .0),
+      entries-room _ (head .loop .i) _ _ (a .pre .0) (c .before .before .before .before .before .loop-test .taken) _ _ _ (head .loop .inv .2) _ (c .before .before .before .if1 .taken) (a .pre .1 .0),
+      length-behind-le _ (head .loop .i) _ _ _ _ (a .pre .0) (c .before .before .if2 .taken),
       omega arith,
     )
+
+move-entry-requires : tie.Need-move-entry-requires Inv-loop μ-loop
+move-entry-requires c κs =
+    let head = c .before .before .before .before .before .before in
+    let a = head .before .before .before .before in
+    (omega arith, omega arith, a .pre .0 .narrow (head .loop .i), omega arith)
 
 loop-again : tie.Need-loop-again Inv-loop μ-loop
 loop-again c =
     let head = c .before .before .before in
     let a = head .before .before .before .before in
     let turn = c .before .before .loop-test .taken in
+    let w = head .loop .inv .2 in
     ⊎-elim
-    (λ w. (search needs, omega arith, rw (w .6, w .7) (entries-next _ (head .loop .i) _ _ (a .pre .0) turn _ _ _ (head .loop .inv .2) _ (w .0 .taken) (w .3 .ensures))))
-    (λ w. (search needs, omega arith, rw (w .1, w .2) (entries-skip _ (head .loop .i) _ _ (a .pre .0) turn _ _ _ (head .loop .inv .2) (w .0 .left))))
+    (λ live. (
+      search needs,
+      omega arith,
+      rw (live .2, live .3)
+          (⊎-elim
+          (λ v. rw (v .6) (entry-stored _ _ (head .loop .i) _ _ _ (a .pre .0) turn _ _ w (live .0 .taken) _ (v .0 .taken) (v .3 .ensures)))
+          (⊎-elim
+          (λ v. rw (v .6) (entry-moved _ _ (head .loop .i) _ _ _ (a .pre .0) turn _ _ w (live .0 .taken) _ (v .0 .left) (head .loop .inv .1) (v .3 .ensures)))
+          (λ v. rw (v .2) (entry-stays _ _ (head .loop .i) _ _ _ (a .pre .0) turn _ _ w (live .0 .taken) (v .1 .left) (head .loop .inv .1)
+          (a .pre .1 .1 .1 (head .loop .i) (v .0 .left) (λ e. omega arith)))))
+          (live .1 .came)),
+    ))
+    (λ gone. (search needs, omega arith, rw (gone .1, gone .2) (entries-skip _ (head .loop .i) _ _ (a .pre .0) turn _ _ _ w (gone .0 .left))))
     (c .if1 .came)
 
 returns : tie.Need-returns Inv-loop μ-loop
@@ -80,6 +98,7 @@ put-entries-spec =
     (λ c. search needs)
     part-put-entry-end
     put-entry-requires
+    move-entry-requires
     (λ c. search needs)
     (λ c. search needs)
     (λ c. search needs)

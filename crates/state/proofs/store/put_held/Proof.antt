@@ -9,6 +9,9 @@ use borrow.Author.Needs.{needs}
 use Rattle.state.proofs.store.put_held.Statement.{statement}
 use Rattle.state.proofs.store.put_held.Tie as tie
 
+put-data-requires : tie.Need-put-data-requires
+put-data-requires c κs = let p = c .before .before .before .before .before .before .pre in (p .0, (p .1 .0, (p .1 .1 .0, p .1 .1 .1 .1)))
+
 returns : tie.Need-returns
 returns c =
     let at-count = c .before .before in
@@ -17,13 +20,13 @@ returns c =
     let p = at-data .before .before .before .before .before .before .before .pre in
     let made = at-data .put-data .ensures in
     at-count .put32 .ensures
-    ∙ ap₂ (λ (n : ℕ) (l : List ℕ). put heldAt (bytes 4 n) l) (made .0 .0) (data-put _ _ _ _ _ _ (made .0 .0) (made .0 .1) (p .1 .0) (p .1 .1 .1 .0) (p .1 .1 .0 .1) (p .1 .1 .1 .1) (made .1) (at-clear .clear .ensures))
+    ∙ ap₂ (λ (n : ℕ) (l : List ℕ). put heldAt (bytes 4 n) l) (made .0 .0) (data-put _ _ _ _ _ _ (made .0 .0) (made .0 .1) (p .1 .0) (p .1 .1 .1 .0 .0) (p .1 .1 .0 .1) (p .1 .1 .1 .0 .1) (made .1) (at-clear .clear .ensures))
 
 pub put-held-spec : {M : Type 1} → statement M
 put-held-spec =
     tie.close
     (tie.spec
-    (λ c κs. search needs)
+    put-data-requires
     (λ c. search needs)
     (λ c. search needs)
     (λ c. search needs)

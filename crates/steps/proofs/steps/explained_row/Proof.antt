@@ -6,7 +6,7 @@ use Rattle.steps.proofs.steps.explained_row.Tie as tie
 
 returns : tie.Need-returns
 returns c =
-    let a = c .before .before .before .before .before .before .before .before .args in
+    let a = c .before .before .before .before .before .before .before .before .before .args in
     rw (row-lent 8 (a .i) (a .held .now) (a .terms .now)) at (c .explained .ensures)
 
 pub explained-row-spec : {M : Type 1} → statement M

@@ -1,0 +1,97 @@
+-- Columns of data in flat arrays: fewer rows of them, rows left as they were, and a datum put last. No contract cites this file. Assumes nothing.
+use Prim.Native.Nat.{ℕ, _+_, _*_, _≤_, _<_}
+use mathlib.Core.Path.{_≡_, refl, ap, ap₂, _∙_}
+use mathlib.Core.List.{List, [], _∷_, _++_}
+use native.Mathlib.Nat.{suc-mul}
+use native.Mathlib.Omega.{arith}
+use lib.ListN.{length, set, length-set}
+use lib.Seq.{sets, getD-set-same, getD-set-other}
+use Rattle.numbers.specs.Numbers.{tab}
+use Rattle.numbers.proofs.NumberLaws.{tab-suc, tab-cong}
+use Rattle.predicates.specs.Lists.{keep}
+use Rattle.predicates.proofs.ListLaws.{keep-append}
+use Rattle.state.specs.Model.{Datum, datum}
+use Rattle.state.specs.Layout.{datumTerms}
+use Rattle.state.specs.code.Tables.{Columns, columns, tableOf, TableFits, ColumnsFit, hasTerms, datumIn, dataIn}
+use Rattle.state.proofs.RowLaws.{table-room, row-empty, row-full, table-less}
+use Rattle.entries.specs.code.Marks.{Left}
+use Rattle.settling.specs.code.Rows.{DataLeft}
+use Rattle.steps.proofs.StepLaws.{datum-count}
+use Rattle.entries.proofs.TableLaws.{table-appended, rows-before, row-last}
+
+-- ---- fewer rows, and rows left as they were
+
+pub columns-less : (h : ℕ) (c : Columns) → ColumnsFit (h + 1) c → ColumnsFit h c
+columns-less h c t =
+    record {
+      table = table-less datumTerms (h + 1) h (c .counts) (c .masks) (t .table) (omega arith);
+      lefts-long = omega (arith, t .lefts-long);
+      rights-long = omega (arith, t .rights-long);
+    }
+
+pub data-left : (n : ℕ) (lefts rights a b masks : List ℕ) → Left n a b → DataLeft n (columns lefts rights a masks) (columns lefts rights b masks)
+data-left n lefts rights a b masks p i l f = datum-count lefts rights a b masks i (p i l f)
+
+-- a row that is left in the end was there in between
+pub data-left-on : (n : ℕ) (lefts rights a b masks : List ℕ) (c : Columns) → TableFits datumTerms n (tableOf c)
+    → Left n a b → DataLeft n (columns lefts rights b masks) c → DataLeft n (columns lefts rights a masks) c
+unfolding datumIn
+data-left-on n lefts rights a b masks c t p q i l f =
+    let full = row-full datumTerms i (c .counts) (c .masks) f (table-room datumTerms n (c .counts) (c .masks) t i l) in
+    q i l f ∙ data-left n lefts rights a b masks p i l
+    (λ z. let no = row-empty datumTerms i b masks z in
+    let e = ap (λ (d : Datum). hasTerms (d .terms)) (q i l f) in
+    let w : _≡_ {A = ℕ} 0 1 = cc in omega arith)
+
+-- ---- a datum put last
+
+module _ (h : ℕ) (lefts rights counts masks p : List ℕ) (a b : ℕ) (t : ColumnsFit (h + 1) (columns lefts rights counts masks)) (few : length p ≤ datumTerms) where
+  -- the columns with it
+  abbrev added : Columns
+  added = columns (set lefts h a) (set rights h b) (set counts h (length p)) (sets masks (h * datumTerms) p)
+
+  pub columns-added : ColumnsFit (h + 1) added
+  columns-added =
+      record {
+        table = table-appended datumTerms h counts masks p (t .table) few;
+        lefts-long = omega (arith, t .lefts-long, length-set lefts h a);
+        rights-long = omega (arith, t .rights-long, length-set rights h b);
+      }
+
+  rows-kept : (i : ℕ) → i < h → datumIn added i ≡ datumIn (columns lefts rights counts masks) i
+  unfolding datumIn
+  rows-kept i k =
+      rw (
+        getD-set-other lefts h i a 0 (λ e. omega arith),
+        getD-set-other rights h i b 0 (λ e. omega arith),
+        rows-before datumTerms h counts masks p (table-less datumTerms (h + 1) h counts masks (t .table) (omega arith)) (omega (arith, t .table .counted))
+            (omega (arith, t .table .long, suc-mul h datumTerms)) i k,
+      )
+
+  pub left-added : (old : List ℕ) → Left h old counts → DataLeft h (columns lefts rights old masks) added
+  left-added old k i l f =
+      rows-kept i l ∙ data-left h lefts rights old counts masks k i l (λ z. f (getD-set-other counts h i (length p) 0 (λ e. omega arith) ∙ z))
+
+  pub data-added : 0 < length p → dataIn (h + 1) added ≡ dataIn h (columns lefts rights counts masks) ++ (datum a b p ∷ [])
+  unfolding dataIn datumIn hasTerms
+  data-added some =
+      let near : h < length counts = omega (arith, t .table .counted) in
+      let room : h * datumTerms + length p ≤ length masks = omega (arith, t .table .long, suc-mul h datumTerms) in
+      let less = table-less datumTerms (h + 1) h counts masks (t .table) (omega arith) in
+      let same : tab h (datumIn added) ≡ tab h (datumIn (columns lefts rights counts masks)) =
+      tab-cong h (datumIn added) (datumIn (columns lefts rights counts masks))
+      rows-kept in
+      let last : datumIn added h ≡ datum a b p =
+      rw (
+        getD-set-same lefts h a 0 (omega (arith, t .lefts-long)),
+        getD-set-same rights h b 0 (omega (arith, t .rights-long)),
+        row-last datumTerms h counts masks p less near room,
+      ) in
+      ap (λ l. keep (λ d. hasTerms (d .terms)) l) (tab-suc h (datumIn added))
+      ∙ keep-append (λ d. hasTerms (d .terms)) (tab h (datumIn added)) (datumIn added h ∷ [])
+      ∙ ap₂ (λ (x y : List Datum). x ++ y) (ap (λ l. keep (λ d. hasTerms (d .terms)) l) same)
+      (ap (λ (d : Datum). keep (λ e. hasTerms (e .terms)) (d ∷ [])) last ∙ kept p some)
+    where
+      kept : (q : List ℕ) → 0 < length q → keep (λ d. hasTerms (d .terms)) (datum a b q ∷ []) ≡ datum a b q ∷ []
+      kept [] h = absurd (omega arith)
+      kept (x ∷ q) h = refl
