@@ -91,8 +91,8 @@ fn over_names(s: &[u8], masks: &[u32], names: u32, begun: Overlap) -> Overlap
     widest
 }
 
-// All that one name or, where there are no entries, none leaves together; right below left where that is nothing. Names that no mask has leave what the
-// empty set leaves.
+// All that one name or, where there are no entries, none leaves together; right below left where that is nothing. Names that no mask has leave
+// what the empty set leaves.
 fn widest(s: &[u8], masks: &[u32], names: u32, plain: bool) -> Overlap
     requires { ⌜ (stateSize ≤ length (now s)) × T (inForm (now s)) × (now masks ≡ masksOf (storeOf (now s) .held)) × (0 < length (now masks)) ⌝ }
     requires { ⌜ Lacking (storeOf (now s) .held) names ⌝ }

@@ -26,7 +26,8 @@ const FEW_DATA: usize = 4;
 
 const FEW_MASKS: usize = FEW_DATA * state::ENTRY_TERMS;
 
-// Takes the four steps with the datum of these ends under p, which is not true. The array has a row for each entry that can be learnt. Answers 0 or 32.
+// Takes the four steps with the datum of these ends under p, which is not true. The array has a row for each entry that can be learnt.
+// Answers 0 or 32.
 fn take_in(state: &mut [u8], new: Ends, p: &[u32], old: Rows, masks: &mut [u32]) -> u32
     requires { ⌜ (stateSize ≤ length (now state)) × T (inForm (now state)) ⌝ }
     requires { ⌜ (old .held ≡ heldCount (now state)) × (old .known ≡ entryCount (now state)) ⌝ }

@@ -23,7 +23,7 @@ use Rattle.state.specs.code.Tables.{table, TableFits, rowOf, hasTerms, entryMas
 use Rattle.state.proofs.LayoutLaws.{all-tab, At, at-joined, at-part}
 use Rattle.state.proofs.RowLaws.{table-room, row-length, row-full}
 use Rattle.state.proofs.StateLaws.{form-entry}
-use Rattle.state.proofs.StoreLaws.{length-entry-masks, column-front, length-column, row-standing}
+use Rattle.state.proofs.StoreLaws.{length-masks, length-entry-masks, column-front, length-column, row-standing}
 use Rattle.entries.specs.code.Marks.{Marked}
 
 -- ---- a list stored behind another
@@ -38,10 +38,6 @@ sets-behind (x ∷ a) l e k = rw suc-add (sets-cons x (length a + k) (a ++ l) e 
 
 -- ---- where a row lies
 
-length-row-masks : (i : ℕ) (s : List ℕ) → length (masksAt 16 (entryPlace i) s) ≡ 16
-unfolding masksAt
-length-row-masks i s = length-tab 16 (λ j. num (entryPlace i + 4 + j * 4) 4 s)
-
 -- what fills 16 places leaves nothing of them
 filled : (l row : List ℕ) → length row ≡ 16 → l ++ drop 16 row ≡ l
 filled l row e = ap (λ (r : List ℕ). l ++ r) (drop-of-length-le row {i = 16} (omega arith)) ∙ append-nil l
@@ -51,11 +47,11 @@ module _ (first : ℕ) (s masks : List ℕ) where
   unfolding entryMasks
   row-bytes i h =
       let f : ℕ → List ℕ = λ k. masksAt 16 (entryPlace k) s in
-      let wide : T (all (λ l. eqb (length l) 16) (tab first f)) = all-tab (λ l. eqb (length l) 16) first f (λ k _. rw (length-row-masks k s) (eqb-refl 16)) in
+      let wide : T (all (λ l. eqb (length l) 16) (tab first f)) = all-tab (λ l. eqb (length l) 16) first f (λ k _. rw (length-masks 16 (entryPlace k) s) (eqb-refl 16)) in
       let there : At (i * 16) (getD (tab first f) i []) (entryMasks first s ++ masks) =
       rw zero-add at (at-joined (λ l. l) (λ l. eqb (length l) 16) 16 (λ l t. eqb→eq (length l) 16 t) [] 0 i (tab first f) (entryMasks first s ++ masks) wide
       (omega (arith, length-tab first f)) (masks, refl)) in
-      at-part 16 (i * 16) (f i) (entryMasks first s ++ masks) (length-row-masks i s) (rw (getD-tab first i f [] h) at there)
+      at-part 16 (i * 16) (f i) (entryMasks first s ++ masks) (length-masks 16 (entryPlace i) s) (rw (getD-tab first i f [] h) at there)
 
   place-behind : (i : ℕ) → first ≤ i → i * 16 ≡ length (entryMasks first s) + (i - first) * 16
   place-behind i h = omega (arith, length-entry-masks first s)

@@ -64,9 +64,9 @@ fn place(
     h + 1
 }
 
-// The four steps: what the new datum teaches, what the entries explain, and what becomes of it. The entries stay in the state's bytes; they are marked
-// first, since many predicates are held against them. Answers how many rows there are now. What stands in the arrays for rows without terms (a datum
-// that is not stored, say), and behind the last row, is free.
+// The four steps: what the new datum teaches, what the entries explain, and what becomes of it. The entries stay in the state's bytes; they are
+// marked first, since many predicates are held against them. Answers how many rows there are now. What stands in the arrays for rows without terms
+// (a datum that is not stored, say), and behind the last row, is free.
 pub fn settle(
     lefts: &mut [u64],
     rights: &mut [u64],

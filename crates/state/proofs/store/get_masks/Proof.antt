@@ -1,4 +1,4 @@
--- `engine::store::get_masks` meets its contract: turn j stores mask j of the row.
+-- `state::store::get_masks` meets its contract: turn j stores mask j of the row.
 -- Invariant: the array is what it was, with the first j masks stored from its place on. Measure: the masks still to read.
 use Prim.Native.Nat.{_+_, _*_, _-_, _≤_}
 use mathlib.Core.Path.{_≡_, refl}
