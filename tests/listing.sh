@@ -132,7 +132,8 @@ if [ -n "$PRETEND_FAILS" ]; then echo 'rt: predicates not proved'; exit 1; fi
 mkdir -p target/bin && printf '#!/bin/sh\nexec cat\n' >target/bin/listing && chmod +x target/bin/listing
 RT
 chmod +x "$elsewhere/bin/rt"
-pretending=(env PATH="$elsewhere/bin:$plain" PRETEND="$elsewhere")
+# where the tests were started in the background, interruptions are ignored, and a shell cannot undo that for itself
+pretending=(env --default-signal=INT PATH="$elsewhere/bin:$plain" PRETEND="$elsewhere")
 not_proved() {
     run 2 0 2 "${pretending[@]}" PRETEND_SECONDS=0 PRETEND_FAILS=yes "$elsewhere/listing" &&
         says 'predicates not proved' err && [ ! -e "$elsewhere/target" ]
