@@ -1,3 +1,4 @@
--- The law of what is saved, and the worked cases.
+-- The laws of what is saved and of a sender's place, and the worked cases.
 pub mod ClockLaws
+pub mod PlaceLaws
 pub mod WorkedClocks

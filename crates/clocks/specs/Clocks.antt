@@ -3,11 +3,14 @@
 -- definitions.
 use Prim.Native.Nat.{ℕ, _+_, _*_, _-_, _^_, _<_}
 use mathlib.Core.Path.{_≡_}
-use mathlib.Core.Bool.{Bool, false, _||_, not, cond}
+use mathlib.Core.Bool.{Bool, true, false, _&&_, _||_, not, cond}
 use mathlib.Core.List.{List, [], _∷_, _++_}
 use lib.Dec.{T, leb, ltb}
+use lib.ListN.{getD, set}
 use Rattle.predicates.specs.Lists.{In}
 use Rattle.clocks.specs.declared.Triple.{Triple}
+use Rattle.clocks.specs.declared.Readings.{Readings}
+use Rattle.clocks.specs.declared.Readings.the-variants.{Without, With}
 
 -- ---- what can be taken
 
@@ -28,6 +31,15 @@ Fits t = (t .there < tripleLimit) × (t .here < tripleLimit) × (t .half < tripl
 -- "40 a, b or w at 2^43 or more, or a drift above 1,000"
 abbrev pub fails : Triple → ℕ → Bool
 fails t drift = leb tripleLimit (t .there) || (leb tripleLimit (t .here) || (leb tripleLimit (t .half) || ltb driftMost drift))
+
+-- the same of what the host gives with a receipt: no readings, or a triple and the sender's drift
+unfoldable pub readingsFail : Readings → Bool
+readingsFail Without = false
+readingsFail (With t drift) = fails t drift
+
+-- the test for `Fits`
+abbrev pub small : Triple → Bool
+small t = ltb (t .there) tripleLimit && (ltb (t .here) tripleLimit && ltb (t .half) tripleLimit)
 
 -- ---- test (20)
 
@@ -74,6 +86,23 @@ saving (three previous a b) new = three new (aheadOf a new) (behindOf b new)
 unfoldable pub violates : ℕ → Saved → Triple → Bool
 violates drifts nothing new = false
 violates drifts (three previous a b) new = strays drifts previous new || (strays drifts a new || strays drifts b new)
+
+-- each number of what is saved is "below 2^43, and no order among them is tested"
+unfoldable pub savedOk : Saved → Bool
+savedOk nothing = true
+savedOk (three previous a b) = small previous && (small a && small b)
+
+-- ---- a receipt, with readings or without
+
+-- the sender's readings violate the test, where `own` is the own drift
+unfoldable pub violatedBy : ℕ → Saved → Readings → Bool
+violatedBy own s Without = false
+violatedBy own s (With t drift) = violates (own + drift) s t
+
+-- what is saved of each name after a receipt from the sender
+unfoldable pub watched : Readings → ℕ → List Saved → List Saved
+watched Without sender cs = cs
+watched (With t drift) sender cs = set cs sender (saving (getD cs sender nothing) t)
 
 -- ---- the same of all triples that a sender has given, oldest first
 

@@ -32,8 +32,9 @@ rows =
     ∷ record { given = triple 0 10 0 ∷ []; drifts = 0; new = triple 10 0 0; violation = false; saved = three (triple 10 0 0) (triple 10 0 0) (triple 0 10 0) }
     -- ties: the earlier stays
     ∷ record { given = triple 0 0 0 ∷ triple 5 5 0 ∷ []; drifts = 0; new = triple 7 7 0; violation = false; saved = three (triple 7 7 0) (triple 0 0 0) (triple 0 0 0) }
-    -- only the triple of the largest a − b + w shows it
+    -- the triple of the largest a − b + w shows it, with the previous one and alone
     ∷ record { given = triple 4 0 0 ∷ triple 10 8 2 ∷ []; drifts = 1000; new = triple 20 21 0; violation = true; saved = three (triple 20 21 0) (triple 4 0 0) (triple 20 21 0) }
+    ∷ record { given = triple 4 0 0 ∷ triple 10 9 3 ∷ []; drifts = 1000; new = triple 20 21 0; violation = true; saved = three (triple 20 21 0) (triple 4 0 0) (triple 10 9 3) }
     -- a violating triple is saved: the next is quiet against it, but not against the first
     ∷ record { given = triple 0 0 0 ∷ triple 0 9 0 ∷ []; drifts = 0; new = triple 1 10 0; violation = true; saved = three (triple 1 10 0) (triple 0 0 0) (triple 0 9 0) }
     ∷ []

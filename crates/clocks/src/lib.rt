@@ -4,13 +4,21 @@ ghost use mathlib.Core.Path.{_≡_};
 ghost use Prim.Native.Nat.{_+_, _*_, _≤_, _<_};
 ghost use Rattle.clocks.specs.Clocks.{apart as Clocks·apart, strays as Clocks·strays, fails as Clocks·fails};
 ghost use Rattle.clocks.specs.Clocks.{ahead as Clocks·ahead, behind as Clocks·behind, three, violates as Clocks·violates};
-ghost use Rattle.clocks.specs.Clocks.{aheadOf, behindOf, Fits, tripleLimit, driftsMost};
+ghost use Rattle.clocks.specs.Clocks.{aheadOf, behindOf, Fits, tripleLimit, driftsMost, readingsFail};
+
+pub mod place;
 
 // A sender's clock reading, the own reading beside it, and the half width.
 pub struct Triple {
     pub there: u64,
     pub here: u64,
     pub half: u64,
+}
+
+// What the host gives with a receipt: no readings, or a triple and the sender's drift.
+pub enum Readings {
+    Without,
+    With(Triple, u32),
 }
 
 // The first number that no triple can have, 2^43, and the greatest drift of a sender.
@@ -24,6 +32,16 @@ pub fn fails(t: Triple, drift: u32) -> bool
 {
     (TRIPLE_LIMIT <= t.there)
         | ((TRIPLE_LIMIT <= t.here) | ((TRIPLE_LIMIT <= t.half) | (DRIFT_MOST < drift)))
+}
+
+// The same of what the host gives with a receipt.
+pub fn readings_fail(readings: Readings) -> bool
+    ensures { λ r. ⌜ r ≡ readingsFail readings ⌝ }
+{
+    match readings {
+        Readings::Without => false,
+        Readings::With(t, drift) => fails(t, drift),
+    }
 }
 
 // The distance of two numbers.

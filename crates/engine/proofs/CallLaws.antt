@@ -1,35 +1,40 @@
 -- Taken calls leave a right state (`stateOk` of `state.specs.Form`): setting up, ageing and receiving.
 -- The idea: a refusal of 0 says that no test of its chain passed, and what a call could break of the state is what these tests keep. Ageing
--- keeps left at most right since the least advance is at most the greatest; what receiving does to the store is in `proofs.ReceiveLaws`.
+-- keeps left at most right since the least advance is at most the greatest; what receiving does to the store is in `steps.proofs`, and to the clocks
+-- in `proofs.WatchLaws`.
 -- No contract cites this file. Assumes nothing.
 use Prim.Native.Nat.{ℕ, _+_, _*_, _-_, _^_, _≤_, _<_}
-use mathlib.Core.Path.{_≡_, refl}
-use mathlib.Core.Bool.{not}
+use mathlib.Core.Path.{_≡_, refl, sym, subst}
+use mathlib.Core.Bool.{Bool, true, false, not}
 use mathlib.Core.List.{List, [], _∷_, map}
 use native.Mathlib.Nat.{mul-le-mul-left}
 use native.Mathlib.Omega.{arith}
 use lib.Dec.{T, T-not, eqb, eqb-refl, leb, le→leb, nleb→lt, ltb, lt→ltb, nltb→le}
 use lib.ListN.{length, length-map}
+use Rattle.clocks.specs.Clocks.{savedOk, readingsFail, watched}
+use Rattle.state.specs.Layout.{clocksMost}
+use Rattle.state.proofs.StateLaws.{state-out}
 use Rattle.predicates.specs.Lists.{any, all, In}
-use Rattle.predicates.specs.Predicates.{isTrue, isNormal}
+use Rattle.predicates.specs.Predicates.{implies, isTrue}
 use Rattle.predicates.proofs.ListLaws.{both, both-l, both-r, neither}
 use Rattle.state.specs.Model.{Datum, Head, Store, State, endLimit, readingLimit, nameMost}
 use Rattle.state.specs.Form.{headOk, datumOk, storeOk, countsOk, stateOk}
 use Rattle.engine.specs.Ageing.{leastAdvance, greatestAdvance, slow, fast, widened, aged}
 use Rattle.engine.specs.Receiving.{Delivery, grown}
-use Rattle.steps.specs.Steps.{received}
-use Rattle.engine.specs.Calls.{Setup, begun, setUp, age, receive, moved, made, done}
+use Rattle.engine.specs.Calls.{Setup, begun, setUp, age, receive, violated, moved, made, done}
 use Rattle.engine.specs.Refusals.{setUpRefusal, passesEnd, ageRefusal, receiptRefusal}
-use Rattle.steps.specs.Steps.{tooMany}
+use Rattle.steps.specs.Steps.{judged, tooMany}
 use Rattle.state.proofs.OkLaws.{ok-datum-out, ok-datum-in}
 use Rattle.steps.proofs.ReceiveLaws.{formed-fit, received-ok}
+use Rattle.steps.proofs.BlameLaws.{formed-single, judged-violated, swept-blamed-ok}
+use Rattle.engine.proofs.WatchLaws.{watched-ok, length-watched}
 use Rattle.state.proofs.LentLaws.{refuse-none}
 use Rattle.names.specs.Sets.{noSet}
 
 -- ---- setting up
 
 pub set-up-ok : (u : Setup) → setUpRefusal u ≡ 0 → T (stateOk (setUp u))
-unfolding setUpRefusal setUp begun stateOk headOk storeOk countsOk
+unfolding setUpRefusal setUp begun stateOk headOk storeOk countsOk savedOk
 set-up-ok u e =
     let a = refuse-none (ltb 28 (u .own)) 1 _ (omega arith) e in
     let b = refuse-none (ltb 1_000 (u .drift)) 2 _ (omega arith) (a .1) in
@@ -88,14 +93,13 @@ age-ok st reading h e =
 
 -- ---- receiving
 
--- what holds of a message that has been read and of the delays, once 21 and 10 to 17 are passed
+-- what holds of a message that has been read, of the delays and of the readings, once 21, 40 and 10 to 17 are passed
 pub record Heard (g : Delivery) : Type 0 where
   pub delays : g .least ≤ g .greatest
   pub sender-le : g .sender ≤ nameMost
   pub ends : g .left ≤ g .right
-  pub norm : T (isNormal (g .terms))
   pub small : (t : ℕ) → In t (g .terms) → t < noSet
-  pub few : length (g .terms) ≤ 8
+  pub readings : T (not (readingsFail (g .readings)))
 
 -- the new datum has passed 18, 30 and 31
 pub record Passed (own : ℕ) (g : Delivery) : Type 0 where
@@ -104,12 +108,12 @@ pub record Passed (own : ℕ) (g : Delivery) : Type 0 where
   pub few : length (grown own g .terms) ≤ 8
 
 pub receipt-passed : (st : State) (g : Delivery) → receiptRefusal st g ≡ 0
-    → Passed (st .head .own) g × T (countsOk (received (grown (st .head .own) g) (st .store)))
+    → Passed (st .head .own) g × T (countsOk (made (st .head) (st .store) (receive g)))
 unfolding receiptRefusal tooMany countsOk
 receipt-passed st g e =
     let own = st .head .own in
     let n = grown own g in
-    let k = received n (st .store) in
+    let k = made (st .head) (st .store) (receive g) in
     let a = refuse-none (eqb (g .sender) own) 18 _ (omega arith) e in
     let b = refuse-none (leb endLimit (n .right)) 30 _ (omega arith) (a .1) in
     let c = refuse-none (ltb 8 (length (n .terms))) 31 _ (omega arith) (b .1) in
@@ -139,12 +143,42 @@ grown-ok own g h p n =
       fit = formed-fit own (g .sender) (g .terms) (h .sender-le) (p .other) (h .small) n (p .few);
     }
 
-pub receive-ok : (st : State) (g : Delivery) → T (stateOk st) → Heard g → receiptRefusal st g ≡ 0 → T (stateOk (done st (receive g)))
-unfolding done moved made stateOk
-receive-ok st g t h e =
+-- what a receipt leaves is right, violated or not
+judged-ok : (own : ℕ) (violation : Bool) (sender : ℕ) (n : Datum) (k : Store) → sender ≤ nameMost → (sender ≡ own → ⊥)
+    → T (implies (2 ^ sender ∷ []) (n .terms)) → T (storeOk own k) → (T (not (isTrue (n .terms))) → T (datumOk own n))
+    → T (storeOk own (judged violation sender n k))
+unfolding judged
+judged-ok own true sender n k s f i h d =
+    subst (λ (j : Store). T (storeOk own j)) (sym (judged-violated sender n k i)) (swept-blamed-ok own sender k s f h)
+judged-ok own false sender n k s f i h d = received-ok own n k h d
+
+pub made-ok : (st : State) (g : Delivery) → T (stateOk st) → Heard g → Passed (st .head .own) g
+    → T (storeOk (st .head .own) (made (st .head) (st .store) (receive g)))
+unfolding made stateOk grown
+made-ok st g t h p =
     let own = st .head .own in
-    let p = receipt-passed st g e in
-    let counts = p .1 in
     let old : T (storeOk own (st .store)) = search (both-l, both-r) depth 9 in
-    let new = received-ok own (grown own g) (st .store) old (grown-ok own g h (p .0)) in
+    judged-ok own (violated (st .head) g) (g .sender) (grown own g) (st .store) (h .sender-le) (p .other) (formed-single own (g .sender) (g .terms))
+    old (grown-ok own g h p)
+
+-- the same, before the readings are saved
+pub unsaved-ok : (st : State) (g : Delivery) → T (stateOk st) → Heard g → receiptRefusal st g ≡ 0
+    → T (stateOk (record { head = st .head; store = made (st .head) (st .store) (receive g) }))
+unfolding stateOk
+unsaved-ok st g t h e =
+    let p = receipt-passed st g e in
+    let new = made-ok st g t h (p .0) in
+    let counts = p .1 in
     search (both, both-l) depth 9
+
+pub receive-ok : (st : State) (g : Delivery) → T (stateOk st) → Heard g → receiptRefusal st g ≡ 0 → T (stateOk (done st (receive g)))
+unfolding done moved stateOk headOk
+receive-ok st g t h e =
+    let p = receipt-passed st g e in
+    let new = made-ok st g t h (p .0) in
+    let counts = p .1 in
+    let o = state-out st t in
+    let long = length-watched (g .readings) (g .sender) (st .head .clocks) in
+    let all-there : T (eqb (length (watched (g .readings) (g .sender) (st .head .clocks))) clocksMost) = rw (long, o .clocks-all) tt in
+    let clocks = watched-ok (g .readings) (g .sender) (st .head .clocks) (h .readings) (omega (arith, o .clocks-all, h .sender-le)) (o .clocks) in
+    search (both, both-l, both-r) depth 12

@@ -22,11 +22,13 @@ use Rattle.state.specs.Layout.{datumTerms, dataMost, entriesMost}
 use Rattle.state.specs.Form.{datumOk, stateOk}
 use Rattle.state.proofs.OkLaws.{ok-datum-out}
 use Rattle.state.proofs.StateLaws.{state-out}
-use Rattle.steps.specs.Steps.{received, tooMany}
+use Rattle.clocks.specs.declared.Readings.the-variants.{Without}
+use Rattle.steps.specs.Steps.{judged, received, tooMany}
 use Rattle.engine.specs.Ageing.{leastAdvance, greatestAdvance, slow, fast, widened, aged}
 use Rattle.engine.specs.Receiving.{Delivery, grown}
-use Rattle.engine.specs.Calls.{age, receive, moved, made, done}
+use Rattle.engine.specs.Calls.{age, receive, clockOf, violated, moved, made, done}
 use Rattle.engine.specs.Refusals.{passesEnd, ageRefusal, fromSelf, growsPast, receiptRefusal}
+use Rattle.engine.proofs.WatchLaws.{watched-none, violated-none}
 
 -- ---- an ageing to the last reading: "An equal reading is fine and changes nothing."
 
@@ -70,7 +72,7 @@ module _ (st : State) (t : T (stateOk st)) where
         rw (slow-none (st .head), fast-none (st .head), aged-none (st .store)),
       )
 
--- ---- a receipt whose predicate is true: "the receipt is taken and changes nothing"
+-- ---- a receipt without readings whose predicate is true: "the receipt is taken and changes nothing"
 
 -- in normal form the empty term stands alone
 empty-alone : (p : List ℕ) → T (all (λ u. precedes 0 u) p) → length p ≤ 0
@@ -88,10 +90,11 @@ true-alone (t ∷ p) n h =
     let less = ltb→lt t (k .0) (both-l (ltb t (k .0)) _ (all-out (λ u. precedes t u) p first (k .0) (k .1))) in
     absurd (omega (arith, eqb→eq (k .0) 0 (k .2)))) (or-cases (eqb t 0) (any (λ u. eqb u 0) p) h)
 
-module _ (st : State) (t : T (stateOk st)) (g : Delivery) (h : T (isTrue (grown (st .head .own) g .terms))) where
+module _ (st : State) (t : T (stateOk st)) (g : Delivery) (w : g .readings ≡ Without) (h : T (isTrue (grown (st .head .own) g .terms))) where
   pub receive-same : done st (receive g) ≡ st
-  unfolding done moved made received
-  receive-same = rw (T-true (isTrue (grown (st .head .own) g .terms)) h)
+  unfolding done moved made violated judged received
+  receive-same =
+      rw (watched-none (g .readings) (g .sender) (st .head .clocks) w, violated-none (st .head .drift) (clockOf (st .head) (g .sender)) (g .readings) w, T-true (isTrue (grown (st .head .own) g .terms)) h)
 
   few-terms : length (grown (st .head .own) g .terms) ≤ 1
   unfolding grown
@@ -99,10 +102,11 @@ module _ (st : State) (t : T (stateOk st)) (g : Delivery) (h : T (isTrue (grown 
 
   -- 18 and 30 may come; nothing else does
   pub receive-true : T (not (fromSelf st g)) → T (not (growsPast st g)) → receiptRefusal st g ≡ 0
-  unfolding receiptRefusal received tooMany
+  unfolding receiptRefusal made violated judged received tooMany
   receive-true other below =
       let o = state-out st t in
       rw (
+        violated-none (st .head .drift) (clockOf (st .head) (g .sender)) (g .readings) w,
         T-false (fromSelf st g) other,
         T-false (growsPast st g) below,
         le-ltb datumTerms (length (grown (st .head .own) g .terms)) (omega (arith, few-terms)),

@@ -6,11 +6,13 @@ use mathlib.Core.Path.{_≡_, refl}
 use mathlib.Core.List.{List, []}
 use native.Mathlib.Omega.{arith}
 use borrow.Author.Tests.{lt-ltb, le-ltb, lt-leb, le-leb}
-use lib.ListN.{length, length-replicate}
+use lib.ListN.{length, replicate, length-replicate}
+use Rattle.clocks.specs.Clocks.{nothing}
+use Rattle.clocks.specs.Places.{placeSize, savedBytes}
 use Rattle.numbers.specs.Numbers.{bytes, put}
 use Rattle.numbers.proofs.NumberLaws.{length-bytes}
 use Rattle.state.specs.Model.{nameMost, driftMost, readingLimit}
-use Rattle.state.specs.Layout.{stateSize, ownAt, driftAt, readingAt, heldAt, knownAt, dataAt, dataMost, datumSize, entriesAt, entriesMost, entrySize, joined, dataBytes, entriesBytes, parts, stateBytes}
+use Rattle.state.specs.Layout.{stateSize, ownAt, driftAt, readingAt, heldAt, knownAt, dataAt, dataMost, datumSize, entriesAt, entriesMost, entrySize, clocksAt, clocksMost, zeros, joined, dataBytes, entriesBytes, parts, stateBytes}
 use Rattle.state.proofs.PartLaws.{cutFrom, begins-any, part-stored}
 use Rattle.engine.specs.Calls.{Setup, begun, setUp}
 use Rattle.engine.specs.Refusals.{setUpRefusal}
@@ -47,12 +49,18 @@ length-no-entries : length (entriesBytes []) ≡ entriesMost * entrySize
 unfolding entriesBytes joined
 length-no-entries = length-replicate {A = ℕ} (entriesMost * entrySize) 0
 
+-- nothing saved of any clock
+no-clocks : joined savedBytes (replicate clocksMost nothing) ≡ zeros (clocksMost * placeSize)
+unfolding joined savedBytes
+no-clocks = refl
+
 -- the parts are stored one after the other, in bytes that hold anything
-pub fresh-put : (u : Setup) (s a b c d e f : List ℕ) → stateSize ≤ length s → a ≡ put ownAt (bytes 4 (u .own)) s → b ≡ put driftAt (bytes 4 (u .drift)) a
+pub fresh-put : (u : Setup) (s a b c d e f g : List ℕ) → stateSize ≤ length s → a ≡ put ownAt (bytes 4 (u .own)) s → b ≡ put driftAt (bytes 4 (u .drift)) a
     → c ≡ put readingAt (bytes 8 (u .reading)) b → d ≡ put heldAt (bytes 4 0) c → e ≡ put dataAt (dataBytes []) d
-    → f ≡ put knownAt (bytes 4 0) (put entriesAt (entriesBytes []) e) → f ≡ put 0 (stateBytes (setUp u)) s
+    → f ≡ put knownAt (bytes 4 0) (put entriesAt (entriesBytes []) e) → g ≡ put clocksAt (zeros (clocksMost * placeSize)) f
+    → g ≡ put 0 (stateBytes (setUp u)) s
 unfolding stateBytes parts cutFrom setUp begun
-fresh-put u s a b c d e f h p q r k l m =
+fresh-put u s a b c d e f g h p q r k l m n =
     let own = part-stored 0 _ _ _ _ _ (omega arith) (length-bytes 4 _) p (begins-any s h) in
     let drift = part-stored 1 _ _ _ _ _ (omega arith) (length-bytes 4 _) q own in
     let reading = part-stored 2 _ _ _ _ _ (omega arith) (length-bytes 8 _) r drift in
@@ -60,4 +68,5 @@ fresh-put u s a b c d e f h p q r k l m =
     let none = part-stored 5 _ _ _ _ _ (omega arith) length-no-data l held in
     let entries = part-stored 6 _ _ _ _ _ (omega arith) length-no-entries refl none in
     let known = part-stored 4 _ _ _ _ _ (omega arith) (length-bytes 4 _) m entries in
-    known .stored
+    let clocks = part-stored 7 (zeros (clocksMost * placeSize)) _ _ _ _ (omega arith) (length-replicate {A = ℕ} (clocksMost * placeSize) 0) n known in
+    rw no-clocks (clocks .stored)

@@ -11,8 +11,8 @@ use Rattle.state.specs.Layout.{datumTerms}
 use Rattle.state.specs.Refusal.{refuse}
 use Rattle.engine.specs.Ageing.{slow, fast, aged}
 use Rattle.engine.specs.Receiving.{Delivery, grown}
-use Rattle.steps.specs.Steps.{received, tooMany}
-use Rattle.engine.specs.Calls.{Setup}
+use Rattle.steps.specs.Steps.{tooMany}
+use Rattle.engine.specs.Calls.{Setup, receive, made}
 
 -- ---- setting up
 
@@ -82,7 +82,7 @@ termsFail st g = ltb datumTerms (length (grown (st .head .own) g .terms))
 
 -- "32 too many data or entries"
 abbrev pub overfills : State → Delivery → Bool
-overfills st g = tooMany (received (grown (st .head .own) g) (st .store))
+overfills st g = tooMany (made (st .head) (st .store) (receive g))
 
 -- "18, 30, 31, 32; 30 comes also for a predicate that is true"
 unfoldable pub receiptRefusal : State → Delivery → ℕ

@@ -4,6 +4,7 @@ pub mod ageing;
 pub mod receipt;
 mod receiving;
 pub mod set_up;
+mod watching;
 
 // The greatest delay that a channel may have, in microseconds.
 pub const DELAY_MOST: u64 = 60_000_000;

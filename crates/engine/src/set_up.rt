@@ -8,7 +8,8 @@ ghost use Rattle.state.specs.Refusal.{after};
 ghost use Rattle.engine.specs.Calls.{setup, setUp};
 ghost use Rattle.engine.specs.Refusals.{setUpRefusal};
 
-// Puts the fresh state of an own name, a drift and a reading, part by part: the head, no data, and the fresh knowledge.
+// Puts the fresh state of an own name, a drift and a reading, part by part: the head, no data, the fresh knowledge, and nothing saved
+// of any clock.
 fn put_fresh(s: &mut [u8], own: u32, drift: u32, reading: u64)
     requires { ⌜ stateSize ≤ length (now s) ⌝ }
     ensures { λ _. ⌜ now (s .exit) ≡ put 0 (stateBytes (setUp (setup own drift reading))) (now (s .entry)) ⌝ }
@@ -22,6 +23,7 @@ fn put_fresh(s: &mut [u8], own: u32, drift: u32, reading: u64)
     let counts = known.counts;
     let masks = known.masks;
     state::store::put_known(s, 0, &counts, &masks, known.count, state::ENTRIES_MOST);
+    state::rows::clear(s, state::CLOCKS_AT, state::STATE_SIZE);
 }
 
 // Sets a monitor up. Answers 0, or the number of the refusal and leaves the bytes as they are.

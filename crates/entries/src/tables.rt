@@ -3,7 +3,7 @@
 // make a row true alone are its mark, at i.
 ghost use mathlib.Core.Path.{_≡_};
 ghost use mathlib.Core.Bool.{false, _&&_};
-ghost use mathlib.Core.List.{List, _++_};
+ghost use mathlib.Core.List.{List, [], _∷_, _++_};
 ghost use Prim.Native.Nat.{ℕ, _+_, _*_, _≤_, _<_};
 ghost use lib.ListN.{length, getD, set, take, drop};
 ghost use lib.Seq.{sets};
@@ -200,6 +200,35 @@ fn put_last(
     counts[n] = e.len() as u32;
     predicates::sums::copy(masks, (n - first) * state::ENTRY_TERMS, e);
     marks[n] = mark;
+}
+
+// Places an entry of one term: not added where an entry implies it, else those that it implies go, and it stands last. Answers how many rows there are
+// now.
+pub fn learn_term(
+    s: &[u8],
+    first: usize,
+    counts: &mut [u32],
+    masks: &mut [u32],
+    marks: &mut [u32],
+    n: usize,
+    term: u32,
+) -> usize
+    requires { ⌜ (stateSize ≤ length (now s)) × (first ≤ entriesMost) × (first ≤ n) ⌝ }
+    requires { ⌜ TableFits entryTerms (n + 1) (tableFrom first (now s) (now counts) (now masks)) ⌝ }
+    requires { ⌜ (n < length (now marks)) × Marked n (tableFrom first (now s) (now counts) (now masks)) (now marks) ⌝ }
+    ensures { λ r. ⌜ (let t : Table = tableFrom first (now (s .entry)) (now (counts .exit)) (now (masks .exit)) in
+        (n ≤ r) × (r ≤ n + 1) × TableFits entryTerms r t × Marked r t (now (marks .exit)) × Left n (now (counts .entry)) (now (counts .exit))
+        × (length (now (counts .exit)) ≡ length (now (counts .entry))) × (length (now (masks .exit)) ≡ length (now (masks .entry)))
+        × (length (now (marks .exit)) ≡ length (now (marks .entry)))) ⌝ }
+    ensures { λ r. ⌜ entriesIn r (tableFrom first (now (s .entry)) (now (counts .exit)) (now (masks .exit)))
+        ≡ Steps·learn (term ∷ []) (entriesIn n (tableFrom first (now (s .entry)) (now (counts .entry)) (now (masks .entry)))) ⌝ }
+{
+    let e = [term];
+    if explained(s, first, counts, masks, marks, n, &e) {
+        return n;
+    }
+    put_last(s, first, counts, masks, marks, n, &e);
+    n + 1
 }
 
 // Places the sum of q and p: not added where an entry implies it, which is seen before it is put in normal form; else those that it implies go, and

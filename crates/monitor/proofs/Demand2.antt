@@ -21,7 +21,7 @@ use Rattle.message.proofs.MessageLaws.{rewrite-ends, rewrite-form, rewrite-read
 use Rattle.state.specs.Model.{nameMost, endLimit}
 use Rattle.engine.specs.Receiving.{Delivery}
 use Rattle.monitor.specs.Messages.{readBytes, rewrittenBytes}
-use Rattle.monitor.specs.Receive.{brings, delivered, deliveredAs, receiptOf}
+use Rattle.monitor.specs.Receive.{brings, delivered, deliveredAs, receiptWith}
 
 module _ {s l r n : ℕ} (m : List ℕ) (e : readBytes m ≡ Message s l r n) where
   -- a taken message has whole words
@@ -67,7 +67,7 @@ module _ {s l r n : ℕ} (m : List ℕ) (e : readBytes m ≡ Message s l r n) wh
 -- "Written messages read back to the same sender, interval and terms", and so a receipt of one brings them
 pub message-brings : (d : Delivery) → d .sender ≤ nameMost → d .left ≤ d .right → d .right < endLimit → length (d .terms) ≤ termsMost
     → T (isNormal (d .terms)) → Masks (d .terms)
-    → delivered (receiptOf (d .least) (d .greatest) (bytesOf (messageWords (d .sender) [] (d .left) (d .right) (d .terms)))) ≡ brings d
+    → delivered (receiptWith (d .least) (d .greatest) (d .readings) (bytesOf (messageWords (d .sender) [] (d .left) (d .right) (d .terms)))) ≡ brings d
 unfolding delivered deliveredAs readBytes
 message-brings d a b c few norm small =
     let ws = messageWords (d .sender) [] (d .left) (d .right) (d .terms) in

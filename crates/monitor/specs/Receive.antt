@@ -1,4 +1,4 @@
--- Receiving, over bytes (document 01, "Receiving" and "Who can cause which refusal"): what C gives a receipt, what its message delivers, the number
+-- Receiving, over bytes (document 01, "Receiving" and "Who can cause which refusal"; document 02, W-201): what C gives a receipt, what its message delivers, the number
 -- that the call returns and the lent state afterwards. Assumes nothing: these are definitions.
 use Prim.Native.Nat.{ℕ}
 use mathlib.Core.List.{List}
@@ -7,6 +7,9 @@ use Rattle.message.specs.Words.{masks}
 use Rattle.message.specs.Read.{termWords}
 use Rattle.message.specs.declared.Reading.{Reading}
 use Rattle.message.specs.declared.Reading.the-variants.{Message, Refused}
+use Rattle.clocks.specs.declared.Readings.{Readings}
+use Rattle.clocks.specs.declared.Readings.the-variants.{Without}
+use Rattle.clocks.specs.Clocks.{readingsFail}
 use Rattle.state.specs.Model.{State}
 use Rattle.state.specs.Layout.{stateBytes, stateOf}
 use Rattle.state.specs.Refusal.{refuse, lent, after}
@@ -15,14 +18,19 @@ use Rattle.engine.specs.Calls.{receive, done}
 use Rattle.engine.specs.Refusals.{delaysFail, receiptRefusal}
 use Rattle.monitor.specs.Messages.{readBytes}
 
--- what C gives a receipt, the state aside: the channel's least and greatest delay, and the message's bytes
+-- what C gives a receipt, the state aside: the channel's least and greatest delay, clock readings or none, and the message's bytes
 pub record Receipt : Type 0 where
   pub least : ℕ
   pub greatest : ℕ
+  pub readings : Readings
   pub message : List ℕ
 
+abbrev pub receiptWith : ℕ → ℕ → Readings → List ℕ → Receipt
+receiptWith least greatest readings message = record { least = least; greatest = greatest; readings = readings; message = message }
+
+-- without readings
 abbrev pub receiptOf : ℕ → ℕ → List ℕ → Receipt
-receiptOf least greatest message = record { least = least; greatest = greatest; message = message }
+receiptOf least greatest message = receiptWith least greatest Without message
 
 -- what a message delivers: the number of its refusal, or what the engine receives
 pub data Delivered : Type 0 where
@@ -32,7 +40,7 @@ pub data Delivered : Type 0 where
 unfoldable pub deliveredAs : Receipt → Reading → Delivered
 deliveredAs g (Refused number) = refused number
 deliveredAs g (Message sender left right count) =
-    brings (delivery (g .least) (g .greatest) sender left right (masks (termWords (Message sender left right count) (wordsOf (g .message)))))
+    brings (delivery (g .least) (g .greatest) (g .readings) sender left right (masks (termWords (Message sender left right count) (wordsOf (g .message)))))
 
 unfoldable pub delivered : Receipt → Delivered
 delivered g = deliveredAs g (readBytes (g .message))
@@ -47,11 +55,14 @@ unfoldable pub deliveredState : State → Delivered → State
 deliveredState st (refused number) = st
 deliveredState st (brings g) = done st (receive g)
 
--- on a state in form: "21, 10, 12, 11, 13 to 18, 30, 31, 32"
+-- on a state in form: "21, 10, 12, 11, 13 to 18, 30, 31, 32", and 40 "after 21"
 abbrev pub receiptNumber : State → Receipt → ℕ
-receiptNumber st g = refuse (delaysFail (g .least) (g .greatest)) 21 (deliveredNumber st (delivered g))
+receiptNumber st g =
+    refuse (delaysFail (g .least) (g .greatest)) 21
+    (refuse (readingsFail (g .readings)) 40
+    (deliveredNumber st (delivered g)))
 
--- "Receiving 24, 25, 21, 10, 12, 11, 13 to 18, 30, 31, 32"
+-- "Receiving 24, 25, 21, 10, 12, 11, 13 to 18, 30, 31, 32", with 40 after 21
 unfoldable pub receiveNumber : List ℕ → Receipt → ℕ
 receiveNumber s g = lent s (receiptNumber (stateOf s) g)
 

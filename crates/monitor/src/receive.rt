@@ -1,22 +1,34 @@
-// Receiving, for C.
+// Receiving, for C, with clock readings or without.
 ghost use mathlib.Core.Path.{_≡_};
+ghost use mathlib.Core.Bool.{not};
 ghost use Prim.Native.Nat.{_≤_};
 ghost use lib.Dec.{T};
 ghost use lib.ListN.{length};
+ghost use Rattle.clocks.specs.Clocks.{readingsFail};
+ghost use Rattle.clocks.specs.declared.Triple.{Triple};
+ghost use Rattle.clocks.specs.declared.Readings.the-variants.{With};
 ghost use Rattle.state.specs.Layout.{stateSize, stateBytes, stateOf};
 ghost use Rattle.state.specs.Form.{inForm};
 ghost use Rattle.state.specs.Refusal.{after};
 ghost use Rattle.engine.specs.Refusals.{delayMost};
-ghost use Rattle.monitor.specs.Receive.{Delivered, receiptOf, delivered, deliveredNumber, deliveredState, receiveNumber, receiveState};
+ghost use Rattle.monitor.specs.Receive.{Delivered, receiptOf, receiptWith, delivered, deliveredNumber, deliveredState, receiveNumber, receiveState};
+use clocks::Readings;
+use clocks::Triple;
 use message::Reading;
 
-// Receives a message into a state in form, with delays that fit.
-fn receive_message(state: &mut [u8], least: u64, greatest: u64, message: &[u8]) -> u32
+// Receives a message into a state in form, with delays and readings that fit.
+fn receive_message(
+    state: &mut [u8],
+    least: u64,
+    greatest: u64,
+    readings: Readings,
+    message: &[u8],
+) -> u32
     requires { ⌜ (stateSize ≤ length (now state)) × T (inForm (now state)) ⌝ }
-    requires { ⌜ (least ≤ greatest) × (greatest ≤ delayMost) ⌝ }
-    ensures { λ r. ⌜ (let got : Delivered = delivered (receiptOf least greatest (now (message .entry))) in
+    requires { ⌜ (least ≤ greatest) × (greatest ≤ delayMost) × T (not (readingsFail readings)) ⌝ }
+    ensures { λ r. ⌜ (let got : Delivered = delivered (receiptWith least greatest readings (now (message .entry))) in
         r ≡ deliveredNumber (stateOf (now (state .entry))) got) ⌝ }
-    ensures { λ r. ⌜ (let got : Delivered = delivered (receiptOf least greatest (now (message .entry))) in
+    ensures { λ r. ⌜ (let got : Delivered = delivered (receiptWith least greatest readings (now (message .entry))) in
         now (state .exit) ≡ after r (stateBytes (deliveredState (stateOf (now (state .entry))) got)) (now (state .entry))) ⌝ }
 {
     let mut words = [0u32; message::WORDS_MOST];
@@ -26,10 +38,28 @@ fn receive_message(state: &mut [u8], least: u64, greatest: u64, message: &[u8]) 
         return message::read::refusal(got);
     };
     let terms = message::read::term_words(&words[..n], got);
-    engine::receipt::deliver(state, least, greatest, sender, left, right, terms)
+    engine::receipt::deliver(state, least, greatest, readings, sender, left, right, terms)
 }
 
-// Receives a message that came over a channel with a least and a greatest delay.
+// Receives a message that came over a channel with a least and a greatest delay, with readings or without.
+fn receive(state: &mut [u8], least: u64, greatest: u64, readings: Readings, message: &[u8]) -> u32
+    ensures { λ r. ⌜ r ≡ receiveNumber (now (state .entry)) (receiptWith least greatest readings (now (message .entry))) ⌝ }
+    ensures { λ _. ⌜ now (state .exit) ≡ receiveState (now (state .entry)) (receiptWith least greatest readings (now (message .entry))) ⌝ }
+{
+    let number = state::form::refusal(state);
+    if number != 0 {
+        return number;
+    }
+    if (greatest < least) | (engine::DELAY_MOST < greatest) {
+        return 21;
+    }
+    if clocks::readings_fail(readings) {
+        return 40;
+    }
+    receive_message(state, least, greatest, readings, message)
+}
+
+// Receives a message that came over a channel with a least and a greatest delay. Answers 0, or 24, 25, 21, 10, 12, 11, 13 to 18, 30, 31 or 32.
 #[no_mangle]
 pub extern "C" fn monitor_receive(
     state: &mut [u8],
@@ -40,12 +70,37 @@ pub extern "C" fn monitor_receive(
     ensures { λ r. ⌜ r ≡ receiveNumber (now (state .entry)) (receiptOf least greatest (now (message .entry))) ⌝ }
     ensures { λ _. ⌜ now (state .exit) ≡ receiveState (now (state .entry)) (receiptOf least greatest (now (message .entry))) ⌝ }
 {
-    let number = state::form::refusal(state);
-    if number != 0 {
-        return number;
-    }
-    if (greatest < least) | (engine::DELAY_MOST < greatest) {
-        return 21;
-    }
-    receive_message(state, least, greatest, message)
+    receive(state, least, greatest, Readings::Without, message)
+}
+
+// The same with the sender's clock reading, the own one beside it, a half width and the sender's drift: where they show that the sender's clock has
+// jumped, its name becomes an entry. Answers as above, or 40 after 21.
+#[no_mangle]
+pub extern "C" fn monitor_receive_with_readings(
+    state: &mut [u8],
+    least: u64,
+    greatest: u64,
+    sender_reading: u64,
+    own_reading: u64,
+    half_width: u64,
+    sender_drift: u32,
+    message: &[u8],
+) -> u32
+    ensures { λ r. ⌜ (let t : Triple = record { there = «sender_reading»; here = «own_reading»; half = «half_width» } in
+        r ≡ receiveNumber (now (state .entry)) (receiptWith least greatest (With t «sender_drift») (now (message .entry)))) ⌝ }
+    ensures { λ _. ⌜ (let t : Triple = record { there = «sender_reading»; here = «own_reading»; half = «half_width» } in
+        now (state .exit) ≡ receiveState (now (state .entry)) (receiptWith least greatest (With t «sender_drift») (now (message .entry)))) ⌝ }
+{
+    let triple = Triple {
+        there: sender_reading,
+        here: own_reading,
+        half: half_width,
+    };
+    receive(
+        state,
+        least,
+        greatest,
+        Readings::With(triple, sender_drift),
+        message,
+    )
 }

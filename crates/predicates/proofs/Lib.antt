@@ -1,5 +1,6 @@
 -- The laws of predicates, from lists up to the normal form in place and the sum.
 pub mod ListLaws
+pub mod BitLaws
 pub mod IndexLaws
 pub mod EachLaws
 pub mod PredicateLaws

@@ -1,5 +1,5 @@
 -- Runs by the states that their bytes hold: on bytes in form, a request's number and the state that it leaves are those of the state read from them.
--- So a run with written-out requests computes on a few numbers instead of 3,032 bytes.
+-- So a run with written-out requests computes on a few numbers instead of 5,236 bytes.
 -- The idea: a taken call stores a right state, which is read back as it was stored (`put-state`); a refused one leaves the bytes. Assumes nothing.
 use Prim.Native.Nat.{ℕ, _≤_}
 use mathlib.Core.Path.{_≡_, refl, ap, _∙_}
@@ -14,14 +14,14 @@ use Rattle.state.specs.Model.{State}
 use Rattle.state.specs.Layout.{stateSize, stateBytes, stateOf}
 use Rattle.state.specs.Form.{inForm, stateOk}
 use Rattle.state.specs.Refusal.{after}
-use Rattle.state.proofs.StateLaws.{form-ok}
+use Rattle.state.proofs.StateLaws.{form-ok, put-state}
 use Rattle.state.proofs.LentLaws.{refuse-none, lent-next, lent-passed}
 use Rattle.engine.specs.Calls.{Setup, setUp, age, done}
 use Rattle.engine.specs.Refusals.{setUpRefusal, ageRefusal}
 use Rattle.engine.proofs.CallLaws.{set-up-ok, age-ok}
 use Rattle.monitor.specs.Calls.{setUpNumber, setUpState, ageNumber, ageState}
 use Rattle.monitor.specs.Receive.{delivered, deliveredState, receiptNumber, receiveNumber, receiveState}
-use Rattle.monitor.proofs.FormKept.{put-state, set-up-form, length-set-up, age-form, length-age, delivered-ok, receive-passed, receive-form}
+use Rattle.monitor.proofs.FormKept.{set-up-form, length-set-up, age-form, length-age, delivered-ok, receive-passed, receive-form}
 use Rattle.monitor.proofs.FormKept.{length-receive}
 use Rattle.runs.specs.Book.{Request, ageing, receipt, Step}
 use Rattle.runs.specs.Runs.{requestNumber, bytesAfter, bytesRun, steps, Run, begin, stateAfter, stepsOf}
@@ -78,7 +78,7 @@ module _ (s : List ℕ) (h : stateSize ≤ length s) (t : T (inForm s)) where
   state-on (receipt g) =
       rw (← (number-on (receipt g)))
       (after-state (receiveNumber s g) (deliveredState (stateOf s) (delivered g)) s h
-      (λ z. let k = receive-passed s g z in delivered-ok s g t (k .1) (k .2)))
+      (λ z. let k = receive-passed s g z in delivered-ok s g t (k .1) (k .2) (k .3)))
 
   pub form-on : (q : Request) → T (inForm (bytesAfter s q))
   unfolding bytesAfter

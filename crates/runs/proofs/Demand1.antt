@@ -25,6 +25,9 @@ use Rattle.message.specs.declared.Reading.{Reading}
 use Rattle.message.specs.declared.Reading.the-variants.{Message, Refused}
 use Rattle.message.proofs.ReadLaws.{read-out, refused-above}
 use Rattle.message.proofs.MessageLaws.{length-message}
+use Rattle.clocks.specs.declared.Triple.{Triple}
+use Rattle.clocks.specs.declared.Readings.the-variants.{With}
+use Rattle.clocks.specs.Clocks.{readingsFail}
 use Rattle.state.specs.Layout.{stateSize, stateOf, ownAt, datumAt, stateBytes, joined}
 use Rattle.state.specs.Refusal.{refuse, lent, after}
 use Rattle.state.specs.Form.{inForm}
@@ -44,7 +47,7 @@ use Rattle.asking.specs.Asking.{answer, answerNumbers}
 use Rattle.asking.specs.Fewest.{fewest, fewestNumbers}
 use Rattle.monitor.specs.Messages.{readBytes, answered, readingBytes, readNumber, readOutput, rewriteNumber, rewriteOutput, wordsIn, rewrittenBytes}
 use Rattle.monitor.specs.Calls.{setUpNumber, ageNumber, writeNumber, writtenWords, writtenBytes, setUpState, ageState, writeOutput}
-use Rattle.monitor.specs.Receive.{Receipt, brings, delivered, deliveredAs, deliveredNumber, receiveNumber, deliveredState, receiptNumber}
+use Rattle.monitor.specs.Receive.{Receipt, receiptOf, receiptWith, brings, delivered, deliveredAs, deliveredNumber, receiveNumber, deliveredState, receiptNumber}
 use Rattle.monitor.specs.Receive.{receiveState}
 use Rattle.monitor.specs.Ask.{askNumber, fewestNumber, wide, answerSize, fewestSize, askedBytes, askOutput, fewestBytes, fewestOutput}
 use Rattle.monitor.proofs.MessageCalls.{delays-fit, read-words-in, words-in-taken, length-rewritten-bytes}
@@ -52,6 +55,7 @@ use Rattle.monitor.proofs.CallLaws.{length-written-bytes}
 use Rattle.monitor.proofs.FormKept.{heard-in, delivered-ok, receive-passed}
 use Rattle.runs.specs.Demand1.{Exported, returned, lentBytes, leftBytes, listed, Test, firstFailing, wordsFail, countFails, endsFail}
 use Rattle.runs.specs.Demand1.{layoutSize, tests, Demand1, ofDelivered, endsFormSize, outputTests, deliveryTests, test, tooShort, monitorSetUp}
+use Rattle.runs.specs.Demand1.{receiptTests, monitorReceiveWithReadings}
 use Rattle.runs.specs.Demand1.{monitorAge, monitorReceive, monitorAsk, monitorFewest, monitorWrite, messageRead, messageRewrite, messageTests}
 
 -- ---- a message's tests
@@ -165,13 +169,18 @@ age-number : (s : List ℕ) (reading : ℕ) → returned (monitorAge s reading) 
 unfolding returned tests firstFailing ageNumber ageRefusal stateOf
 age-number s reading = lent-same s _ _ (λ t. rw (passes-both (stateOf s) reading (form-ok s t))) ∙ lent-nest s _
 
-receive-number : (s : List ℕ) (g : Receipt) → returned (monitorReceive s g) ≡ firstFailing (tests (monitorReceive s g))
-unfolding returned tests receiveNumber delivered deliveredNumber deliveredAs firstFailing receiptRefusal ofDelivered
-receive-number s g =
+-- a receipt, with readings or without
+receive-nest : (s : List ℕ) (g : Receipt)
+    → receiveNumber s g
+    ≡ refuse (tooShort stateSize s) 24
+    (refuse (not (inForm s)) 25
+    (refuse (delaysFail (g .least) (g .greatest)) 21 (refuse (readingsFail (g .readings)) 40 (firstFailing (receiptTests s g)))))
+unfolding receiveNumber delivered deliveredNumber deliveredAs firstFailing receiptRefusal ofDelivered
+receive-nest s g =
     let st = stateOf s in
-    ap (λ (k : ℕ). lent s k) (refuse-same (delaysFail (g .least) (g .greatest)) 21 _ _ (λ d.
+    ap (λ (k : ℕ). lent s k) (refuse-same (delaysFail (g .least) (g .greatest)) 21 _ _ (λ d. refuse-same (readingsFail (g .readings)) 40 _ _ (λ f.
     read-first (g .message) (λ r. deliveredNumber st (deliveredAs g r)) (deliveryTests st (delivered g)) (λ n. refl)
-    (λ s′ l r n e. rw e (brought _ (heard-in (g .least) (g .greatest) (g .message) (delays-fit (g .least) (g .greatest) (T-false _ d) .0) e)))))
+    (λ s′ l r n e. rw e (brought _ (heard-in (g .least) (g .greatest) (g .readings) (g .message) (delays-fit (g .least) (g .greatest) (T-false _ d) .0) f e))))))
     ∙ lent-nest s _
   where
     brought : (d : Delivery) → Heard d → receiptRefusal (stateOf s) d ≡ firstFailing (deliveryTests (stateOf s) (brings d))
@@ -179,11 +188,22 @@ receive-number s g =
         let st = stateOf s in
         ap (λ (b : Bool). refuse (fromSelf st d) 18 (refuse b 30 (refuse (termsFail st d) 31 (refuse (overfills st d) 32 0)))) (grown-both st d h)
 
+receive-number : (s : List ℕ) (least greatest : ℕ) (m : List ℕ)
+    → returned (monitorReceive s least greatest m) ≡ firstFailing (tests (monitorReceive s least greatest m))
+unfolding returned tests firstFailing readingsFail
+receive-number s least greatest m = receive-nest s (receiptOf least greatest m)
+
+receive-with-number : (s : List ℕ) (least greatest : ℕ) (t : Triple) (drift : ℕ) (m : List ℕ)
+    → returned (monitorReceiveWithReadings s least greatest t drift m) ≡ firstFailing (tests (monitorReceiveWithReadings s least greatest t drift m))
+unfolding returned tests firstFailing readingsFail
+receive-with-number s least greatest t drift m = receive-nest s (receiptWith least greatest (With t drift) m)
+
 number-first : (c : Exported) → returned c ≡ firstFailing (tests c)
 unfolding returned tests firstFailing setUpNumber setUpRefusal ageNumber ageRefusal askNumber fewestNumber writeNumber lent layoutSize stateOf
 number-first (monitorSetUp s u) = refl
 number-first (monitorAge s reading) = age-number s reading
-number-first (monitorReceive s g) = receive-number s g
+number-first (monitorReceive s least greatest m) = receive-number s least greatest m
+number-first (monitorReceiveWithReadings s least greatest t drift m) = receive-with-number s least greatest t drift m
 number-first (monitorAsk s limit out) = refl
 number-first (monitorFewest s out) = refl
 number-first (monitorWrite s position out) = rw (written-size s position)
@@ -194,7 +214,8 @@ numbers-listed : (c : Exported) → map (λ (t : Test). t .number) (tests c) ≡
 unfolding tests listed
 numbers-listed (monitorSetUp s u) = refl
 numbers-listed (monitorAge s reading) = refl
-numbers-listed (monitorReceive s g) = refl
+numbers-listed (monitorReceive s least greatest m) = refl
+numbers-listed (monitorReceiveWithReadings s least greatest t drift m) = refl
 numbers-listed (monitorAsk s limit out) = refl
 numbers-listed (monitorFewest s out) = refl
 numbers-listed (monitorWrite s position out) = refl
@@ -216,7 +237,8 @@ numbers-above : (c : Exported) → T (all (λ (t : Test). ltb 0 (t .number)) (te
 unfolding tests
 numbers-above (monitorSetUp s u) = tt
 numbers-above (monitorAge s reading) = tt
-numbers-above (monitorReceive s g) = tt
+numbers-above (monitorReceive s least greatest m) = tt
+numbers-above (monitorReceiveWithReadings s least greatest t drift m) = tt
 numbers-above (monitorAsk s limit out) = tt
 numbers-above (monitorFewest s out) = tt
 numbers-above (monitorWrite s position out) = tt
@@ -228,7 +250,8 @@ room-tested : (c : Exported) → In (test (tooShort (layoutSize c) (lentBytes c)
 unfolding tests layoutSize lentBytes
 room-tested (monitorSetUp s u) = inl refl
 room-tested (monitorAge s reading) = inl refl
-room-tested (monitorReceive s g) = inl refl
+room-tested (monitorReceive s least greatest m) = inl refl
+room-tested (monitorReceiveWithReadings s least greatest t drift m) = inl refl
 room-tested (monitorAsk s limit out) = inr (inr (inr (inl refl)))
 room-tested (monitorFewest s out) = inr (inr (inl refl))
 room-tested (monitorWrite s position out) = inr (inr (inr (inl refl)))
@@ -281,6 +304,11 @@ receive-lent : (s : List ℕ) (g : Receipt) → receiveNumber s g ≡ 0 → lent
 unfolding receiveNumber
 receive-lent s g e = e
 
+receive-sized : (s : List ℕ) (g : Receipt) → receiveNumber s g ≡ 0 → length (stateBytes (deliveredState (stateOf s) (delivered g))) ≡ stateSize
+receive-sized s g e =
+    let k = receive-passed s g e in
+    length-state (deliveredState (stateOf s) (delivered g)) (delivered-ok s g (lent-passed s _ (receive-lent s g e) .1) (k .1) (k .2) (k .3))
+
 stores : (c : Exported) → Stores c
 unfolding leftBytes returned lentBytes layoutSize setUpNumber setUpState ageNumber ageState receiveState
     askOutput askedBytes fewestOutput fewestBytes writeOutput readOutput rewriteOutput
@@ -298,14 +326,12 @@ stores (monitorAge s reading) =
           let k = lent-passed s (ageRefusal (stateOf s) reading) e in
           length-state (done (stateOf s) (age reading)) (age-ok (stateOf s) reading (form-ok s (k .1)) (k .2));
     }
-stores (monitorReceive s g) =
-    record {
-      stored = stateBytes (deliveredState (stateOf s) (delivered g));
-      left = refl;
-      sized = λ e.
-          let k = receive-passed s g e in
-          length-state (deliveredState (stateOf s) (delivered g)) (delivered-ok s g (lent-passed s _ (receive-lent s g e) .1) (k .1) (k .2));
-    }
+stores (monitorReceive s least greatest m) =
+    let g = receiptOf least greatest m in
+    record { stored = stateBytes (deliveredState (stateOf s) (delivered g)); left = refl; sized = receive-sized s g }
+stores (monitorReceiveWithReadings s least greatest t drift m) =
+    let g = receiptWith least greatest (With t drift) m in
+    record { stored = stateBytes (deliveredState (stateOf s) (delivered g)); left = refl; sized = receive-sized s g }
 stores (monitorAsk s limit out) = record { stored = askedBytes s limit; left = refl; sized = λ e. length-answer (answer limit (stateOf s)) }
 stores (monitorFewest s out) = record { stored = fewestBytes s; left = refl; sized = λ e. length-fewest (fewest (stateOf s)) }
 stores (monitorWrite s position out) = record { stored = writtenBytes s position; left = refl; sized = λ e. written-size s position }

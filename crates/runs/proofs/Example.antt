@@ -14,10 +14,11 @@ use Rattle.message.specs.Read.{readWords, termWords}
 use Rattle.message.specs.Write.{endWords, front, body, messageWords}
 use Rattle.state.specs.Layout.{stateSize, zeros}
 use Rattle.entries.specs.Entries.{explained, learn}
-use Rattle.steps.specs.Steps.{disjoint, learnt, unexplained, same, meet, met, without, betters, stored, heldAfter, settled, received, tooMany}
+use Rattle.steps.specs.Steps.{disjoint, learnt, unexplained, same, meet, met, without, betters, stored, heldAfter, settled, received, blamed, swept, judged, tooMany}
 use Rattle.engine.specs.Ageing.{leastAdvance, greatestAdvance, slow, fast, widened, aged}
 use Rattle.engine.specs.Receiving.{grown}
-use Rattle.engine.specs.Calls.{begun, setUp, moved, made, done}
+use Rattle.clocks.specs.Clocks.{strays, aheadOf, behindOf, saving, violates, readingsFail, violatedBy, watched}
+use Rattle.engine.specs.Calls.{begun, setUp, violated, moved, made, done}
 use Rattle.engine.specs.Refusals.{setUpRefusal, passesEnd, ageRefusal, receiptRefusal}
 use Rattle.monitor.specs.Messages.{readBytes}
 use Rattle.monitor.specs.Receive.{delivered, deliveredAs, deliveredNumber, deliveredState}
@@ -37,6 +38,7 @@ unfolding subset has holds implies isTrue isNormal struck insert rising minimal 
     endWords front body messageWords readBytes
     leastAdvance greatestAdvance slow fast widened aged
     grown disjoint explained learn learnt unexplained same meet met without betters stored heldAfter settled received
+    strays aheadOf behindOf saving violates readingsFail violatedBy watched violated blamed swept judged
     begun setUp moved made done passesEnd ageRefusal tooMany receiptRefusal
     delivered deliveredAs deliveredNumber deliveredState
     opened linesOf entered enteredDelivery enteredRequest noted bookOf
@@ -59,7 +61,7 @@ example-holds buffer h =
       ap (λ (ps : List Step). bookOf (opened exampleSetup) ps .lines) (run-steps r) ∙ example-states .1,
     )
 
--- the run in 3,032 zeros
+-- the run in 5,236 zeros
 pub example : Run
 unfolding Example
 example =

@@ -9,10 +9,13 @@ use mathlib.Core.List.{List, [], _∷_}
 use native.Mathlib.Nat.{le-trans}
 use lib.IntN.{ℤ}
 use Rattle.state.specs.Model.{Head}
-use Rattle.engine.specs.Receiving.{Delivery}
-use Rattle.engine.specs.Calls.{Setup, Call, age, receive, moved}
+use Rattle.clocks.specs.declared.Readings.the-variants.{Without}
+use Rattle.engine.specs.Receiving.{Delivery, grown}
+use Rattle.engine.specs.Calls.{Setup, Call, age, receive, clockOf, violated, moved}
+use Rattle.engine.proofs.WatchLaws.{watched-none, violated-none}
 use Rattle.monitor.specs.Receive.{Delivered, refused, brings, delivered}
-use Rattle.runs.specs.Book.{Request, ageing, receipt, Step, Line, Book, opened, linesOf, entered, enteredRequest, noted, bookOf, sees}
+use Rattle.monitor.proofs.FormKept.{brought-readings}
+use Rattle.runs.specs.Book.{Request, ageing, receipt, Step, Line, heard, Book, opened, linesOf, entered, enteredRequest, noted, bookOf, sees}
 use Rattle.runs.specs.Book.{enteredDelivery, EndsOn}
 use Rattle.runs.specs.Runs.{Run, stepsOf, book, ifTaken, takenOf, Extra, Further, Demand3·more, Demand3·whole}
 use Rattle.runs.proofs.Agreement.{ends-out, ends-in}
@@ -51,13 +54,16 @@ less-call c b q l =
           ends-in v (b .lines) (linesOf (b .head) q) (w .0) x (l .ends v (w .0) (w .1)) (rw (← (l .head)) (w .2));
     }
 
--- a receipt in the first alone
-less-receipt : (c b : Book) (g : Delivery) → Less c b → Less (entered c (receive g)) b
-unfolding entered moved linesOf
-less-receipt c b g l =
+-- a receipt in the first alone, without readings: it enters its own line, and nothing is saved
+less-receipt : (c b : Book) (g : Delivery) → g .readings ≡ Without → Less c b → Less (entered c (receive g)) b
+unfolding entered moved linesOf violated
+less-receipt c b g e l =
     record {
-      head = l .head;
-      ends = λ v x p. let w = ends-out v (c .lines) (linesOf (c .head) (receive g)) x p in rw (w .2 .1) at (l .ends v (w .0) (w .1));
+      head = rw (watched-none (g .readings) (g .sender) (c .head .clocks) e) (l .head);
+      ends = λ v x p.
+          let own-line = rw (violated-none (c .head .drift) (clockOf (c .head) (g .sender)) (g .readings) e) at p in
+          let w = ends-out v (c .lines) (heard (grown (c .head .own) g) ∷ []) x own-line in
+          rw (w .2 .1) at (l .ends v (w .0) (w .1));
     }
 
 module _ (c b : Book) (l : Less c b) where
@@ -73,11 +79,11 @@ module _ (c b : Book) (l : Less c b) where
   less-more : (q : Request) → Extra q → Less (enteredRequest c q) b
   unfolding enteredRequest enteredDelivery
   less-more (ageing reading) e = absurd e
-  less-more (receipt g) e = go (delivered g)
+  less-more (receipt g) e = go (delivered g) refl
     where
-      go : (d : Delivered) → Less (enteredDelivery c d) b
-      go (refused number) = l
-      go (brings d) = less-receipt c b _ l
+      go : (d : Delivered) → delivered g ≡ d → Less (enteredDelivery c d) b
+      go (refused number) p = l
+      go (brings d) p = less-receipt c b d (brought-readings g d p ∙ e) l
 
 less-written : (qs ps : List Request) (c b : Book) → Less c b → Further ps qs → Less (written c qs) (written b ps)
 unfolding written

@@ -1,9 +1,10 @@
--- Demand 1 and demand 3 with what they rest on, lowest first: what a receipt and an ageing mean for one set, what a run keeps, the answers; then
--- runs by the states that their bytes hold, the table of cases and an example.
+-- Demand 1 and demand 3 with what they rest on, lowest first: what a receipt, a violation and an ageing mean for one set, what a run keeps, the
+-- answers; then runs by the states that their bytes hold, the table of cases and an example.
 pub mod Demand1
 pub mod SameBytes
 pub mod PartsStay
 pub mod ReceiptMeaning
+pub mod BlameMeaning
 pub mod AgeingMeaning
 pub mod Agreement
 pub mod Runs

@@ -1,4 +1,5 @@
--- The parts of a state that a call does not name stay as bytes: ageing leaves the entries and all behind them, a receipt own name, drift and reading.
+-- The parts of a state that a call does not name stay as bytes: ageing leaves the entries and all behind them, a receipt own name, drift and reading,
+-- and without readings the names' clocks.
 -- The idea: bytes in form are the parts of their state, one behind the other, and two states that share their first or their last parts share the
 -- bytes of these. Assumes nothing.
 use Prim.Native.Nat.{ℕ, zero, suc, _+_, _≤_}
@@ -10,8 +11,9 @@ use lib.ListN.{length, take, drop}
 use Rattle.numbers.specs.Numbers.{Bytes, put}
 use Rattle.numbers.proofs.NumberLaws.{put-front}
 use Rattle.predicates.proofs.ListLaws.{cond-ind}
+use Rattle.clocks.specs.declared.Readings.the-variants.{Without}
 use Rattle.state.specs.Model.{State}
-use Rattle.state.specs.Layout.{stateSize, entriesAt, heldAt, joined, parts, stateBytes, stateOf}
+use Rattle.state.specs.Layout.{stateSize, entriesAt, clocksAt, heldAt, joined, parts, stateBytes, stateOf}
 use Rattle.state.specs.Form.{inForm, stateOk}
 use Rattle.state.specs.Refusal.{after}
 use Rattle.state.proofs.PartLaws.{Sized, placeIn, together, partSizes}
@@ -21,10 +23,11 @@ use Rattle.engine.specs.Ageing.{aged}
 use Rattle.engine.specs.Calls.{age, moved, made, done}
 use Rattle.engine.specs.Refusals.{ageRefusal}
 use Rattle.engine.proofs.CallLaws.{age-ok}
+use Rattle.engine.proofs.WatchLaws.{watched-none}
 use Rattle.monitor.specs.Calls.{ageNumber, ageState}
-use Rattle.monitor.specs.Receive.{Delivered, refused, brings, delivered, deliveredState, receiptNumber, receiveNumber, receiveState}
-use Rattle.monitor.proofs.FormKept.{receive-passed, delivered-ok}
-use Rattle.runs.specs.Demand1.{EntriesStay, HeadStays}
+use Rattle.monitor.specs.Receive.{Receipt, Delivered, refused, brings, delivered, deliveredState, receiptNumber, receiveNumber, receiveState}
+use Rattle.monitor.proofs.FormKept.{brought-readings, receive-passed, delivered-ok}
+use Rattle.runs.specs.Demand1.{EntriesStay, HeadStays, ClocksStay}
 
 -- ---- parts one behind the other
 
@@ -88,10 +91,10 @@ module _ (s : List ℕ) (b : Bytes s) (t : T (inForm s)) (h : stateSize ≤ leng
       ∙ sym (take-parts k partSizes (parts (stateOf s)) r (parts-sized (stateOf s) (form-ok s t)))
       ∙ ap (λ (l : List ℕ). take (placeIn partSizes k) l) (sym old)
 
--- ---- the two calls
+-- ---- the calls
 
 pub entry-bytes-stay : EntriesStay
-unfolding EntriesStay ageNumber ageState after done made aged parts
+unfolding EntriesStay ageNumber ageState after done moved made aged parts
 entry-bytes-stay s b reading =
     cond-ind (λ (u : List ℕ). drop entriesAt u ≡ drop entriesAt s) (eqb (ageNumber s reading) 0) _ s
     (λ e.
@@ -111,6 +114,26 @@ head-bytes-stay s b g =
     let z = eqb→eq (receiveNumber s g) 0 e in
     let l = lent-passed s (receiptNumber (stateOf s) g) z in
     let k = receive-passed s g z in
-    before-same s b (l .1) (l .0) (deliveredState (stateOf s) (delivered g)) (delivered-ok s g (l .1) (k .1) (k .2)) 3
+    before-same s b (l .1) (l .0) (deliveredState (stateOf s) (delivered g)) (delivered-ok s g (l .1) (k .1) (k .2) (k .3)) 3
     (head-of-delivered (stateOf s) (delivered g)))
+    (λ e. refl)
+
+clocks-of-delivered : (st : State) (g : Receipt) → g .readings ≡ Without → drop 7 (parts (deliveredState st (delivered g))) ≡ drop 7 (parts st)
+unfolding deliveredState done moved parts
+clocks-of-delivered st g e = go (delivered g) refl
+  where
+    go : (d : Delivered) → delivered g ≡ d → drop 7 (parts (deliveredState st d)) ≡ drop 7 (parts st)
+    go (refused number) p = refl
+    go (brings b) p = rw (watched-none (b .readings) (b .sender) (st .head .clocks) (brought-readings g b p ∙ e))
+
+pub clock-bytes-stay : ClocksStay
+unfolding ClocksStay receiveNumber receiveState after
+clock-bytes-stay s b g w =
+    cond-ind (λ (u : List ℕ). drop clocksAt u ≡ drop clocksAt s) (eqb (receiveNumber s g) 0) _ s
+    (λ e.
+    let z = eqb→eq (receiveNumber s g) 0 e in
+    let l = lent-passed s (receiptNumber (stateOf s) g) z in
+    let k = receive-passed s g z in
+    behind-same s b (l .1) (l .0) (deliveredState (stateOf s) (delivered g)) (delivered-ok s g (l .1) (k .1) (k .2) (k .3)) 7
+    (clocks-of-delivered (stateOf s) g w))
     (λ e. refl)

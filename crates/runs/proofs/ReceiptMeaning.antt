@@ -51,7 +51,7 @@ module _ (s : ℕ) where
       let f : Datum → Bool = λ d. not (holds s (d .terms)) in
       ⊎-map (any-out f ds) (λ t x. inall-each x ds .1 (λ d m a. absurd (T-not (any f ds) t (any-in f ds d m a)))) (split (any f ds))
 
-  entries-each : (es : List (List ℕ)) → T (all (holds s) es) ↔ Each True es
+  pub entries-each : (es : List (List ℕ)) → T (all (holds s) es) ↔ Each True es
   entries-each es = (all-out (holds s) es, all-in (holds s) es)
 
   -- ---- step 1
@@ -61,7 +61,7 @@ module _ (s : ℕ) where
   explained-true es h p k =
       let e = any-out (λ e. implies e p) es k in implies-out (e .0) p (e .2) s (h (e .0) (e .1))
 
-  learn-each : (e : List ℕ) (es : List (List ℕ)) → Each True (learn e es) ↔ (True e × Each True es)
+  pub learn-each : (e : List ℕ) (es : List (List ℕ)) → Each True (learn e es) ↔ (True e × Each True es)
   unfolding learn explained
   learn-each e es = each-added True implies (λ p q i. implies-out p q i s) e es
 
@@ -105,7 +105,7 @@ module _ (s : ℕ) where
   -- ---- steps 2 to 4
 
   module _ (x : ℤ) where
-    unexplained-all : (es : List (List ℕ)) → Each True es → (ds : List Datum) → InAll s (unexplained es ds) x ↔ InAll s ds x
+    pub unexplained-all : (es : List (List ℕ)) → Each True es → (ds : List Datum) → InAll s (unexplained es ds) x ↔ InAll s ds x
     unfolding unexplained
     unexplained-all es h ds =
         Iff·trans (inall-each x (unexplained es ds))

@@ -5,6 +5,7 @@
 use Prim.Native.Nat.{ℕ, zero, suc, _≤_}
 use mathlib.Core.Path.{_≡_, refl, sym, ap, subst, _∙_}
 use mathlib.Core.Logic.{_↔_}
+use mathlib.Core.Bool.{not}
 use mathlib.Core.List.{List, [], _∷_}
 use native.Mathlib.Omega.{arith}
 use lib.Dec.{T, ltb, nltb→le, eqb·suc-zero}
@@ -14,10 +15,11 @@ use Rattle.numbers.specs.Numbers.{put}
 use Rattle.numbers.proofs.NumberLaws.{length-put}
 use Rattle.message.specs.declared.Reading.{Reading}
 use Rattle.message.specs.declared.Reading.the-variants.{Message, Refused}
+use Rattle.clocks.specs.Clocks.{readingsFail}
 use Rattle.state.specs.Model.{Head, State}
 use Rattle.state.specs.Layout.{stateSize, stateBytes, headOf, storeOf, stateOf}
 use Rattle.state.specs.Form.{inForm, stateOk}
-use Rattle.state.proofs.StateLaws.{form-ok}
+use Rattle.state.proofs.StateLaws.{form-ok, put-form, put-state}
 use Rattle.engine.specs.Calls.{begun, setUp, Call, age, receive, moved, done}
 use Rattle.state.specs.Refusal.{lent}
 use Rattle.engine.specs.Refusals.{setUpRefusal, ageRefusal}
@@ -31,7 +33,7 @@ use Rattle.monitor.specs.Receive.{Receipt, delivered, deliveredAs, deliveredNum
 use Rattle.runs.specs.Book.{Request, ageing, receipt, Book, opened, entered, enteredRequest, noted, bookOf, sees, Possible, enteredDelivery}
 use Rattle.runs.specs.Runs.{requestNumber}
 use Rattle.runs.specs.Runs.{bytesAfter, bytesRun, steps, Run, begin, stateAfter, stepsOf, book, SetBySet}
-use Rattle.monitor.proofs.FormKept.{put-form, put-state, heard-in, receive-passed}
+use Rattle.monitor.proofs.FormKept.{heard-in, receive-passed}
 use Rattle.runs.proofs.Agreement.{Agrees, agrees-none, Given, call-agrees}
 
 -- ---- the invariant
@@ -77,16 +79,16 @@ module _ (s : List ℕ) (b : Book) (so : Sound s b) where
   after-sound q (suc n) st f = rw (eqb·suc-zero n) so
 
   -- a taken receipt, by what its message delivers
-  receipt-sound : (g : Receipt) → g .least ≤ g .greatest → deliveredNumber (stateOf s) (delivered g) ≡ 0
+  receipt-sound : (g : Receipt) → g .least ≤ g .greatest → T (not (readingsFail (g .readings))) → deliveredNumber (stateOf s) (delivered g) ≡ 0
       → Sound (put 0 (stateBytes (deliveredState (stateOf s) (delivered g))) s) (enteredDelivery b (delivered g))
   unfolding delivered deliveredAs deliveredNumber deliveredState enteredDelivery stateOf
-  receipt-sound g d = go (readBytes (g .message)) refl
+  receipt-sound g d f = go (readBytes (g .message)) refl
     where
       go : (r : Reading) → readBytes (g .message) ≡ r → deliveredNumber (stateOf s) (deliveredAs g r) ≡ 0
           → Sound (put 0 (stateBytes (deliveredState (stateOf s) (deliveredAs g r))) s) (enteredDelivery b (deliveredAs g r))
       go (Refused number) e z = put-sound (stateOf s) s b (form-ok s (so .form)) (so .long) (so .head) (so .each)
       go (Message sender left right n) e z =
-          let heard = heard-in (g .least) (g .greatest) (g .message) d e in
+          let heard = heard-in (g .least) (g .greatest) (g .readings) (g .message) d f e in
           taken-sound (receive _) heard (receive-ok (stateOf s) _ (form-ok s (so .form)) heard z)
 
   pub step-sound : (q : Request) → Noted q (requestNumber s q) (bytesAfter s q)
@@ -96,7 +98,7 @@ module _ (s : List ℕ) (b : Book) (so : Sound s b) where
       (λ z. taken-sound (age reading) tt (age-ok (stateOf s) reading (form-ok s (so .form)) (lent-passed s (ageRefusal (stateOf s) reading) z .2)))
   step-sound (receipt g) =
       after-sound (receipt g) (receiveNumber s g) (deliveredState (stateOf s) (delivered g))
-      (λ z. let k = receive-passed s g z in receipt-sound g (k .1) (k .2))
+      (λ z. let k = receive-passed s g z in receipt-sound g (k .1) (k .2) (k .3))
 
 -- ---- a run
 

@@ -1,8 +1,9 @@
--- Two taken calls that leave every byte: an ageing to an equal reading, and a receipt whose predicate is true.
+-- Two taken calls that leave every byte: an ageing to an equal reading, and a receipt without readings whose predicate is true.
 -- The idea: the crate `engine` has that the state stays (`age-same`, `receive-same`), and storing the state that is there changes nothing
 -- (`put-state-same`). Assumes nothing.
 use Prim.Native.Nat.{ℕ, _≤_}
-use mathlib.Core.Path.{_≡_, refl, ap, _∙_}
+use mathlib.Core.Path.{_≡_, refl, sym, ap, subst, _∙_}
+use mathlib.Core.Bool.{false}
 use mathlib.Core.List.{List}
 use lib.Dec.{T, eqb}
 use lib.ListN.{length}
@@ -14,10 +15,14 @@ use Rattle.state.specs.Form.{inForm}
 use Rattle.state.specs.Refusal.{after}
 use Rattle.state.proofs.StateLaws.{form-ok, put-state-same}
 use Rattle.state.proofs.LentLaws.{lent-next}
+use Rattle.clocks.specs.declared.Readings.{Readings}
+use Rattle.clocks.specs.declared.Readings.the-variants.{Without}
+use Rattle.clocks.specs.Clocks.{readingsFail}
 use Rattle.engine.specs.Refusals.{delaysFail}
 use Rattle.engine.proofs.SameLaws.{age-same, receive-same, receive-true}
 use Rattle.monitor.specs.Calls.{ageNumber, ageState}
 use Rattle.monitor.specs.Receive.{delivered, deliveredNumber, deliveredState, receiveNumber, receiveState}
+use Rattle.monitor.proofs.FormKept.{brought-readings}
 use Rattle.runs.specs.Demand1.{EqualReading, TrueReceipt}
 
 -- the state that is there, stored or not
@@ -34,10 +39,17 @@ equal-reading s b h t =
     let a = age-same (stateOf s) (form-ok s t) in
     (lent-next s _ h t ∙ a .0, after-same _ _ s b h t (a .1))
 
+readings-none : (r : Readings) → r ≡ Without → readingsFail r ≡ false
+unfolding readingsFail
+readings-none r e = subst (λ (x : Readings). readingsFail x ≡ false) (sym e) refl
+
 pub true-receipt : TrueReceipt
 unfolding TrueReceipt receiveNumber receiveState deliveredNumber deliveredState stateOf
-true-receipt s b h t g d e true = (
-  after-same _ (deliveredState (stateOf s) (delivered g)) s b h t (rw e (receive-same (stateOf s) (form-ok s t) d true)),
-  λ delays other below.
-      lent-next s _ h t ∙ rw (T-false (delaysFail (g .least) (g .greatest)) delays, e) (receive-true (stateOf s) (form-ok s t) d true other below),
-)
+true-receipt s b h t g d w e true =
+    let none = brought-readings g d e ∙ w in (
+      after-same _ (deliveredState (stateOf s) (delivered g)) s b h t (rw e (receive-same (stateOf s) (form-ok s t) d none true)),
+      λ delays other below.
+          lent-next s _ h t
+          ∙ rw (T-false (delaysFail (g .least) (g .greatest)) delays, readings-none (g .readings) w, e)
+          (receive-true (stateOf s) (form-ok s t) d none true other below),
+    )

@@ -22,11 +22,14 @@ use Rattle.state.specs.Layout.{stateSize, headOf, storeOf, stateOf}
 use Rattle.state.specs.Form.{inForm}
 use Rattle.state.proofs.LentLaws.{refuse-none, lent-next}
 use Rattle.entries.specs.Entries.{explained, learn}
-use Rattle.steps.specs.Steps.{disjoint, learnt, unexplained, same, meet, met, without, betters, stored, heldAfter, settled, received, tooMany}
+use Rattle.steps.specs.Steps.{disjoint, learnt, unexplained, same, meet, met, without, betters, stored, heldAfter, settled, received, blamed, swept, judged, tooMany}
 use Rattle.steps.proofs.ReceiveLaws.{same-out}
 use Rattle.engine.specs.Ageing.{leastAdvance, greatestAdvance, slow, fast, widened, aged}
 use Rattle.engine.specs.Receiving.{grown}
-use Rattle.engine.specs.Calls.{begun, setUp, moved, made, done}
+use Rattle.clocks.specs.declared.Triple.{Triple}
+use Rattle.clocks.specs.Clocks.{strays, aheadOf, behindOf, Saved, nothing, three, saving as Clocks·saving, violates, readingsFail, violatedBy, watched}
+use Rattle.clocks.specs.Worked.{triple}
+use Rattle.engine.specs.Calls.{begun, setUp, clockOf, violated, moved, made, done}
 use Rattle.engine.specs.Refusals.{setUpRefusal, passesEnd, ageRefusal, receiptRefusal}
 use Rattle.asking.specs.declared.Answer.{Answer}
 use Rattle.asking.specs.declared.Answer.the-variants.{Contradicted, Open, Between}
@@ -37,7 +40,7 @@ use Rattle.monitor.specs.Calls.{ageNumber}
 use Rattle.monitor.specs.Ask.{limitMost, limitFails, limitRefusal, askNumber}
 use Rattle.runs.specs.Book.{Step}
 use Rattle.runs.specs.Runs.{stateAfter}
-use Rattle.runs.specs.Cases.{Question, asking, refusing, holding, knowing, forming, advancing, Case, Comes, runOf, CaseComes, cases, EachCase}
+use Rattle.runs.specs.Cases.{Question, asking, refusing, holding, knowing, saving, forming, advancing, Case, Comes, runOf, CaseComes, cases, EachCase}
 use Rattle.runs.proofs.DecodedRuns.{numberOn, doneBy, next, stepsFrom, stateFrom, set-up-taken, run-steps, run-state}
 use Rattle.runs.proofs.Runs.{reached}
 use Rattle.runs.proofs.Demand3.{ask-answers}
@@ -55,6 +58,15 @@ module _ {A : Type 0} where
 unfoldable sameDatum : Datum → Datum → Bool
 sameDatum d e = eqb (d .left) (e .left) && (eqb (d .right) (e .right) && same (d .terms) (e .terms))
 
+unfoldable sameTriple : Triple → Triple → Bool
+sameTriple t u = eqb (t .there) (u .there) && (eqb (t .here) (u .here) && eqb (t .half) (u .half))
+
+unfoldable sameSaved : Saved → Saved → Bool
+sameSaved nothing nothing = true
+sameSaved nothing (three p a b) = false
+sameSaved (three p a b) nothing = false
+sameSaved (three p a b) (three q c d) = sameTriple p q && (sameTriple a c && sameTriple b d)
+
 unfoldable sameAnswer : Answer → Answer → Bool
 sameAnswer Contradicted Contradicted = true
 sameAnswer Contradicted Open = false
@@ -71,6 +83,7 @@ meets st (asking limit a) = eqb (limitRefusal limit 0) 0 && sameAnswer (answer l
 meets st (refusing limit number) = limitFails limit && eqb (limitRefusal limit 0) number
 meets st (holding ds) = alike sameDatum (st .store .held) ds
 meets st (knowing es) = alike same (st .store .entries) es
+meets st (saving name v) = sameSaved (clockOf (st .head) name) v
 meets st (forming sender terms p) = same (formed (st .head .own) sender terms) p
 meets st (advancing reading lo hi) = eqb (ageRefusal st reading) 0 && (eqb (slow (st .head) reading) lo && eqb (fast (st .head) reading) hi)
 
@@ -88,10 +101,11 @@ unfolding subset union has holds implies isTrue isNormal struck insert rising mi
     endWords front body messageWords readBytes
     leastAdvance greatestAdvance slow fast widened aged
     grown disjoint explained learn learnt unexplained same meet met without betters stored heldAfter settled received
+    strays aheadOf behindOf Clocks·saving violates readingsFail violatedBy watched violated blamed swept judged
     begun setUp moved made done setUpRefusal passesEnd ageRefusal tooMany receiptRefusal
     delivered deliveredAs deliveredNumber deliveredState
     cut common active leaves setsOf sets either leftBy answer
-    numberOn doneBy next stepsFrom stateFrom sameDatum sameAnswer meets passes cases
+    numberOn doneBy next stepsFrom stateFrom sameDatum sameTriple sameSaved sameAnswer meets passes cases
 each-passes = tt
 
 -- ---- what a test tells
@@ -111,6 +125,24 @@ same-datum-out d e t =
     let p : d .terms ≡ e .terms = same-out (d .terms) (e .terms) (search (both-l, both-r) depth 9) in
     ap (λ (x : ℕ). datum x (d .right) (d .terms)) l ∙ ap (λ (x : ℕ). datum (e .left) x (d .terms)) r
     ∙ ap (λ (x : List ℕ). datum (e .left) (e .right) x) p
+
+same-triple-out : (t u : Triple) → T (sameTriple t u) → t ≡ u
+unfolding sameTriple
+same-triple-out t u h =
+    let a : t .there ≡ u .there = eqb→eq (t .there) (u .there) (search both-l) in
+    let b : t .here ≡ u .here = eqb→eq (t .here) (u .here) (search (both-l, both-r) depth 9) in
+    let w : t .half ≡ u .half = eqb→eq (t .half) (u .half) (search (both-l, both-r) depth 9) in
+    ap (λ (x : ℕ). triple x (t .here) (t .half)) a ∙ ap (λ (x : ℕ). triple (u .there) x (t .half)) b ∙ ap (λ (x : ℕ). triple (u .there) (u .here) x) w
+
+same-saved-out : (v w : Saved) → T (sameSaved v w) → v ≡ w
+unfolding sameSaved
+same-saved-out nothing nothing h = refl
+same-saved-out nothing (three p a b) h = absurd h
+same-saved-out (three p a b) nothing h = absurd h
+same-saved-out (three p a b) (three q c d) h =
+    let x = same-triple-out p q (both-l (sameTriple p q) (sameTriple a c && sameTriple b d) h) in
+    let low = both-r (sameTriple p q) (sameTriple a c && sameTriple b d) h in
+    rw (x, same-triple-out a c (both-l (sameTriple a c) (sameTriple b d) low), same-triple-out b d (both-r (sameTriple a c) (sameTriple b d) low))
 
 same-answer-out : (a b : Answer) → T (sameAnswer a b) → a ≡ b
 unfolding sameAnswer
@@ -136,6 +168,7 @@ module _ (s : List ℕ) (h : stateSize ≤ length s) (t : T (inForm s)) where
       lent-next s _ h t ∙ rw over (rw over at (eqb→eq (limitRefusal limit 0) number (both-r (limitFails limit) _ p)))
   question-comes (holding ds) p = alike-out sameDatum same-datum-out (storeOf s .held) ds p
   question-comes (knowing es) p = alike-out same same-out (storeOf s .entries) es p
+  question-comes (saving name v) p = same-saved-out (clockOf (headOf s) name) v p
   question-comes (forming sender terms q) p = same-out (formed (headOf s .own) sender terms) q p
   question-comes (advancing reading lo hi) p = (
     lent-next s (ageRefusal (stateOf s) reading) h t ∙ eqb→eq (ageRefusal (stateOf s) reading) 0 (search both-l),

@@ -3,15 +3,16 @@
 use Prim.Native.Nat.{ℕ, zero, suc, _≤_}
 use mathlib.Core.Path.{_≡_}
 use mathlib.Core.Logic.{_⊎_}
-use mathlib.Core.Bool.{Bool, true}
+use mathlib.Core.Bool.{Bool, true, cond}
 use mathlib.Core.List.{List, [], _∷_, _++_}
 use lib.Dec.{T}
 use lib.IntN.{ℤ, pos, _+ℤ_}
+use Rattle.names.specs.Sets.{has}
 use Rattle.predicates.specs.Predicates.{holds}
 use Rattle.state.specs.Model.{Datum, Head}
 use Rattle.engine.specs.Ageing.{slow, fast}
 use Rattle.engine.specs.Receiving.{grown}
-use Rattle.engine.specs.Calls.{Setup, begun, Call, age, receive, moved}
+use Rattle.engine.specs.Calls.{Setup, begun, Call, age, receive, violated, moved}
 use Rattle.asking.specs.Instants.{Within, Allowed}
 use Rattle.monitor.specs.Receive.{Receipt, Delivered, refused, brings, delivered}
 
@@ -33,6 +34,8 @@ pub record Step : Type 0 where
 pub data Line : Type 0 where
   advanced : ℕ → ℕ → Line
   heard : Datum → Line
+  -- document 02, W-201: "from that moment a possible instant needs a set that holds the name"
+  blames : ℕ → Line
 
 pub record Book : Type 0 where
   pub head : Head
@@ -44,10 +47,10 @@ opened u = record { head = begun u; lines = [] }
 
 -- "A taken ageing enters its least and greatest advance since the last reading, and the new reading" (which `moved` puts into the head).
 -- "A taken receipt enters the grown interval and the predicate formed at the head of Receiving, a true one too; what is stored or dropped later
--- plays no part."
+-- plays no part." A violation enters its line first. "The book of demand 3 keeps triples of its own by the same rule", in its head (`moved`).
 unfoldable pub linesOf : Head → Call → List Line
 linesOf h (age reading) = advanced (slow h reading) (fast h reading) ∷ []
-linesOf h (receive g) = heard (grown (h .own) g) ∷ []
+linesOf h (receive g) = cond (violated h g) (blames (g .sender) ∷ []) [] ++ (heard (grown (h .own) g) ∷ [])
 
 unfoldable pub entered : Book → Call → Book
 entered b c = record { head = moved (b .head) c; lines = b .lines ++ linesOf (b .head) c }
@@ -72,18 +75,20 @@ bookOf b (p ∷ ps) = bookOf (noted (p .number) b (p .request)) ps
 
 -- ---- paths
 
--- the set makes the line's predicate true
+-- the set makes the line's predicate true, or holds its name
 unfoldable pub sees : ℕ → Line → Bool
 sees s (advanced lo hi) = true
 sees s (heard d) = holds s (d .terms)
+sees s (blames n) = has n s
 
 -- a path from the true time y to the true time x, where v tells which lines' predicates are true. "In the book's order each ageing advances it by
 -- a whole amount from its least to its greatest (the drift bounds). A receipt leaves it where it is, and it is then in the interval or the set
--- makes the predicate true."
+-- makes the predicate true." A violation leaves it there too, and the set holds the name.
 abbrev pub Walk : (Line → Bool) → List Line → ℤ → ℤ → Type 0
 Walk v [] y x = y ≡ x
 Walk v (advanced lo hi ∷ ls) y x = (a : ℕ) × (lo ≤ a) × (a ≤ hi) × Walk v ls (y +ℤ pos a) x
 Walk v (heard d ∷ ls) y x = (Within (d .left) (d .right) y ⊎ T (v (heard d))) × Walk v ls y x
+Walk v (blames n ∷ ls) y x = T (v (blames n)) × Walk v ls y x
 
 -- "The path starts with any whole true time, negative ones allowed"; it ends on x
 abbrev pub EndsOn : (Line → Bool) → List Line → ℤ → Type 0

@@ -1,4 +1,4 @@
--- The cases of document 01 ("Cases (P: to be proved)") and the answers of its listing, as one table: what a row is, when it holds of the exported
+-- The cases of document 01 ("Cases (P: to be proved)"), the answers of its listing and cases of document 02, as one table: what a row is, when it holds of the exported
 -- calls' numbers and bytes, and the rows. Assumes nothing: these are definitions.
 use Prim.Native.Nat.{ℕ, _+_, _^_, _≤_}
 use mathlib.Core.Path.{_≡_}
@@ -9,14 +9,18 @@ use Rattle.numbers.specs.Numbers.{bytesOf}
 use Rattle.predicates.specs.Lists.{all, In}
 use Rattle.predicates.specs.Predicates.{formed}
 use Rattle.message.specs.Write.{messageWords}
+use Rattle.clocks.specs.declared.Triple.{Triple}
+use Rattle.clocks.specs.declared.Readings.the-variants.{With}
+use Rattle.clocks.specs.Clocks.{Saved, three}
+use Rattle.clocks.specs.Worked.{triple}
 use Rattle.state.specs.Model.{Datum, datum}
 use Rattle.state.specs.Layout.{stateSize, headOf, storeOf}
 use Rattle.engine.specs.Ageing.{slow, fast}
-use Rattle.engine.specs.Calls.{Setup}
+use Rattle.engine.specs.Calls.{Setup, clockOf}
 use Rattle.asking.specs.declared.Answer.{Answer}
 use Rattle.asking.specs.declared.Answer.the-variants.{Contradicted, Open, Between}
 use Rattle.monitor.specs.Calls.{setUpNumber, ageNumber}
-use Rattle.monitor.specs.Receive.{receiptOf}
+use Rattle.monitor.specs.Receive.{receiptOf, receiptWith}
 use Rattle.monitor.specs.Ask.{answerSize, answerIn, askNumber, askOutput}
 use Rattle.runs.specs.Book.{Request, ageing, receipt, Step}
 use Rattle.runs.specs.Runs.{Run, stateAfter, stepsOf}
@@ -35,6 +39,8 @@ pub data Question : Type 0 where
   knowing : List (List ℕ) → Question
   -- from the sender and the message's terms the predicate is formed
   forming : ℕ → List ℕ → List ℕ → Question
+  -- of the name's clock this is saved
+  saving : ℕ → Saved → Question
   -- an ageing to the reading has this least and this greatest advance
   advancing : ℕ → ℕ → ℕ → Question
 
@@ -52,6 +58,7 @@ Comes s (asking limit a) = (out : List ℕ) → answerSize ≤ length out → (a
 Comes s (refusing limit number) = (out : List ℕ) → askNumber s limit out ≡ number
 Comes s (holding ds) = storeOf s .held ≡ ds
 Comes s (knowing es) = storeOf s .entries ≡ es
+Comes s (saving name v) = clockOf (headOf s) name ≡ v
 Comes s (forming sender terms p) = formed (headOf s .own) sender terms ≡ p
 Comes s (advancing reading lo hi) = (ageNumber s reading ≡ 0) × (slow (headOf s) reading ≡ lo) × (fast (headOf s) reading ≡ hi)
 
@@ -74,6 +81,10 @@ given u qs q = record { setup = u; requests = qs; question = q }
 abbrev pub named : ℕ → Setup
 named own = record { own = own; drift = 100; reading = 0 }
 
+-- the same without drift
+abbrev pub steady : ℕ → Setup
+steady own = record { own = own; drift = 0; reading = 0 }
+
 -- a receipt of a message of these words, "four bytes make a word", as the listing's `get`
 abbrev pub get : ℕ → ℕ → List ℕ → Request
 get least greatest words = receipt (receiptOf least greatest (bytesOf words))
@@ -81,6 +92,18 @@ get least greatest words = receipt (receiptOf least greatest (bytesOf words))
 -- a receipt of a sender's message of an interval and terms, over a channel without delay
 abbrev pub hear : ℕ → ℕ → ℕ → List ℕ → Request
 hear sender left right terms = get 0 0 (messageWords sender [] left right terms)
+
+-- the same with the sender's clock reading, the own one, a half width and the sender's drift
+abbrev pub tick : ℕ → ℕ → ℕ → List ℕ → Triple → ℕ → Request
+tick sender left right terms t drift = receipt (receiptWith 0 0 (With t drift) (bytesOf (messageWords sender [] left right terms)))
+
+-- [0,10] from sender 1 with these readings and no drift
+abbrev pub one : ℕ → ℕ → ℕ → Request
+one a b w = tick 1 0 10 [] (triple a b w) 0
+
+-- the same with a drift of 100
+abbrev pub drifting : ℕ → ℕ → ℕ → Request
+drifting a b w = tick 1 0 10 [] (triple a b w) 100
 
 -- the requests of the listing, up to its first message, its ageing and its second message
 abbrev pub listingFirst : List Request
@@ -134,6 +157,33 @@ cases =
     ∷ given (named 5) listingSecond (asking 0 Contradicted)
     ∷ given (named 5) listingSecond (asking 1 (Between 2_999_800 3_001_000))
     ∷ given (named 5) listingSecond (asking 2 Open)
+    -- document 02, W-201. A test exactly at the bound, 2 > 2: no violation
+    ∷ given (steady 5) (one 0 0 1 ∷ one 100 102 1 ∷ []) (asking 0 (Between 0 10))
+    ∷ given (steady 5) (one 0 0 1 ∷ one 100 102 1 ∷ []) (saving 1 (three (triple 100 102 1) (triple 0 0 1) (triple 100 102 1)))
+    -- and one past it: no data, the entry 1
+    ∷ given (steady 5) (one 0 0 1 ∷ one 100 103 1 ∷ []) (holding [])
+    ∷ given (steady 5) (one 0 0 1 ∷ one 100 103 1 ∷ []) (knowing ((2 ^ 1 ∷ []) ∷ []))
+    ∷ given (steady 5) (one 0 0 1 ∷ one 100 103 1 ∷ []) (asking 0 Contradicted)
+    ∷ given (steady 5) (one 0 0 1 ∷ one 100 103 1 ∷ []) (asking 1 Open)
+    -- own and sender's drift 100: at the bound, and one past it
+    ∷ given (named 5) (drifting 0 0 0 ∷ drifting 5000 5001 0 ∷ []) (knowing [])
+    ∷ given (named 5) (drifting 0 0 0 ∷ drifting 4999 5000 0 ∷ []) (knowing ((2 ^ 1 ∷ []) ∷ []))
+    -- both clocks back: the own one counts by its distance
+    ∷ given (steady 5) (one 10 10 0 ∷ one 0 0 0 ∷ []) (knowing ((2 ^ 1 ∷ []) ∷ []))
+    -- a tie: the earlier triples stay
+    ∷ given (steady 5) (one 0 0 0 ∷ one 5 5 0 ∷ one 7 7 0 ∷ []) (saving 1 (three (triple 7 7 0) (triple 0 0 0) (triple 0 0 0)))
+    -- a violating triple is saved; the next is quiet against it but not against the first, and the entry stands once
+    ∷ given (steady 5) (one 0 0 0 ∷ one 0 9 0 ∷ one 1 10 0 ∷ []) (knowing ((2 ^ 1 ∷ []) ∷ []))
+    -- a true predicate with a violation: the datum under 1 goes, that under 2 stays
+    ∷ given (steady 5) (one 0 0 1 ∷ hear 2 0 20 [] ∷ tick 1 0 10 (0 ∷ []) (triple 100 103 1) 0 ∷ []) (holding (datum 0 20 (2 ^ 2 ∷ []) ∷ []))
+    ∷ given (steady 5) (one 0 0 1 ∷ hear 2 0 20 [] ∷ tick 1 0 10 (0 ∷ []) (triple 100 103 1) 0 ∷ []) (asking 1 (Between 0 20))
+    -- one without a violation is saved and changes nothing else
+    ∷ given (steady 5) (tick 1 0 10 (0 ∷ []) (triple 3 4 5) 0 ∷ []) (saving 1 (three (triple 3 4 5) (triple 3 4 5) (triple 3 4 5)))
+    ∷ given (steady 5) (tick 1 0 10 (0 ∷ []) (triple 3 4 5) 0 ∷ []) (asking 0 Open)
+    -- the entry 1 drives out 1+2
+    ∷ given (steady 5) (hear 2 20 30 [] ∷ one 0 0 0 ∷ []) (knowing ((2 ^ 1 ∷ 2 ^ 2 ∷ []) ∷ []))
+    ∷ given (steady 5) (hear 2 20 30 [] ∷ one 0 0 0 ∷ one 0 9 0 ∷ []) (knowing ((2 ^ 1 ∷ []) ∷ []))
+    ∷ given (steady 5) (hear 2 20 30 [] ∷ one 0 0 0 ∷ one 0 9 0 ∷ []) (holding (datum 20 30 (2 ^ 2 ∷ []) ∷ []))
     ∷ []
 
 -- "The cases marked P are proved together, as one table with a common statement": each row holds of the exported calls, in every buffer that has room

@@ -12,8 +12,11 @@ use Rattle.predicates.specs.Lists.{any}
 use Rattle.predicates.specs.Predicates.{isTrue, isNormal}
 use Rattle.message.specs.Words.{payload, masks, endsLimit, wordsLeast, wordsMost}
 use Rattle.message.specs.Read.{countOf, headWordFits, isEnds, opens, start, middle, kindsFit, checkFits, pair}
+use Rattle.clocks.specs.declared.Triple.{Triple}
+use Rattle.clocks.specs.declared.Readings.the-variants.{Without, With}
+use Rattle.clocks.specs.Clocks.{fails}
 use Rattle.state.specs.Model.{State}
-use Rattle.state.specs.Layout.{stateSize, heldAt, entriesAt, headOf, storeOf, stateOf, datumAt}
+use Rattle.state.specs.Layout.{stateSize, heldAt, entriesAt, clocksAt, headOf, storeOf, stateOf, datumAt}
 use Rattle.state.specs.Form.{inForm}
 use Rattle.state.specs.Refusal.{refuse}
 use Rattle.engine.specs.Ageing.{slow, fast, aged}
@@ -22,17 +25,18 @@ use Rattle.engine.specs.Calls.{Setup}
 use Rattle.engine.specs.Refusals.{ownFails, driftFails, readingFails, goesBack, anEndPasses, delaysFail, fromSelf, growsPast, termsFail, overfills}
 use Rattle.monitor.specs.Messages.{readNumber, readOutput, rewriteNumber, rewriteOutput}
 use Rattle.monitor.specs.Calls.{setUpNumber, setUpState, ageNumber, ageState, noDatumAt, writeNumber, writeOutput}
-use Rattle.monitor.specs.Receive.{Receipt, Delivered, refused, brings, delivered, receiveNumber, receiveState}
+use Rattle.monitor.specs.Receive.{Receipt, receiptOf, receiptWith, Delivered, refused, brings, delivered, receiveNumber, receiveState}
 use Rattle.monitor.specs.Ask.{limitFails, askNumber, askOutput, fewestNumber, fewestOutput}
 
 -- ---- the exported calls
 
 -- a call with what C hands in, in the parameters' order: numbers, bytes that are read, and the lent bytes that it may write: the state of the first
--- three, the output of the others
+-- four, the output of the others
 pub data Exported : Type 0 where
   monitorSetUp : List ℕ → Setup → Exported
   monitorAge : List ℕ → ℕ → Exported
-  monitorReceive : List ℕ → Receipt → Exported
+  monitorReceive : List ℕ → ℕ → ℕ → List ℕ → Exported
+  monitorReceiveWithReadings : List ℕ → ℕ → ℕ → Triple → ℕ → List ℕ → Exported
   monitorAsk : List ℕ → ℕ → List ℕ → Exported
   monitorFewest : List ℕ → List ℕ → Exported
   monitorWrite : List ℕ → ℕ → List ℕ → Exported
@@ -43,7 +47,8 @@ pub data Exported : Type 0 where
 unfoldable pub returned : Exported → ℕ
 returned (monitorSetUp s u) = setUpNumber s u
 returned (monitorAge s reading) = ageNumber s reading
-returned (monitorReceive s g) = receiveNumber s g
+returned (monitorReceive s least greatest m) = receiveNumber s (receiptOf least greatest m)
+returned (monitorReceiveWithReadings s least greatest t drift m) = receiveNumber s (receiptWith least greatest (With t drift) m)
 returned (monitorAsk s limit out) = askNumber s limit out
 returned (monitorFewest s out) = fewestNumber s out
 returned (monitorWrite s position out) = writeNumber s position out
@@ -54,7 +59,8 @@ returned (messageRewrite m out) = rewriteNumber m out
 unfoldable pub lentBytes : Exported → List ℕ
 lentBytes (monitorSetUp s u) = s
 lentBytes (monitorAge s reading) = s
-lentBytes (monitorReceive s g) = s
+lentBytes (monitorReceive s least greatest m) = s
+lentBytes (monitorReceiveWithReadings s least greatest t drift m) = s
 lentBytes (monitorAsk s limit out) = out
 lentBytes (monitorFewest s out) = out
 lentBytes (monitorWrite s position out) = out
@@ -65,7 +71,8 @@ lentBytes (messageRewrite m out) = out
 unfoldable pub leftBytes : Exported → List ℕ
 leftBytes (monitorSetUp s u) = setUpState s u
 leftBytes (monitorAge s reading) = ageState s reading
-leftBytes (monitorReceive s g) = receiveState s g
+leftBytes (monitorReceive s least greatest m) = receiveState s (receiptOf least greatest m)
+leftBytes (monitorReceiveWithReadings s least greatest t drift m) = receiveState s (receiptWith least greatest (With t drift) m)
 leftBytes (monitorAsk s limit out) = askOutput s limit out
 leftBytes (monitorFewest s out) = fewestOutput s out
 leftBytes (monitorWrite s position out) = writeOutput s position out
@@ -76,11 +83,13 @@ leftBytes (messageRewrite m out) = rewriteOutput m out
 
 -- "Order: setting up 24, 1, 2, 3. Ageing 24, 25, 3, 20, 30. Reading a message alone, or rewriting it, 10, 12, 11, 13 to 17. Receiving 24, 25, 21, 10,
 -- 12, 11, 13 to 18, 30, 31, 32; [..] Asking 24, 25, 22; fewest 24, 25. Where an output is lent, 24 for it comes last. Writing 24 (state), 25, 23, 24
--- (output)."
+-- (output)." With readings 40 comes "after 21"
 unfoldable pub listed : Exported → List ℕ
 listed (monitorSetUp s u) = 24 ∷ 1 ∷ 2 ∷ 3 ∷ []
 listed (monitorAge s reading) = 24 ∷ 25 ∷ 3 ∷ 20 ∷ 30 ∷ []
-listed (monitorReceive s g) = 24 ∷ 25 ∷ 21 ∷ 10 ∷ 12 ∷ 11 ∷ 13 ∷ 14 ∷ 15 ∷ 16 ∷ 17 ∷ 18 ∷ 30 ∷ 31 ∷ 32 ∷ []
+listed (monitorReceive s least greatest m) = 24 ∷ 25 ∷ 21 ∷ 10 ∷ 12 ∷ 11 ∷ 13 ∷ 14 ∷ 15 ∷ 16 ∷ 17 ∷ 18 ∷ 30 ∷ 31 ∷ 32 ∷ []
+listed (monitorReceiveWithReadings s least greatest t drift m) =
+    24 ∷ 25 ∷ 21 ∷ 40 ∷ 10 ∷ 12 ∷ 11 ∷ 13 ∷ 14 ∷ 15 ∷ 16 ∷ 17 ∷ 18 ∷ 30 ∷ 31 ∷ 32 ∷ []
 listed (monitorAsk s limit out) = 24 ∷ 25 ∷ 22 ∷ 24 ∷ []
 listed (monitorFewest s out) = 24 ∷ 25 ∷ 24 ∷ []
 listed (monitorWrite s position out) = 24 ∷ 25 ∷ 23 ∷ 24 ∷ []
@@ -159,17 +168,22 @@ deliveryTests st d =
     ∷ test (ofDelivered (overfills st) d) 32
     ∷ []
 
+-- of a receipt, from the message's words on
+abbrev pub receiptTests : List ℕ → Receipt → List Test
+receiptTests s g = messageTests (g .message) ++ deliveryTests (stateOf s) (delivered g)
+
 -- ---- what a taken call may write
 
 -- how many bytes a message in ends form with so many terms has: head, four words of the ends, the terms and the check word
 abbrev pub endsFormSize : ℕ → ℕ
 endsFormSize terms = 4 * (6 + terms)
 
--- the bytes at the front that the call's layout names: "3,032 bytes"; "asking writes 24 bytes", "fewest 16", "reading 32"; a message
+-- the bytes at the front that the call's layout names: a state's 5,236; "asking writes 24 bytes", "fewest 16", "reading 32"; a message
 unfoldable pub layoutSize : Exported → ℕ
 layoutSize (monitorSetUp s u) = stateSize
 layoutSize (monitorAge s reading) = stateSize
-layoutSize (monitorReceive s g) = stateSize
+layoutSize (monitorReceive s least greatest m) = stateSize
+layoutSize (monitorReceiveWithReadings s least greatest t drift m) = stateSize
 layoutSize (monitorAsk s limit out) = 24
 layoutSize (monitorFewest s out) = 16
 layoutSize (monitorWrite s position out) = endsFormSize (length (datumAt s position .terms))
@@ -191,9 +205,13 @@ tests (monitorAge s reading) =
     ∷ test (goesBack (headOf s) reading) 20
     ∷ test (any anEndPasses (aged (slow (headOf s) reading) (fast (headOf s) reading) (storeOf s) .held)) 30
     ∷ [])
-tests (monitorReceive s g) =
+tests (monitorReceive s least greatest m) =
+    stateTests s ++ (test (delaysFail least greatest) 21 ∷ receiptTests s (receiptOf least greatest m))
+tests (monitorReceiveWithReadings s least greatest t drift m) =
     stateTests s
-    ++ (test (delaysFail (g .least) (g .greatest)) 21 ∷ (messageTests (g .message) ++ deliveryTests (stateOf s) (delivered g)))
+    ++ (test (delaysFail least greatest) 21
+    ∷ test (fails t drift) 40
+    ∷ receiptTests s (receiptWith least greatest (With t drift) m))
 tests (monitorAsk s limit out) = stateTests s ++ (test (limitFails limit) 22 ∷ outputTests (layoutSize (monitorAsk s limit out)) out)
 tests (monitorFewest s out) = stateTests s ++ outputTests (layoutSize (monitorFewest s out)) out
 tests (monitorWrite s position out) =
@@ -227,11 +245,11 @@ EqualReading =
     (s : List ℕ) → Bytes s → stateSize ≤ length s → T (inForm s)
     → (ageNumber s (headOf s .reading) ≡ 0) × (ageState s (headOf s .reading) ≡ s)
 
--- "If it is true, the receipt is taken and changes nothing": every byte stays, and only 21, 18 and 30 can refuse it, since "30 comes also for a
+-- "If it is true, the receipt is taken and changes nothing", where it comes without readings: every byte stays, and only 21, 18 and 30 can refuse it, since "30 comes also for a
 -- predicate that is true"
 unfoldable pub TrueReceipt : Type 0
 TrueReceipt =
-    (s : List ℕ) → Bytes s → stateSize ≤ length s → T (inForm s) → (g : Receipt) (d : Delivery) → delivered g ≡ brings d
+    (s : List ℕ) → Bytes s → stateSize ≤ length s → T (inForm s) → (g : Receipt) (d : Delivery) → g .readings ≡ Without → delivered g ≡ brings d
     → T (isTrue (grown (headOf s .own) d .terms))
     → (receiveState s g ≡ s)
     × (T (not (delaysFail (g .least) (g .greatest))) → T (not (fromSelf (stateOf s) d)) → T (not (growsPast (stateOf s) d)) → receiveNumber s g ≡ 0)
@@ -241,6 +259,10 @@ TrueReceipt =
 -- "Entries stay.": an ageing leaves their bytes, and all behind them
 unfoldable pub EntriesStay : Type 0
 EntriesStay = (s : List ℕ) → Bytes s → (reading : ℕ) → drop entriesAt (ageState s reading) ≡ drop entriesAt s
+
+-- a receipt without readings leaves the names' clocks
+unfoldable pub ClocksStay : Type 0
+ClocksStay = (s : List ℕ) → Bytes s → (g : Receipt) → g .readings ≡ Without → drop clocksAt (receiveState s g) ≡ drop clocksAt s
 
 -- a receipt leaves own name, drift and reading
 unfoldable pub HeadStays : Type 0

@@ -4,13 +4,14 @@ use mathlib.Core.Path.{_≡_}
 use mathlib.Core.List.{List, [], _∷_, map}
 use lib.ListN.{length}
 use Rattle.message.specs.Write.{messageWords}
+use Rattle.clocks.specs.Worked.{triple}
 use Rattle.state.specs.Model.{datum}
 use Rattle.state.specs.Layout.{stateSize}
 use Rattle.engine.specs.Calls.{Setup}
 use Rattle.monitor.specs.Calls.{setUpNumber}
-use Rattle.runs.specs.Book.{Request, ageing, Step, Line, advanced, heard}
+use Rattle.runs.specs.Book.{Request, ageing, Step, Line, advanced, heard, blames}
 use Rattle.runs.specs.Runs.{Run, stepsOf, book}
-use Rattle.runs.specs.Cases.{get, hear}
+use Rattle.runs.specs.Cases.{get, hear, tick}
 
 -- monitor 5, drift 100, reading 1,000,000
 abbrev pub exampleSetup : Setup
@@ -33,10 +34,15 @@ exampleRequests =
     ∷ hear 2 3_001_000 3_001_000 (2 ^ 3 ∷ (2 ^ 4 + 2 ^ 5) ∷ [])
     -- under the empty term, which is true
     ∷ hear 3 0 0 (0 ∷ [])
+    -- a half width of 2^43
+    ∷ tick 1 3_000_000 3_000_400 [] (triple 0 0 (2 ^ 43)) 0
+    -- two readings of sender 1's clock: the second violates the test
+    ∷ tick 1 3_000_000 3_000_400 [] (triple 0 0 1) 0
+    ∷ tick 1 3_000_000 3_000_400 [] (triple 100 103 1) 0
     ∷ []
 
 unfoldable pub exampleNumbers : List ℕ
-exampleNumbers = 10 ∷ 0 ∷ 20 ∷ 18 ∷ 21 ∷ 0 ∷ 0 ∷ 0 ∷ []
+exampleNumbers = 10 ∷ 0 ∷ 20 ∷ 18 ∷ 21 ∷ 0 ∷ 0 ∷ 0 ∷ 40 ∷ 0 ∷ 0 ∷ []
 
 -- the lines of the taken ones: "A refused call enters nothing", "a true one too"
 unfoldable pub exampleLines : List Line
@@ -45,6 +51,9 @@ exampleLines =
     ∷ advanced 1_999_800 2_000_200
     ∷ heard (datum 3_001_000 3_001_000 (2 ^ 2 ∷ 2 ^ 3 ∷ []))
     ∷ heard (datum 0 0 (0 ∷ []))
+    ∷ heard (datum 3_000_000 3_000_400 (2 ^ 1 ∷ []))
+    ∷ blames 1
+    ∷ heard (datum 3_000_000 3_000_400 (2 ^ 1 ∷ []))
     ∷ []
 
 -- the run in a buffer in which its setting up is taken

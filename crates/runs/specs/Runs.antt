@@ -8,6 +8,7 @@ use mathlib.Core.Logic.{_⊎_, _↔_}
 use mathlib.Core.List.{List, [], _∷_}
 use lib.ListN.{length}
 use lib.IntN.{ℤ, pos, negsuc}
+use Rattle.clocks.specs.declared.Readings.the-variants.{Without}
 use Rattle.state.specs.Layout.{storeOf}
 use Rattle.engine.specs.Calls.{Setup}
 use Rattle.asking.specs.declared.Answer.{Answer}
@@ -101,10 +102,10 @@ unfoldable pub takenOf : List Step → List Request
 takenOf [] = []
 takenOf (p ∷ ps) = ifTaken (p .number) (p .request) (takenOf ps)
 
--- what a further step may be: a receipt
+-- what a further step may be: a receipt, and "Q's further receipts come without readings"
 abbrev pub Extra : Request → Type 0
 Extra (ageing reading) = ⊥
-Extra (receipt g) = Unit {0}
+Extra (receipt g) = g .readings ≡ Without
 
 -- "Q's taken steps are P's taken steps in order with further receipts before, between or after them"
 abbrev pub Further : List Request → List Request → Type 0

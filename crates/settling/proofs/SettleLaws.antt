@@ -4,16 +4,22 @@ use Prim.Native.Nat.{ℕ, zero, suc}
 use mathlib.Core.Path.{_≡_, refl, sym, ap, ap₂, _∙_}
 use mathlib.Core.Bool.{Bool, true, false, not, cond}
 use mathlib.Core.List.{List, [], _∷_, _++_}
+use borrow.Author.Tests.{eq-eqb, ne-eqb}
+use lib.Dec.{T}
 use lib.ListN.{getD}
 use Rattle.numbers.specs.Numbers.{tab}
 use Rattle.numbers.proofs.NumberLaws.{tab-cong}
 use Rattle.predicates.specs.Lists.{any, keep}
+use Rattle.predicates.specs.Predicates.{implies}
 use Rattle.predicates.proofs.ListLaws.{keep-append}
 use Rattle.state.specs.Model.{Datum, datum, Store}
 use Rattle.state.specs.code.Tables.{table, columns, rowOf, hasTerms, datumIn, dataIn}
-use Rattle.entries.specs.Entries.{explained}
+use Rattle.entries.specs.Entries.{explained, learn}
 use Rattle.entries.specs.code.Marks.{givenUp}
 use Rattle.entries.proofs.TableLaws.{given-up-count}
+use Rattle.steps.proofs.ReceiveLaws.{explained-mono, learn-has}
+use Rattle.steps.proofs.BlameLaws.{learnt-none}
+use Rattle.settling.specs.code.Rows.{withTerm}
 use Rattle.steps.specs.Steps.{learnt, unexplained, met, without, betters, stored, heldAfter, settled}
 
 -- ---- the data in columns, when rows are given up
@@ -88,3 +94,18 @@ pub settled-by : (n : Datum) (k : Store) (ds : List Datum) (es : List (List ℕ)
     → ds ≡ heldAfter n (k .held) es → _≡_ {A = Store} (record { held = ds; entries = es }) (settled n k)
 unfolding settled
 settled-by n k ds es p q = ap₂ (λ (x : List Datum) (y : List (List ℕ)). record { held = x; entries = y }) (q ∙ rw p) p
+
+-- ---- step 1 after a violation
+
+-- nobody is blamed
+pub with-none : (t : ℕ) (es : List (List ℕ)) → t ≡ 0 → withTerm t es ≡ es
+unfolding withTerm
+with-none t es e = rw (eq-eqb t 0 e)
+
+-- the entry of a blamed name that implies the new predicate, and nothing else is learnt
+pub with-learnt : (n : Datum) (ds : List Datum) (t : ℕ) (es : List (List ℕ)) → (t ≡ 0 → ⊥) → T (implies (t ∷ []) (n .terms))
+    → learn (t ∷ []) es ≡ learnt n ds (withTerm t es)
+unfolding withTerm
+with-learnt n ds t es f h =
+    rw (ne-eqb t 0 f)
+    (sym (learnt-none n ds (learn (t ∷ []) es) (explained-mono (learn (t ∷ []) es) (t ∷ []) (n .terms) h (learn-has (t ∷ []) es))))

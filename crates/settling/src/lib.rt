@@ -1,16 +1,19 @@
 // The four steps of one receipt, one after the other, on the held data in columns and the entries in a table, and how much they leave.
 // Every function here is proved, and the crate assumes nothing of its own.
 ghost use mathlib.Core.Path.{_≡_};
-ghost use Prim.Native.Nat.{_+_, _*_, _≤_, _<_};
+ghost use mathlib.Core.List.{[], _∷_};
+ghost use Prim.Native.Nat.{_+_, _*_, _≤_, _<_, max};
 ghost use lib.ListN.{length, set};
 ghost use lib.Seq.{sets};
 ghost use Rattle.numbers.specs.Numbers.{tab};
 ghost use lib.Dec.{T};
-ghost use Rattle.state.specs.Layout.{stateSize, datumTerms, entryTerms, rowsMost, entryCount, storeOf};
+ghost use Rattle.predicates.specs.Predicates.{implies};
+ghost use Rattle.state.specs.Layout.{stateSize, datumTerms, entriesMost, entryTerms, rowsMost, entryCount, storeOf};
 ghost use Rattle.state.specs.Form.{inForm};
-ghost use Rattle.state.specs.code.Tables.{Columns, tableFrom, columns, TableFits, ColumnsFit, EntriesStand, datumOf, datumIn, dataIn, storeIn};
-ghost use Rattle.settling.specs.code.Rows.{DataLeft, liveBelow};
-ghost use Rattle.steps.specs.Steps.{met, without, stored, settled};
+ghost use Rattle.state.specs.code.Tables.{Columns, Table, tableFrom, columns, TableFits, ColumnsFit, EntriesStand, entriesIn, datumOf, datumIn, dataIn, storeIn};
+ghost use Rattle.entries.specs.code.Marks.{Marked, Left};
+ghost use Rattle.settling.specs.code.Rows.{DataLeft, liveBelow, withTerm};
+ghost use Rattle.steps.specs.Steps.{learnt, met, without, stored, settled};
 use state::Ends;
 use steps::Rows;
 
@@ -64,8 +67,57 @@ fn place(
     h + 1
 }
 
+// Step 1: after a violation the blamed name is placed as an entry, which implies p, so that there is nothing else to learn; else what the new datum and
+// the held data teach. Answers how many rows of entries there are now.
+fn learn(
+    lefts: &[u64],
+    rights: &[u64],
+    held: &[u32],
+    terms: &[u32],
+    new: Ends,
+    p: &[u32],
+    s: &[u8],
+    counts: &mut [u32],
+    masks: &mut [u32],
+    marks: &mut [u32],
+    rows: Rows,
+    blame: u32,
+) -> usize
+    requires { ⌜ ColumnsFit (rows .held) (columns (now lefts) (now rights) (now held) (now terms)) ⌝ }
+    requires { ⌜ (stateSize ≤ length (now s)) × (rows .known ≤ entriesMost) ⌝ }
+    requires { ⌜ TableFits entryTerms (rows .known + max 1 (rows .held)) (tableFrom (rows .known) (now s) (now counts) (now masks)) ⌝ }
+    requires { ⌜ (0 < length (now p)) × (length (now p) ≤ datumTerms) × (rows .known + max 1 (rows .held) ≤ length (now marks)) ⌝ }
+    requires { ⌜ Marked (rows .known) (tableFrom (rows .known) (now s) (now counts) (now masks)) (now marks) ⌝ }
+    requires { ⌜ ((blame ≡ 0 → ⊥) → T (implies (blame ∷ []) (now p))) ⌝ }
+    ensures { λ r. ⌜ (let t : Table = tableFrom (rows .known) (now (s .entry)) (now (counts .exit)) (now (masks .exit)) in
+        (r ≤ rows .known + max 1 (rows .held)) × TableFits entryTerms r t × Marked r t (now (marks .exit))
+        × Left (rows .known) (now (counts .entry)) (now (counts .exit))) ⌝ }
+    ensures { λ r. ⌜ (let c : Columns = columns (now (lefts .entry)) (now (rights .entry)) (now (held .entry)) (now (terms .entry)) in
+        let old : Table = tableFrom (rows .known) (now (s .entry)) (now (counts .entry)) (now (masks .entry)) in
+        entriesIn r (tableFrom (rows .known) (now (s .entry)) (now (counts .exit)) (now (masks .exit)))
+        ≡ learnt (datumOf new (now (p .entry))) (tab (rows .held) (datumIn c)) (withTerm blame (entriesIn (rows .known) old))) ⌝ }
+{
+    if blame != 0 {
+        return entries::tables::learn_term(s, rows.known, counts, masks, marks, rows.known, blame);
+    }
+    steps::steps::learn_all(
+        lefts,
+        rights,
+        held,
+        terms,
+        new,
+        p,
+        s,
+        counts,
+        masks,
+        marks,
+        rows,
+    )
+}
+
 // The four steps: what the new datum teaches, what the entries explain, and what becomes of it. The entries stay in the state's bytes; they are
-// marked first, since many predicates are held against them. Answers how many rows there are now. What stands in the arrays for rows without terms
+// marked first, since many predicates are held against them. After a violation of the sender's clock `blame` is its name as a term, which implies p; else it
+// is 0. Answers how many rows there are now. What stands in the arrays for rows without terms
 // (a datum that is not stored, say), and behind the last row, is free.
 pub fn settle(
     lefts: &mut [u64],
@@ -78,14 +130,16 @@ pub fn settle(
     counts: &mut [u32],
     masks: &mut [u32],
     rows: Rows,
+    blame: u32,
 ) -> Rows
     requires { ⌜ ColumnsFit (rows .held + 1) (columns (now lefts) (now rights) (now held) (now terms)) ⌝ }
     requires { ⌜ (stateSize ≤ length (now s)) × T (inForm (now s)) × (rows .known ≡ entryCount (now s)) ⌝ }
-    requires { ⌜ TableFits entryTerms (rows .known + rows .held) (tableFrom (rows .known) (now s) (now counts) (now masks)) ⌝ }
-    requires { ⌜ (0 < length (now p)) × (length (now p) ≤ datumTerms) × (rows .known + rows .held ≤ rowsMost) ⌝ }
+    requires { ⌜ TableFits entryTerms (rows .known + max 1 (rows .held)) (tableFrom (rows .known) (now s) (now counts) (now masks)) ⌝ }
+    requires { ⌜ (0 < length (now p)) × (length (now p) ≤ datumTerms) × (rows .known + max 1 (rows .held) ≤ rowsMost) ⌝ }
+    requires { ⌜ ((blame ≡ 0 → ⊥) → T (implies (blame ∷ []) (now p))) ⌝ }
     requires { ⌜ (let c : Columns = columns (now lefts) (now rights) (now held) (now terms) in
         tab (rows .held) (datumIn c) ≡ dataIn (rows .held) c) ⌝ }
-    ensures { λ r. ⌜ (r .held ≤ rows .held + 1) × (r .known ≤ rows .known + rows .held)
+    ensures { λ r. ⌜ (r .held ≤ rows .held + 1) × (r .known ≤ rows .known + max 1 (rows .held))
         × (length (now (lefts .exit)) ≡ length (now (lefts .entry))) × (length (now (rights .exit)) ≡ length (now (rights .entry)))
         × (length (now (held .exit)) ≡ length (now (held .entry))) × (length (now (terms .exit)) ≡ length (now (terms .entry)))
         × (length (now (counts .exit)) ≡ length (now (counts .entry))) × (length (now (masks .exit)) ≡ length (now (masks .entry))) ⌝ }
@@ -97,13 +151,14 @@ pub fn settle(
     ensures { λ r. ⌜ (let c : Columns = columns (now (lefts .exit)) (now (rights .exit)) (now (held .exit)) (now (terms .exit)) in
         let old : Columns = columns (now (lefts .entry)) (now (rights .entry)) (now (held .entry)) (now (terms .entry)) in
         storeIn (r .held) c (r .known) (tableFrom (rows .known) (now (s .entry)) (now (counts .exit)) (now (masks .exit)))
-        ≡ settled (datumOf new (now (p .entry))) (record { held = dataIn (rows .held) old; entries = storeOf (now (s .entry)) .entries })) ⌝ }
+        ≡ settled (datumOf new (now (p .entry)))
+        (record { held = dataIn (rows .held) old; entries = withTerm blame (storeOf (now (s .entry)) .entries) })) ⌝ }
 {
     let h = rows.held;
     let first = rows.known;
     let mut marks = [0u32; state::ROWS_MOST];
     entries::tables::mark_rows(s, first, counts, &mut marks);
-    let known = steps::steps::learn_all(
+    let known = learn(
         lefts,
         rights,
         held,
@@ -115,6 +170,7 @@ pub fn settle(
         masks,
         &mut marks,
         rows,
+        blame,
     );
     steps::steps::drop_explained(held, terms, h, s, first, counts, masks, &marks, known);
     if entries::tables::explained(s, first, counts, masks, &marks, known, p) {

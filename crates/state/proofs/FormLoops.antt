@@ -8,15 +8,16 @@ use native.Mathlib.Nat.{add-zero}
 use native.Mathlib.Numerals.{add-one}
 use native.Mathlib.Omega.{arith}
 use borrow.Author.Tests.{lt-leb, le-leb, eq-eqb}
-use lib.Bits.{bitOr, or-add-and, and-le-l, and-le-r}
+use lib.Bits.{bitOr}
 use lib.Dec.{T, leb, leb→le, eqb, eqb→eq}
 use lib.ListN.{length, getD, take, drop, length-drop}
 use lib.Seq.{slice-cons, slice-empty, take-append-le, drop-append-le, take-at}
-use Rattle.names.proofs.SetLaws.{test-ext}
 use Rattle.predicates.specs.Lists.{all, allBelow}
 use Rattle.predicates.specs.Predicates.{isNormal}
 use Rattle.predicates.proofs.ListLaws.{both, both-l, both-r, true-T}
 use Rattle.predicates.proofs.LoopLaws.{all-turn}
+use Rattle.predicates.proofs.BitLaws.{both-zero, or-zero}
+use Rattle.predicates.proofs.IndexLaws.{below-out}
 use Rattle.numbers.specs.Numbers.{num}
 use Rattle.numbers.proofs.NumberLaws.{length-tab}
 use Rattle.state.specs.Layout.{masksAt, rowAt, heldCount, entryCount, ownAt, dataMost, entriesMost}
@@ -24,20 +25,6 @@ use Rattle.state.specs.Form.{termFits, isZero, rowFits, headFits}
 use Rattle.state.specs.Model.{nameMost}
 
 -- ---- zeros: what is or-ed together is zero where all of it is
-
--- a number that is zero where two others are
-both-zero : (x v w : ℕ) → (x ≡ 0 → (v ≡ 0) × (w ≡ 0)) → (v ≡ 0 → w ≡ 0 → x ≡ 0) → eqb x 0 ≡ eqb v 0 && eqb w 0
-both-zero x v w f g =
-    test-ext (eqb x 0) (eqb v 0 && eqb w 0)
-    (λ h. let e = f (eqb→eq x 0 h) in both (eqb v 0) (eqb w 0) (true-T _ (eq-eqb v 0 (e .0))) (true-T _ (eq-eqb w 0 (e .1))))
-    (λ h. true-T _ (eq-eqb x 0 (g (eqb→eq v 0 (both-l (eqb v 0) (eqb w 0) h)) (eqb→eq w 0 (both-r (eqb v 0) (eqb w 0) h)))))
-
-or-zero : (v w : ℕ) → eqb (bitOr v w) 0 ≡ eqb v 0 && eqb w 0
-or-zero v w =
-    let sum = or-add-and v w in
-    let low = and-le-l v w in
-    let high = and-le-r v w in
-    both-zero (bitOr v w) v w (λ e. (omega arith, omega arith)) (λ a b. omega arith)
 
 -- a turn over masks
 pub masks-turn : (p : List ℕ) (i v : ℕ) (t : Bool) → i < length p → eqb v 0 && all (λ x. eqb x 0) (drop i p) ≡ t
@@ -77,6 +64,14 @@ run-done s from words i v t h k q =
 pub below-turn : (f : ℕ → Bool) (i : ℕ) (a b : Bool) → a ≡ allBelow i f → b ≡ f i → a && b ≡ allBelow (i + 1) f
 unfolding allBelow
 below-turn f i a b p q = rw (p, q, add-one)
+
+-- one that does not pass
+pub below-fails : (f : ℕ → Bool) (n i : ℕ) → i < n → f i ≡ false → allBelow n f ≡ false
+below-fails f n i h e = go (allBelow n f) refl
+  where
+    go : (b : Bool) → allBelow n f ≡ b → b ≡ false
+    go true p = absurd (rw e at (below-out n f (true-T (allBelow n f) p) i h))
+    go false p = refl
 
 -- the places behind those in use
 pub below-done : (f : ℕ → Bool) (i n from to end : ℕ) (s : List ℕ) (a b : Bool) → i ≤ n → n ≤ i → end ≡ to → a ≡ allBelow i f → b ≡ isZero from end s

@@ -1,5 +1,6 @@
 -- The laws of the state's bytes: their layout, their form, and what the loops over them leave.
 pub mod LayoutLaws
+pub mod ClockLaws
 pub mod FormLaws
 pub mod PutLaws
 pub mod PartLaws

@@ -12,7 +12,8 @@ use lib.ListN.{length, getD, set}
 use lib.Seq.{set-set}
 use Rattle.numbers.specs.Numbers.{put}
 use Rattle.numbers.proofs.NumberLaws.{put-append}
-use Rattle.state.specs.Layout.{joined, dataMost, datumSize, entriesMost, entrySize, stateSize}
+use Rattle.clocks.specs.Places.{placeSize}
+use Rattle.state.specs.Layout.{joined, dataMost, datumSize, entriesMost, entrySize, clocksMost, stateSize}
 use Rattle.state.proofs.LayoutLaws.{part, length-part, part-add, At, at-first, at-then}
 use Rattle.state.proofs.PutLaws.{set-put, put-swap, part-stands, put-stands}
 
@@ -76,7 +77,7 @@ at-part-in (n ∷ ns) (p ∷ ps) (suc k) at s z l h =
 -- ---- one part exchanged
 
 -- what is stored over as much
-put-over : (at : ℕ) (v p s : List ℕ) → length v ≡ length p → put at v (put at p s) ≡ put at v s
+pub put-over : (at : ℕ) (v p s : List ℕ) → length v ≡ length p → put at v (put at p s) ≡ put at v s
 unfolding put
 put-over at [] [] s e = refl
 put-over at [] (x ∷ p) s e = absurd (omega arith)
@@ -108,7 +109,7 @@ part-put (n ∷ ns) (p ∷ ps) (suc k) at v s z l e =
 
 -- their sizes
 abbrev pub partSizes : List ℕ
-partSizes = 4 ∷ 4 ∷ 8 ∷ 4 ∷ 4 ∷ dataMost * datumSize ∷ entriesMost * entrySize ∷ []
+partSizes = 4 ∷ 4 ∷ 8 ∷ 4 ∷ 4 ∷ dataMost * datumSize ∷ entriesMost * entrySize ∷ clocksMost * placeSize ∷ []
 
 -- s is s₀ with the parts stored in front
 pub record Begins (ps : List (List ℕ)) (s₀ s : List ℕ) : Type 0 where

@@ -11,11 +11,11 @@ use lib.Dec.{T}
 use lib.ListN.{length, getD, drop, set, length-append, length-replicate, replicate-append-replicate, take-append-drop}
 use lib.Seq.{getD-drop, set-getD, set-comm, drop-set-lt, slice-empty}
 use Rattle.numbers.specs.Numbers.{put, tab}
-use Rattle.numbers.proofs.NumberLaws.{put-then}
+use Rattle.numbers.proofs.NumberLaws.{put-then, put-append}
 use Rattle.state.specs.Model.{Datum}
 use Rattle.state.specs.Layout.{stateSize, dataAt, dataMost, datumSize, entriesAt, entriesMost, entrySize, datumPlace, entryPlace, zeros, joined, datumBytes, entryBytes, dataBytes, entriesBytes}
 use Rattle.state.specs.Form.{isZero}
-use Rattle.state.proofs.LayoutLaws.{part, slice-part, At, at-then}
+use Rattle.state.proofs.LayoutLaws.{part, slice-part, At, at-first, at-then}
 use Rattle.state.proofs.FormLaws.{sizes-add, zeros-out}
 
 -- ---- what stands at a place
@@ -73,6 +73,22 @@ module _ {A : Type 0} (f : A → List ℕ) where
   unfolding tab
   joined-next size at i g s t u h p q =
       rw (add-one, joined-last) (put-then (i * size) at (at + i * size) _ _ s t u (length-joined-tab size i g h) refl p q)
+
+  -- one element exchanged where they stand
+  pub joined-set : (size at i : ℕ) (xs : List A) (v : A) (s : List ℕ) → ((x : A) → length (f x) ≡ size) → i < length xs → At at (joined f xs) s
+      → put (at + i * size) (f v) s ≡ put at (joined f (set xs i v)) s
+  unfolding joined
+  joined-set size at i [] v s sized l h = absurd (omega arith)
+  joined-set size at zero (x ∷ xs) v s sized l h =
+      let rest = at-then size at (f x) (joined f xs) s (sized x) h in
+      let e = sized v in
+      rw (zero-mul, add-zero, put-append size at (f v) (joined f xs) s e)
+      (sym (put-stands (at + size) (joined f xs) (put at (f v) s) (rest .0, drop-put (at + size) at (f v) s (omega arith) ∙ rest .1)))
+  joined-set size at (suc i) (x ∷ xs) v s sized l h =
+      let rest = at-then size at (f x) (joined f xs) s (sized x) h in
+      let e : at + suc i * size ≡ at + size + i * size = rw suc-mul (omega arith) in
+      rw (e, put-append size at (f x) (joined f (set xs i v)) s (sized x), put-stands at (f x) s (at-first at (f x) (joined f xs) s h))
+      (joined-set size (at + size) i xs v s sized (omega arith) rest)
 
 -- ---- zeros
 

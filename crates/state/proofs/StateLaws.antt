@@ -3,24 +3,28 @@
 -- The idea: the state is taken apart into its parts (`proofs.PartLaws`); the laws of data and entries are those of `proofs.FormLaws`.
 -- No contract cites this file. Assumes nothing.
 use Prim.Native.Nat.{ℕ, _+_, _*_, _≤_, _<_}
-use mathlib.Core.Path.{_≡_, refl, sym, _∙_}
-use mathlib.Core.Bool.{_&&_}
-use mathlib.Core.List.{List, [], _++_}
+use mathlib.Core.Path.{_≡_, refl, sym, ap, _∙_}
+use mathlib.Core.Bool.{true, _&&_}
+use mathlib.Core.List.{List, [], _∷_, _++_}
 use native.Mathlib.Omega.{arith}
-use lib.Dec.{T, leb→le, ltb→lt}
-use lib.ListN.{length, getD, take, drop, take-append-drop}
+use lib.Dec.{T, leb→le, ltb→lt, eqb, eqb→eq}
+use lib.ListN.{length, getD, take, drop, set, length-set, take-append-drop}
 use Rattle.numbers.specs.Numbers.{num, put, tab, Bytes}
-use Rattle.numbers.proofs.NumberLaws.{bytes-num, put-front, length-bytes, length-tab}
+use Rattle.numbers.proofs.NumberLaws.{bytes-num, put-front, length-bytes, length-tab, getD-tab}
 use Rattle.predicates.specs.Lists.{all, allBelow}
 use Rattle.predicates.proofs.ListLaws.{both, both-l, both-r}
-use Rattle.state.specs.Model.{State, readingLimit, nameMost, driftMost}
-use Rattle.state.specs.Layout.{stateSize, ownAt, driftAt, readingAt, heldAt, knownAt, dataAt, dataMost, datumSize, entriesAt, entriesMost, entrySize, entryTerms, rowIn, datumTerms}
-use Rattle.state.specs.Layout.{datumBytes, entryBytes, dataBytes, entriesBytes, parts, stateBytes, datumAt, entryAt, datumPlace, entryPlace, heldCount, entryCount, headOf, storeOf, stateOf}
-use Rattle.state.specs.Form.{termsFit, isZero, rowFits, datumFits, entryFits, headFits, dataFit, entriesFit, inForm, headOk, datumOk, storeOk, countsOk, stateOk}
-use Rattle.state.proofs.LayoutLaws.{all-tab, part, At, num-at}
+use Rattle.clocks.specs.Clocks.{Saved, nothing, savedOk}
+use Rattle.clocks.specs.Places.{placeSize, savedBytes, savedAt, placeFits}
+use Rattle.clocks.proofs.PlaceLaws.{length-saved, saved-small}
+use Rattle.state.specs.Model.{State, withClocks, readingLimit, nameMost, driftMost}
+use Rattle.state.specs.Layout.{stateSize, ownAt, driftAt, readingAt, heldAt, knownAt, dataAt, dataMost, datumSize, entriesAt, entriesMost, entrySize, entryTerms, rowIn, datumTerms, clocksAt, clocksMost}
+use Rattle.state.specs.Layout.{datumBytes, entryBytes, dataBytes, entriesBytes, parts, stateBytes, datumAt, entryAt, datumPlace, entryPlace, clockPlace, joined, heldCount, entryCount, headOf, storeOf, stateOf}
+use Rattle.state.specs.Form.{termsFit, isZero, rowFits, datumFits, entryFits, headFits, dataFit, entriesFit, clocksFit, inForm, headOk, datumOk, storeOk, countsOk, stateOk}
+use Rattle.state.proofs.LayoutLaws.{all-tab, part, At, num-at, joined-tab, length-joined}
+use Rattle.state.proofs.ClockLaws.{clocks-in, saved-part}
 use Rattle.predicates.proofs.IndexLaws.{below-out}
-use Rattle.state.proofs.PutLaws.{part-stands}
-use Rattle.state.proofs.PartLaws.{Sized, placeIn, partSizes, cutFrom, cut-together, length-together, at-part-in, Begins}
+use Rattle.state.proofs.PutLaws.{part-stands, joined-set}
+use Rattle.state.proofs.PartLaws.{Sized, placeIn, partSizes, cutFrom, cut-together, length-together, at-part-in, Begins, part-stored}
 use Rattle.state.proofs.FormLaws.{length-filled, filled-part, places-in, row-out, row-part, length-row-at, datum-size, entry-size, datum-in, entry-in, datum-row, datum-out, datum-part}
 
 -- ---- from a right state to its bytes
@@ -42,6 +46,8 @@ pub record OkState (st : State) : Type 0 where
   pub entries : T (all (termsFit (st .head .own) 16) (st .store .entries))
   pub held-le : length (st .store .held) ≤ 16
   pub entries-le : length (st .store .entries) ≤ 32
+  pub clocks-all : length (st .head .clocks) ≡ clocksMost
+  pub clocks : T (all savedOk (st .head .clocks))
 
 pub state-out : (st : State) → T (stateOk st) → OkState st
 unfolding stateOk headOk storeOk countsOk
@@ -54,11 +60,17 @@ state-out st t =
       entries = search (both-l, both-r) depth 9;
       held-le = leb→le _ 16 (search (both-l, both-r) depth 9);
       entries-le = leb→le _ 32 (search (both-l, both-r) depth 9);
+      clocks-all = eqb→eq _ clocksMost (search (both-l, both-r) depth 9);
+      clocks = search (both-l, both-r) depth 9;
     }
 
 module _ (st : State) (t : T (stateOk st)) where
   ok : OkState st
   ok = state-out st t
+
+  clocks-sized : length (joined savedBytes (st .head .clocks)) ≡ clocksMost * placeSize
+  clocks-sized =
+      length-joined savedBytes savedOk placeSize (λ v _. length-saved v) (st .head .clocks) (ok .clocks) ∙ ap (λ (n : ℕ). n * placeSize) (ok .clocks-all)
 
   -- its parts have their sizes
   pub parts-sized : Sized partSizes (parts st)
@@ -75,7 +87,10 @@ module _ (st : State) (t : T (stateOk st)) where
             length-bytes 4 _,
             (
               length-filled datumBytes datumSize dataMost dataAt (datumOk _) (datum-size _) (st .store .held) (ok .held) (ok .held-le),
-              (length-filled entryBytes entrySize entriesMost entriesAt (termsFit _ entryTerms) (entry-size _) (st .store .entries) (ok .entries) (ok .entries-le), tt),
+              (
+                length-filled entryBytes entrySize entriesMost entriesAt (termsFit _ entryTerms) (entry-size _) (st .store .entries) (ok .entries) (ok .entries-le),
+                (clocks-sized, tt),
+              ),
             ),
           ),
         ),
@@ -120,17 +135,21 @@ module _ (st : State) (t : T (stateOk st)) where
         places-in entryBytes entrySize entriesMost entriesAt (termsFit _ entryTerms) (entry-size _) (st .store .entries) (ok .entries) (ok .entries-le)
         (entryAt s) (entryFits _ s) s (entry-in _ s) [] (stands 6 (omega arith))
 
+    clocks-at : (tab clocksMost (λ i. savedAt (clockPlace i) s) ≡ st .head .clocks) × T (allBelow clocksMost (λ i. placeFits (clockPlace i) s))
+    unfolding parts
+    clocks-at = clocks-in (st .head .clocks) s (ok .clocks-all) (ok .clocks) (stands 7 (omega arith))
+
     pub state-read : stateOf s ≡ st
     unfolding stateOf headOf storeOf
     state-read =
         let r = head-read in
-        rw (r .own, r .drift, r .reading, r .held, r .entries, data-in .0, entries-in .0)
+        rw (r .own, r .drift, r .reading, r .held, r .entries, data-in .0, entries-in .0, clocks-at .0)
 
     pub state-form : T (inForm s)
-    unfolding inForm headFits dataFit entriesFit stateOk headOk countsOk
+    unfolding inForm headFits dataFit entriesFit clocksFit stateOk headOk countsOk
     state-form =
         let r = head-read in
-        rw (r .own, r .drift, r .reading, r .held, r .entries) (search (both, both-l, both-r, data-in .1, entries-in .1) depth 12)
+        rw (r .own, r .drift, r .reading, r .held, r .entries) (search (both, both-l, both-r, data-in .1, entries-in .1, clocks-at .1) depth 12)
 
   -- what is written is read back, and in form
   pub decode-encode : (rest : List ℕ) → stateOf (stateBytes st ++ rest) ≡ st
@@ -138,6 +157,36 @@ module _ (st : State) (t : T (stateOk st)) where
 
   pub encode-form : (rest : List ℕ) → T (inForm (stateBytes st ++ rest))
   encode-form rest = state-form (stateBytes st ++ rest) (rest, refl)
+
+-- nothing is asked of the elements
+all-true : {A : Type 0} (xs : List A) → T (all (λ x. true) xs)
+all-true [] = tt
+all-true (x ∷ xs) = all-true xs
+
+-- a right state that is stored in front is in form, and read back
+module _ (st : State) (s : List ℕ) (t : T (stateOk st)) (h : stateSize ≤ length s) where
+  pub put-form : T (inForm (put 0 (stateBytes st) s))
+  put-form = rw (put-front stateSize (stateBytes st) s (length-state st t) h) (encode-form st t (drop stateSize s))
+
+  pub put-state : stateOf (put 0 (stateBytes st) s) ≡ st
+  put-state = rw (put-front stateSize (stateBytes st) s (length-state st t) h) (decode-encode st t (drop stateSize s))
+
+  -- storing one name's place in it exchanges what is saved of that name's clock
+  pub place-put : (i : ℕ) (v : Saved) → i < clocksMost
+      → put (clockPlace i) (savedBytes v) (put 0 (stateBytes st) s)
+      ≡ put 0 (stateBytes (record { head = withClocks (st .head) (set (st .head .clocks) i v); store = st .store })) s
+  unfolding stateBytes parts
+  place-put i v l =
+      let u = put 0 (stateBytes st) s in
+      let cs = st .head .clocks in
+      let front : At 0 (stateBytes st) u = (drop stateSize s, put-front stateSize (stateBytes st) s (length-state st t) h) in
+      let there : At clocksAt (joined savedBytes cs) u = stands st t u front 7 (omega arith) in
+      let all-there = state-out st t .clocks-all in
+      let near : i < length cs = omega arith in
+      let sized : length (joined savedBytes (set cs i v)) ≡ clocksMost * placeSize =
+      length-joined savedBytes (λ x. true) placeSize (λ x _. length-saved x) (set cs i v) (all-true (set cs i v)) ∙ rw (length-set cs i v, all-there) in
+      part-stored 7 (joined savedBytes (set cs i v)) (parts st) s u _ (omega arith) sized
+      (joined-set savedBytes placeSize clocksAt i cs v u length-saved near there) (record { sized = parts-sized st t; stored = refl }) .stored
 
 -- ---- from bytes in form to their state
 
@@ -182,12 +231,19 @@ module _ (s : List ℕ) (t : T (inForm s)) where
   unfolding entryAt
   length-entry-at i h = length-row-at (num ownAt 4 s) entryTerms (entryPlace i) s (form-entry i h)
 
+  -- name i's place
+  pub form-place : (i : ℕ) → i < clocksMost → T (placeFits (clockPlace i) s)
+  unfolding inForm clocksFit
+  form-place i h = below-out clocksMost (λ k. placeFits (clockPlace k) s) (search (both-l, both-r) depth 9) i h
+
   -- bytes in form hold a right state
   pub form-ok : T (stateOk (stateOf s))
   unfolding inForm headFits stateOf stateOk headOf headOk storeOf storeOk countsOk
   form-ok =
       let ds = all-tab (datumOk (num ownAt 4 s)) (heldCount s) (datumAt s) datum-at-ok in
       let es = all-tab (termsFit (num ownAt 4 s) entryTerms) (entryCount s) (entryAt s) entry-at-ok in
+      let cs = all-tab savedOk clocksMost (λ i. savedAt (clockPlace i) s) (λ i h. saved-small (clockPlace i) s (form-place i h)) in
+      let all-there : T (eqb (length (tab clocksMost (λ i. savedAt (clockPlace i) s))) clocksMost) = rw length-tab tt in
       rw (length-held s, length-entries s) (search (both, both-l, both-r) depth 12)
 
   -- bytes in form are those of the state that they hold
@@ -218,6 +274,12 @@ module _ (s : List ℕ) (t : T (inForm s)) where
         let c = entry-count-le in
         rw length-tab (filled-part entryBytes entrySize entriesMost entriesAt (entryCount s) (entryAt s) s c (omega arith) entry-bytes (search (both-l, both-r) depth 9))
 
+    clocks-part : joined savedBytes (headOf s .clocks) ≡ part clocksAt (clocksMost * placeSize) s
+    unfolding headOf
+    clocks-part =
+        joined-tab savedBytes placeSize clocksAt clocksMost (λ i. savedAt (clockPlace i) s) s
+        (λ i k. saved-part (clockPlace i) s (form-place i k) b (omega arith))
+
     -- part by part
     parts-are : parts (stateOf s) ≡ cutFrom 0 partSizes s
     unfolding parts cutFrom stateOf headOf
@@ -232,6 +294,7 @@ module _ (s : List ℕ) (t : T (inForm s)) where
           bytes-num 4 knownAt s b (omega arith),
           data-part,
           entries-part,
+          clocks-part,
         )
 
     pub encode-decode : stateBytes (stateOf s) ≡ take stateSize s
@@ -250,6 +313,11 @@ module _ (s : List ℕ) (t : T (inForm s)) where
     pub begins-form : Begins (parts (stateOf s)) s s
     unfolding stateBytes
     begins-form = record { sized = parts-sized (stateOf s) form-ok; stored = sym put-state-same }
+
+-- what is saved of name i's clock
+pub clock-read : (s : List ℕ) (i : ℕ) → i < clocksMost → getD (headOf s .clocks) i nothing ≡ savedAt (clockPlace i) s
+unfolding headOf
+clock-read s i h = getD-tab clocksMost i (λ k. savedAt (clockPlace k) s) nothing h
 
 -- the own name of a state in form
 pub own-fits : (s : List ℕ) → T (inForm s) → num ownAt 4 s ≤ nameMost

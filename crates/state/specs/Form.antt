@@ -11,8 +11,10 @@ use Rattle.numbers.specs.Numbers.{num}
 use Rattle.names.specs.Sets.{noSet, has}
 use Rattle.predicates.specs.Lists.{all, allBelow}
 use Rattle.predicates.specs.Predicates.{isNormal}
+use Rattle.clocks.specs.Clocks.{savedOk}
+use Rattle.clocks.specs.Places.{placeFits}
 use Rattle.state.specs.Model.{Datum, Head, Store, State, nameMost, driftMost, endLimit, readingLimit}
-use Rattle.state.specs.Layout.{ownAt, driftAt, readingAt, rightIn, rowIn, dataMost, datumTerms, entriesMost, entryTerms, datumPlace, entryPlace, masksAt, rowAt, heldCount, entryCount}
+use Rattle.state.specs.Layout.{ownAt, driftAt, readingAt, rightIn, rowIn, dataMost, datumTerms, entriesMost, entryTerms, datumPlace, entryPlace, masksAt, rowAt, heldCount, entryCount, clocksMost, clockPlace}
 
 -- ---- terms and predicates
 
@@ -59,14 +61,20 @@ dataFit s = allBelow (heldCount s) (datumFits (num ownAt 4 s) s) && isZero (datu
 unfoldable pub entriesFit : List ℕ → Bool
 entriesFit s = allBelow (entryCount s) (entryFits (num ownAt 4 s) s) && isZero (entryPlace (entryCount s)) (entryPlace entriesMost) s
 
+-- each name's place, saved or not, the own one's too
+unfoldable pub clocksFit : List ℕ → Bool
+clocksFit s = allBelow clocksMost (λ i. placeFits (clockPlace i) s)
+
 -- "In form", of a buffer of at least a state's size
 unfoldable pub inForm : List ℕ → Bool
-inForm s = headFits s && (dataFit s && entriesFit s)
+inForm s = headFits s && (dataFit s && (entriesFit s && clocksFit s))
 
 -- ---- the state: what being in form means of it. The head, the store and the counts stand apart, since later parts join them one by one
 
 unfoldable pub headOk : Head → Bool
-headOk h = leb (h .own) nameMost && (leb (h .drift) driftMost && ltb (h .reading) readingLimit)
+headOk h =
+    leb (h .own) nameMost
+    && (leb (h .drift) driftMost && (ltb (h .reading) readingLimit && (eqb (length (h .clocks)) clocksMost && all savedOk (h .clocks))))
 
 unfoldable pub datumOk : ℕ → Datum → Bool
 datumOk own d = leb (d .left) (d .right) && (ltb (d .right) endLimit && termsFit own datumTerms (d .terms))

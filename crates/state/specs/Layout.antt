@@ -1,15 +1,16 @@
--- The 3,032 bytes of a state (document 01, "State bytes"), both ways: `stateBytes` writes a state, `stateOf` reads one.
+-- The 5,236 bytes of a state (document 01, "State bytes", and document 02's later parts), both ways: `stateBytes` writes a state, `stateOf` reads one.
 -- Assumes nothing: these are definitions.
 use Prim.Native.Nat.{ℕ, _+_, _*_, _-_}
 use mathlib.Core.List.{List, [], _∷_, _++_}
 use lib.ListN.{length, take, replicate}
 use Rattle.numbers.specs.Numbers.{num, bytes, bytesOf, tab}
 use Rattle.predicates.specs.Lists.{padded}
+use Rattle.clocks.specs.Places.{placeSize, savedBytes, savedAt}
 use Rattle.state.specs.Model.{Datum, Head, Store, State}
 
 -- how many bytes a state has
 abbrev pub stateSize : ℕ
-stateSize = 3032
+stateSize = 5236
 
 -- where the numbers of the head stand: "own name (4 bytes), drift (4), reading (8), held count (4), entry count (4)"
 abbrev pub ownAt : ℕ
@@ -60,16 +61,26 @@ entrySize = 68
 abbrev pub entryTerms : ℕ
 entryTerms = 16
 
--- the rows of both
+-- "29 places of 76 bytes by name" (document 02, W-201): where they begin, and how many there are
+abbrev pub clocksAt : ℕ
+clocksAt = 3032
+
+abbrev pub clocksMost : ℕ
+clocksMost = 29
+
+-- the rows of data and entries
 abbrev pub rowsMost : ℕ
 rowsMost = dataMost + entriesMost
 
--- where datum i and entry i stand
+-- where datum i, entry i and name i's clock stand
 abbrev pub datumPlace : ℕ → ℕ
 datumPlace i = dataAt + i * datumSize
 
 abbrev pub entryPlace : ℕ → ℕ
 entryPlace i = entriesAt + i * entrySize
+
+abbrev pub clockPlace : ℕ → ℕ
+clockPlace i = clocksAt + i * placeSize
 
 -- ---- writing
 
@@ -99,8 +110,8 @@ dataBytes ds = joined datumBytes ds ++ zeros ((dataMost - length ds) * datumSize
 unfoldable pub entriesBytes : List (List ℕ) → List ℕ
 entriesBytes es = joined entryBytes es ++ zeros ((entriesMost - length es) * entrySize)
 
--- the parts of a state in their order, "own name (4 bytes), drift (4), reading (8), held count (4), entry count (4)", the data, the entries; a
--- later part stands last
+-- the parts of a state in their order, "own name (4 bytes), drift (4), reading (8), held count (4), entry count (4)", the data, the entries; "last
+-- as later parts do" the clocks
 unfoldable pub parts : State → List (List ℕ)
 parts st =
     bytes 4 (st .head .own)
@@ -110,6 +121,7 @@ parts st =
     ∷ bytes 4 (length (st .store .entries))
     ∷ dataBytes (st .store .held)
     ∷ entriesBytes (st .store .entries)
+    ∷ joined savedBytes (st .head .clocks)
     ∷ []
 
 unfoldable pub stateBytes : State → List ℕ
@@ -144,7 +156,8 @@ abbrev pub entryCount : List ℕ → ℕ
 entryCount s = num knownAt 4 s
 
 unfoldable pub headOf : List ℕ → Head
-headOf s = record { own = num ownAt 4 s; drift = num driftAt 4 s; reading = num readingAt 8 s }
+headOf s =
+    record { own = num ownAt 4 s; drift = num driftAt 4 s; reading = num readingAt 8 s; clocks = tab clocksMost (λ i. savedAt (clockPlace i) s) }
 
 unfoldable pub storeOf : List ℕ → Store
 storeOf s = record { held = tab (heldCount s) (datumAt s); entries = tab (entryCount s) (entryAt s) }

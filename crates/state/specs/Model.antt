@@ -2,6 +2,7 @@
 -- Assumes nothing: these are definitions.
 use Prim.Native.Nat.{ℕ, _^_}
 use mathlib.Core.List.{List}
+use Rattle.clocks.specs.Clocks.{Saved}
 
 -- "A datum is an interval (left at most right) and a predicate: true time is in the interval, or the predicate is true."
 pub record Datum : Type 0 where
@@ -17,6 +18,12 @@ pub record Head : Type 0 where
   pub own : ℕ
   pub drift : ℕ
   pub reading : ℕ
+  -- what is saved of each name's clock readings, by name (document 02, W-201)
+  pub clocks : List Saved
+
+-- the head with other clocks
+abbrev pub withClocks : Head → List Saved → Head
+withClocks h cs = record { own = h .own; drift = h .drift; reading = h .reading; clocks = cs }
 
 -- the held data and the failure knowledge, a list of predicates
 pub record Store : Type 0 where

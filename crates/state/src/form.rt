@@ -8,7 +8,7 @@ ghost use Rattle.predicates.specs.Lists.{all, allBelow};
 ghost use Rattle.predicates.specs.Predicates.{isNormal};
 ghost use Rattle.state.specs.Layout.{stateSize, dataMost, entriesMost, entryTerms, datumPlace, entryPlace};
 ghost use Rattle.state.specs.Refusal.{lent};
-ghost use Rattle.state.specs.Form.{termFits, isZero, rowFits, datumFits, entryFits, headFits, inForm};
+ghost use Rattle.state.specs.Form.{termFits, isZero, rowFits, datumFits, entryFits, headFits, clocksFit, inForm};
 
 // The most data and entries, as the head counts them.
 const HELD_MOST: u32 = super::DATA_MOST as u32;
@@ -165,6 +165,21 @@ fn entries_fit(s: &[u8], own: u32, n: usize) -> bool
         )
 }
 
+// Whether the place of each name's clock fits.
+fn clocks_fit(s: &[u8]) -> bool
+    requires { ⌜ stateSize ≤ length (now s) ⌝ }
+    ensures { λ r. ⌜ r ≡ clocksFit (now (s .entry)) ⌝ }
+{
+    let mut i: usize = 0;
+    while i < super::CLOCKS_MOST {
+        if !clocks::place::fits(s, super::CLOCKS_AT + i * clocks::place::PLACE_SIZE) {
+            return false;
+        }
+        i += 1;
+    }
+    true
+}
+
 // Whether the state at the front of s is in form.
 fn in_form(s: &[u8]) -> bool
     requires { ⌜ stateSize ≤ length (now s) ⌝ }
@@ -176,7 +191,7 @@ fn in_form(s: &[u8]) -> bool
     let own = numbers::get32(s, super::OWN_AT);
     let held = numbers::get32(s, super::HELD_AT);
     let entries = numbers::get32(s, super::KNOWN_AT);
-    data_fit(s, own, held as usize) & entries_fit(s, own, entries as usize)
+    data_fit(s, own, held as usize) & (entries_fit(s, own, entries as usize) & clocks_fit(s))
 }
 
 // The first tests of every call on a lent state: 24 where it is too short, 25 where it is out of form, else 0.

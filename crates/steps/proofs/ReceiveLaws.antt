@@ -30,11 +30,11 @@ use Rattle.state.specs.Layout.{datumTerms, entryTerms}
 -- ---- the new datum
 
 -- the sender's term is without the own name
-single-free : (own sender : ℕ) → (sender ≡ own → ⊥) → T (not (has own (2 ^ sender)))
+pub single-free : (own sender : ℕ) → (sender ≡ own → ⊥) → T (not (has own (2 ^ sender)))
 single-free own sender f =
     not-T (has own (2 ^ sender)) (λ h. omega (arith, has-out own (2 ^ sender) h, digit-single-other sender own f))
 
-term-fits : (own t : ℕ) → 0 < t → t < noSet → T (not (has own t)) → T (termFits own t)
+pub term-fits : (own t : ℕ) → 0 < t → t < noSet → T (not (has own t)) → T (termFits own t)
 unfolding termFits
 term-fits own t o l f =
     both (ltb 0 t) (ltb t noSet && not (has own t)) (lt→ltb 0 t o) (both (ltb t noSet) (not (has own t)) (lt→ltb t noSet l) f)
@@ -71,7 +71,7 @@ sum-fit own p q h k =
       each = λ t m. ⊎-elim (a .each t) (b .each t) (in-cases t p q (normal-out (p ++ q) t m));
     }
 
-learn-all : (f : List ℕ → Bool) (e : List ℕ) (es : List (List ℕ)) → T (f e) → T (all f es) → T (all f (learn e es))
+pub learn-all : (f : List ℕ → Bool) (e : List ℕ) (es : List (List ℕ)) → T (f e) → T (all f es) → T (all f (learn e es))
 unfolding learn
 learn-all f e es t h =
     cond-ind (λ fs. T (all f fs)) (explained es e) es (keep (λ g. not (implies e g)) es ++ (e ∷ [])) (λ _. h)
@@ -121,13 +121,13 @@ overlap d n h =
     (nltb→le (d .right) (n .left) (k .0), nltb→le (n .right) (d .left) (k .1))
 
 -- what an explained predicate implies is explained
-explained-mono : (es : List (List ℕ)) (p q : List ℕ) → T (implies p q) → T (explained es p) → T (explained es q)
+pub explained-mono : (es : List (List ℕ)) (p q : List ℕ) → T (implies p q) → T (explained es p) → T (explained es q)
 unfolding explained
 explained-mono es p q k h =
     let r = any-out (λ e. implies e p) es h in any-in (λ e. implies e q) es (r .0) (r .1) (implies-trans (r .0) p q (r .2) k)
 
 -- an entry is explained once it is learnt
-learn-has : (e : List ℕ) (es : List (List ℕ)) → T (explained (learn e es) e)
+pub learn-has : (e : List ℕ) (es : List (List ℕ)) → T (explained (learn e es) e)
 unfolding learn explained
 learn-has e es =
     let rest = keep (λ g. not (implies e g)) es in

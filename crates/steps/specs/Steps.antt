@@ -1,6 +1,6 @@
 -- The four steps of receiving (document 01, "Receiving"), each a definition of its own, on the datum that a receipt makes and what is held and known.
 -- Assumes nothing: these are definitions.
-use Prim.Native.Nat.{ℕ, min, max}
+use Prim.Native.Nat.{ℕ, _^_, min, max}
 use mathlib.Core.Bool.{Bool, true, false, _&&_, _||_, not, cond}
 use mathlib.Core.List.{List, [], _∷_, _++_}
 use lib.Dec.{eqb, leb, ltb}
@@ -71,6 +71,22 @@ settled n k = record { held = heldAfter n (k .held) (learnt n (k .held) (k .entr
 -- "If it is true, the receipt is taken and changes nothing."
 unfoldable pub received : Datum → Store → Store
 received n k = cond (isTrue (n .terms)) k (settled n k)
+
+-- ---- a violation (document 02, W-201): the sender's clock has jumped
+
+-- "A violation makes the sender's name an entry, placed as in 01"
+unfoldable pub blamed : ℕ → Store → Store
+blamed sender k = record { held = k .held; entries = learn (2 ^ sender ∷ []) (k .entries) }
+
+-- "step 2 clears held data"
+unfoldable pub swept : Store → Store
+swept k = record { held = unexplained (k .entries) (k .held); entries = k .entries }
+
+-- the receipt of a datum from the sender: the test "comes before step 1"; "A receipt with a true predicate does all this too, step 2 only after a
+-- violation"
+unfoldable pub judged : Bool → ℕ → Datum → Store → Store
+judged violation sender n k =
+    cond violation (cond (isTrue (n .terms)) (swept (blamed sender k)) (settled n (blamed sender k))) (received n k)
 
 -- "32 too many data or entries": "At most 16 data and 32 entries, counted at the end"
 unfoldable pub tooMany : Store → Bool

@@ -12,6 +12,7 @@ use Rattle.state.proofs.StateLaws.{entry-count-le}
 use Rattle.state.proofs.StoreLaws.{column-front, table-standing, entries-standing}
 use Rattle.entries.proofs.TableLaws.{left-given-up, table-given-up}
 use Rattle.steps.specs.Steps.{learnt}
+use Rattle.settling.specs.code.Rows.{withTerm}
 use Rattle.settling.proofs.ColumnLaws.{columns-less, data-left, data-left-on}
 use Rattle.settling.proofs.SettleLaws.{data-unexplained, held-explained, held-placed, settled-by}
 use borrow.Author.Needs.{needs}
@@ -25,8 +26,8 @@ few a = omega (arith, a .pre .1 .0 .2, entry-count-le (a .args .s .now) (a .pre 
 mark-rows-requires : tie.Need-mark-rows-requires
 mark-rows-requires c κs = let a = c .before .before .before .before .before .before .before .before .before .before in (a .pre .1 .0, (omega (arith, a .pre .1 .1 .0 .counted), omega (arith, a .pre .1 .1 .1 .0)))
 
-learn-all-requires : tie.Need-learn-all-requires
-learn-all-requires c κs =
+learn-requires : tie.Need-learn-requires
+learn-requires c κs =
     let a = c .before .before .before .before .before .before .before .before .before .before .before .before .before .before .before .before .before .before .before .before .before in
     let p = a .pre .1 .1 .1 .0 in
     let marked = c .before .before .before .before .before .before .before .before .before .before .mark-rows .ensures in (
@@ -35,7 +36,7 @@ learn-all-requires c κs =
         (a .pre .1 .0 .0, few a),
         (
           table-standing _ _ (a .pre .1 .0 .1) (a .pre .1 .0 .2) _ _ _ (marked .0) _ (omega arith) (a .pre .1 .1 .0),
-          ((p .0, p .1, omega (arith, p .2)), marked .1 .0 _),
+          ((p .0, p .1, omega (arith, p .2)), (marked .1 .0 _, a .pre .1 .1 .1 .1 .0)),
         ),
       ),
     )
@@ -43,13 +44,13 @@ learn-all-requires c κs =
 drop-explained-requires : tie.Need-drop-explained-requires
 drop-explained-requires c κs =
     let a = c .before .before .before .before .before .before .before .before .before .before .before .before .before .before .before .before .before .before .before .before .before .before .before .before .before .before .before .before .before .before .before .before in
-    let known = c .before .before .before .before .before .before .before .before .before .before .learn-all .ensures .0 in
+    let known = c .before .before .before .before .before .before .before .before .before .before .learn .ensures .0 in
     (columns-less _ _ (a .pre .0) .table, ((a .pre .1 .0 .0, few a), (known .1, known .2)))
 
 explained-requires : tie.Need-explained-requires
 explained-requires c κs =
     let a = c .before .before .before .before .before .before .before .before .before .before .before .before .before .before .before .before .before .before .before .before .before .before .before .before .before .before .before .before .before .before .before .before .before .before .before .before .before .before in
-    let known = c .before .before .before .before .before .before .before .before .before .before .before .before .before .before .before .before .learn-all .ensures .0 in
+    let known = c .before .before .before .before .before .before .before .before .before .before .before .before .before .before .before .before .learn .ensures .0 in
     ((a .pre .1 .0 .0, few a), (known .1, known .2))
 
 -- the columns have room for one more row still
@@ -69,22 +70,22 @@ left : (c : tie.After-drop-explained) → let a = c .before .before .before .bef
 left c = left-given-up _ _ _ _ (c .drop-explained .ensures)
 
 -- no entry is another than it was
-stand : (c : tie.After-learn-all) → EntriesStand (c .before .before .before .before .before .before .before .before .before .before .before .before .before .before .before .before .before .before .before .before .before .before .args .s .now) (c .learn-all .last .1 .1 .1 .1 .1 .1 .1 .0)
+stand : (c : tie.After-learn) → EntriesStand (c .before .before .before .before .before .before .before .before .before .before .before .before .before .before .before .before .before .before .before .before .before .before .args .s .now) (c .learn .last .1 .1 .1 .1 .1 .1 .1 .0)
 stand c i l f =
     let a = c .before .before .before .before .before .before .before .before .before .before .before .before .before .before .before .before .before .before .before .before .before .before in
     let s = a .args .s .now in
     let near : i < a .args .rows .known = omega (arith, a .pre .1 .0 .2) in
-    c .learn-all .ensures .0 .3 i near f
+    c .learn .ensures .0 .3 i near f
     ∙ column-front (λ k. num (entryPlace k) 4 s) (a .args .rows .known) i _ _ (c .before .before .before .before .before .before .before .before .before .before .before .mark-rows .ensures .0) near
 
 -- what the steps have learnt from the entries that were there
-entries : (c : tie.After-learn-all) → let a = c .before .before .before .before .before .before .before .before .before .before .before .before .before .before .before .before .before .before .before .before .before .before .args in let u = c .learn-all in
+entries : (c : tie.After-learn) → let a = c .before .before .before .before .before .before .before .before .before .before .before .before .before .before .before .before .before .before .before .before .before .before .args in let u = c .learn in
     entriesIn (u .result) (tableFrom (a .rows .known) (a .s .now) (u .last .1 .1 .1 .1 .1 .1 .1 .0) (u .last .1 .1 .1 .1 .1 .1 .1 .1 .0))
-    ≡ learnt (datumOf (a .new) (a .p .now)) (dataIn (a .rows .held) (columns (a .lefts .now) (a .rights .now) (a .held .now) (a .terms .now))) (storeOf (a .s .now) .entries)
+    ≡ learnt (datumOf (a .new) (a .p .now)) (dataIn (a .rows .held) (columns (a .lefts .now) (a .rights .now) (a .held .now) (a .terms .now))) (withTerm (a .blame) (storeOf (a .s .now) .entries))
 entries c =
     let a = c .before .before .before .before .before .before .before .before .before .before .before .before .before .before .before .before .before .before .before .before .before .before in
     let there = entries-standing _ _ (a .pre .1 .0 .1) (a .pre .1 .0 .2) _ _ (a .args .masks .now) (c .before .before .before .before .before .before .before .before .before .before .before .mark-rows .ensures .0) in
-    rw (a .pre .1 .1 .1 .1, there) at (c .learn-all .ensures .1)
+    rw (a .pre .1 .1 .1 .1 .1, there) at (c .learn .ensures .1)
 
 -- the counts are as many as they were: too far back for the search
 same-length-5 : tie.Need-same-length-5
@@ -97,8 +98,8 @@ returns : tie.Need-returns
 unfolding storeIn
 returns c =
     let at-learn = c .before .before .before .before .before .before .before .before .before .before .before .before .before .before .before .before .before .before in
-    let known = at-learn .learn-all .ensures in
-    let kept = at-learn .learn-all .kept .1 .1 .1 .1 .1 .1 .1 in
+    let known = at-learn .learn .ensures in
+    let kept = at-learn .learn .kept .1 .1 .1 .1 .1 .1 .1 in
     let at-drop = c .before .before .before .before .before .before .before in
     let gone = at-drop .drop-explained .ensures in (
       (omega arith, known .0 .0, refl, refl, at-drop .drop-explained .kept .0, refl, kept .0 ∙ at-learn .before .before .before .before .before .before .before .before .before .before .before .mark-rows .kept .1 .1 .0, kept .1 .0),
@@ -123,8 +124,8 @@ returns-2 c =
     let at-drop = at-if .before .before .before .before .before .before .before in
     let at-learn = at-drop .before .before .before .before .before .before .before .before .before .before .before in
     let a = at-learn .before .before .before .before .before .before .before .before .before .before .before .before .before .before .before .before .before .before .before .before .before .before in
-    let known = at-learn .learn-all .ensures in
-    let kept = at-learn .learn-all .kept .1 .1 .1 .1 .1 .1 .1 in
+    let known = at-learn .learn .ensures in
+    let kept = at-learn .learn .kept .1 .1 .1 .1 .1 .1 .1 in
     let gone = at-drop .drop-explained .ensures in
     let placed = at-place .place .ensures in
     let same = at-place .place .kept in (
@@ -146,7 +147,7 @@ settle-spec =
     (λ c. search needs)
     mark-rows-requires
     (λ c. search needs)
-    learn-all-requires
+    learn-requires
     (λ c. search needs)
     drop-explained-requires
     (λ c. search needs)

@@ -1,23 +1,30 @@
--- `engine::receipt::deliver` meets its contract: 18, 30 and 31 in document 01's order, the true predicate that changes nothing, and the four steps.
--- The exits' numbers and bytes are `receipt-own`, `receipt-end`, `receipt-terms`, `receipt-true` and `receipt-steps` of `ReceiptCalls`.
-use Prim.Native.Nat.{ℕ, _+_}
-use mathlib.Core.Path.{_≡_, refl, sym, ap, ap₂, _∙_}
-use mathlib.Core.List.{List, _++_}
+-- `engine::receipt::deliver` meets its contract: 18, 30 and 31 in document 01's order, then what `take` makes of the datum, and the readings saved where
+-- that is not refused. The exits' numbers and bytes are `receipt-own`, `receipt-end`, `receipt-terms`, `receipt-counts` and `receipt-saved` of
+-- `ReceiptCalls`.
+use Prim.Native.Nat.{ℕ, _^_}
+use mathlib.Core.Path.{_≡_, refl, sym, ap, _∙_}
+use mathlib.Core.List.{[], _∷_}
 use native.Mathlib.Omega.{arith}
-use borrow.Author.Tests.{eq-eqb, ne-eqb}
-use lib.ListN.{length, take, getD}
-use Rattle.numbers.specs.Numbers.{Bytes}
-use Rattle.predicates.specs.Lists.{padded}
+use lib.Dec.{T}
+use lib.ListN.{length, take}
+use Rattle.numbers.specs.Numbers.{put}
 use Rattle.predicates.specs.Predicates.{formed}
 use Rattle.predicates.proofs.SumLaws.{padded-front}
+use Rattle.predicates.proofs.PredicateLaws.{formed-some, formed-normal}
 use Rattle.message.specs.Words.{masks}
 use Rattle.message.proofs.WordLaws.{length-masks}
-use Rattle.state.specs.Layout.{stateOf, headOf}
+use Rattle.state.specs.Layout.{stateBytes, stateOf, headOf, storeOf}
+use Rattle.state.specs.Form.{stateOk}
 use Rattle.state.specs.Refusal.{after}
-use Rattle.state.proofs.StateLaws.{state-out, form-ok}
-use Rattle.engine.specs.Receiving.{grown}
-use Rattle.predicates.proofs.PredicateLaws.{formed-some}
-use Rattle.engine.proofs.ReceiptCalls.{row-front, first-place, formed-true, receipt-own, receipt-end, receipt-terms, receipt-true, receipt-steps}
+use Rattle.state.proofs.LentLaws.{after-refused}
+use Rattle.state.proofs.StateLaws.{state-out, form-ok, put-form}
+use Rattle.numbers.proofs.NumberLaws.{length-put}
+use Rattle.steps.proofs.BlameLaws.{formed-single}
+use Rattle.engine.specs.Receiving.{Delivery, delivery, grown}
+use Rattle.engine.specs.Calls.{receive, violated, made as Calls·made}
+use Rattle.engine.specs.Refusals.{receiptRefusal}
+use Rattle.engine.proofs.CallLaws.{Heard, unsaved-ok, receive-ok}
+use Rattle.engine.proofs.ReceiptCalls.{row-front, masks-small, receipt-own, receipt-end, receipt-terms, receipt-counts, receipt-written, receipt-saved}
 use borrow.Author.Needs.{needs}
 use Rattle.engine.proofs.receipt.deliver.Statement.{statement}
 use Rattle.engine.proofs.receipt.deliver.Tie as tie
@@ -36,13 +43,6 @@ made c =
 kept : (c : tie.After-form) → let a = c .before .before .before .before .before .before .before .before .before .before .before .before .args in
     take (c .form .result) (c .form .last .0) ≡ formed (stateOf (a .state .now) .head .own) (a .sender) (masks (a .words .now))
 kept c = (rw (c .form .ensures .0 .0, c .form .ensures .1) (padded-front _ _ _)) ∙ made c
-
--- its first place, where the empty term would stand
-first : (c : tie.After-form) → let a = c .before .before .before .before .before .before .before .before .before .before .before .before .args in
-    getD (c .form .last .0) 0 0 ≡ getD (formed (stateOf (a .state .now) .head .own) (a .sender) (masks (a .words .now))) 0 0
-first c =
-    let a = c .before .before .before .before .before .before .before .before .before .before .before .before .args in
-    ap (λ (l : List ℕ). getD l 0 0) (c .form .ensures .1 ∙ ap₂ (λ (x y : List ℕ). padded (length (a .words .now) + 1) x ++ y) (made c) refl) ∙ first-place _ _ _ (formed-some _ _ _)
 
 -- the own name is another, and a name
 other : (c : tie.Else1) → let a = c .before .before .before .before .before .args in a .sender ≡ stateOf (a .state .now) .head .own → ⊥
@@ -74,32 +74,80 @@ returns-3 c =
     let long = at-form .form .ensures .0 .0 ∙ ap length (made at-form) in
     (sym (receipt-terms (c .before .before .before .before .before .before .before .before .before .before .before .before .before .before .args .state .now) _ (other (c .before .before .before .before .before .before .before .before .before)) (c .before .before .before .before .before .before .before .if2 .left) (omega (arith, long, c .if3 .taken))), refl)
 
-returns-4 : tie.Need-returns-4
-unfolding grown Bytes
-returns-4 c =
-    let at-form = c .before .before .before in
-    let a = c .before .before .before .before .before .before .before .before .before .before .before .before .before .before .before in
-    let long = at-form .form .ensures .0 .0 ∙ ap length (made at-form) in
-    receipt-true (a .args .state .now) _ (other (c .before .before .before .before .before .before .before .before .before .before)) (c .before .before .before .before .before .before .before .before .if2 .left) (omega (arith, long, c .before .if3 .left))
-    (formed-true _ _ _ ∙ eq-eqb _ _ (sym (first at-form) ∙ c .if4 .taken)) (a .pre .0 .1) (λ i. c .before .before .before .before .before .before .before .before .before .before .before .before .before .before .slice-known .given i .fits) (a .pre .0 .0)
+-- what is received
+abbrev given : tie.Start → Delivery
+given a = delivery (a .args .least) (a .args .greatest) (a .args .readings) (a .args .sender) (a .args .left) (a .args .right) (masks (a .args .words .now))
 
-slice-aggregate-take-datum : tie.Need-slice-aggregate-take-datum
-slice-aggregate-take-datum c = let at-form = c .before .before .before .before .before in at-form .form .ensures .0 .0 ∙ sym (ap length (kept at-form ∙ sym (made at-form)))
+heard : (a : tie.Start) → Heard (given a)
+heard a =
+    record {
+      delays = a .pre .1 .0 .0;
+      sender-le = a .pre .1 .0 .2;
+      ends = a .pre .1 .1 .0;
+      small = masks-small (a .args .words .now);
+      readings = a .pre .1 .0 .3;
+    }
 
-take-datum-requires : tie.Need-take-datum-requires
-take-datum-requires c κs =
+slice-aggregate-take : tie.Need-slice-aggregate-take
+slice-aggregate-take c = let at-form = c .before .before .before .before in at-form .form .ensures .0 .0 ∙ sym (ap length (kept at-form ∙ sym (made at-form)))
+
+take-requires : tie.Need-take-requires
+take-requires c κs =
+    let at-form = c .before .before .before .before in
+    let a = c .before .before .before .before .before .before .before .before .before .before .before .before .before .before .before .before in
+    let long = at-form .form .ensures .0 .0 ∙ ap length (made at-form) in (
+      (a .pre .0 .0, a .pre .0 .1, a .pre .1 .0 .2, a .pre .1 .0 .3),
+      rw (kept at-form) (formed-some _ _ _, omega (arith, long, c .before .before .if3 .left), formed-normal _ _ _, formed-single _ _ _),
+    )
+
+-- the number that `take` gives is the receipt's
+number : (c : tie.After-take) → c .take .result ≡ receiptRefusal (stateOf (c .before .before .before .before .before .before .before .before .before .before .before .before .before .before .before .before .before .args .state .now)) (given (c .before .before .before .before .before .before .before .before .before .before .before .before .before .before .before .before .before))
+unfolding Calls·made violated grown stateOf
+number c =
     let at-form = c .before .before .before .before .before in
     let a = c .before .before .before .before .before .before .before .before .before .before .before .before .before .before .before .before .before in
-    ((a .pre .0 .0, a .pre .0 .1), rw (kept at-form) (formed-some _ _ _, omega (arith, at-form .form .ensures .0 .0, ap length (made at-form), c .before .before .before .if3 .left)))
+    let long = at-form .form .ensures .0 .0 ∙ ap length (made at-form) in
+    (rw (kept at-form) at (c .take .ensures .0))
+    ∙ sym (receipt-counts (a .args .state .now) (given a) (other (c .before .before .before .before .before .before .before .before .before .before .before .before)) (c .before .before .before .before .before .before .before .before .before .before .if2 .left) (omega (arith, long, c .before .before .before .if3 .left)))
+
+-- the bytes of a taken one, before its readings are saved
+written : (c : tie.After-take) → c .take .result ≡ 0 → let a = c .before .before .before .before .before .before .before .before .before .before .before .before .before .before .before .before .before in
+    c .take .last .0 ≡ put 0 (stateBytes (record { head = headOf (a .args .state .now); store = Calls·made (headOf (a .args .state .now)) (storeOf (a .args .state .now)) (receive (given a)) })) (a .args .state .now)
+unfolding stateOf
+written c zero = receipt-written _ (given (c .before .before .before .before .before .before .before .before .before .before .before .before .before .before .before .before .before)) _ _ _ (kept (c .before .before .before .before .before)) zero (c .take .ensures .1)
+
+-- they are those of a right state
+right : (c : tie.After-take) → c .take .result ≡ 0 → let a = c .before .before .before .before .before .before .before .before .before .before .before .before .before .before .before .before .before in
+    T (stateOk (record { head = headOf (a .args .state .now); store = Calls·made (headOf (a .args .state .now)) (storeOf (a .args .state .now)) (receive (given a)) }))
+unfolding stateOf
+right c zero =
+    let a = c .before .before .before .before .before .before .before .before .before .before .before .before .before .before .before .before .before in
+    unsaved-ok (stateOf (a .args .state .now)) (given a) (form-ok (a .args .state .now) (a .pre .0 .1)) (heard a) (sym (number c) ∙ zero)
+
+save-requires : tie.Need-save-requires
+save-requires c κs =
+    let at-take = c .before .before .before .before in
+    let zero = c .before .if4 .taken in
+    let a = c .before .before .before .before .before .before .before .before .before .before .before .before .before .before .before .before .before .before .before .before .before in
+    let s = a .args .state .now in
+    rw (written at-take zero) (rw (length-put) (a .pre .0 .0), put-form _ s (right at-take zero) (a .pre .0 .0), a .pre .1 .0 .2, a .pre .1 .0 .3)
+
+returns-4 : tie.Need-returns-4
+unfolding after
+returns-4 c =
+    let at-take = c .before .before .before .before .before .before .before in
+    let zero = c .before .before .before .before .if4 .taken in
+    let a = c .before .before .before .before .before .before .before .before .before .before .before .before .before .before .before .before .before .before .before .before .before .before .before .before in
+    let s = a .args .state .now in
+    let all-right = receive-ok (stateOf s) (given a) (form-ok s (a .pre .0 .1)) (heard a) (sym (number at-take) ∙ zero) in
+    (number at-take, rw zero (receipt-saved s (given a) _ _ (a .pre .0 .0) (right at-take zero) all-right (written at-take zero) (c .before .before .save .ensures)))
 
 returns-5 : tie.Need-returns-5
-unfolding grown
 returns-5 c =
-    let at-form = c .before .before .before .before .before .before .before .before in
-    let made-of = c .before .before .take-datum .ensures in
-    let long = at-form .form .ensures .0 .0 ∙ ap length (made at-form) in
-    receipt-steps (c .before .before .before .before .before .before .before .before .before .before .before .before .before .before .before .before .before .before .before .before .args .state .now) _ (other (c .before .before .before .before .before .before .before .before .before .before .before .before .before .before .before)) (c .before .before .before .before .before .before .before .before .before .before .before .before .before .if2 .left) _ _ (omega (arith, long, c .before .before .before .before .before .before .if3 .left))
-    (formed-true _ _ _ ∙ ne-eqb _ _ (λ z. c .before .before .before .before .before .if4 .left (first at-form ∙ z))) (rw (kept at-form) at (made-of .0)) (rw (kept at-form) at (made-of .1))
+    let at-take = c .before .before .before in
+    let s = c .before .before .before .before .before .before .before .before .before .before .before .before .before .before .before .before .before .before .before .before .args .state .now in
+    let refused = c .if4 .left in
+    (number at-take, at-take .take .ensures .1 ∙ sym (after-refused _ _ s refused) ∙ after-refused _ _ s refused)
 
 pub deliver-spec : {M : Type 1} → statement M
 deliver-spec =
@@ -119,10 +167,10 @@ deliver-spec =
     (λ c. search needs)
     returns-3
     (λ c. search needs)
+    slice-aggregate-take
+    take-requires
+    save-requires
     (λ c. search needs)
     returns-4
-    (λ c. search needs)
-    slice-aggregate-take-datum
-    take-datum-requires
     (λ c. search needs)
     returns-5)

@@ -12,7 +12,9 @@ use Rattle.state.specs.Refusal.{after}
 use Rattle.state.specs.code.Tables.{tableFrom, columns, datumOf, TableFits, storeIn}
 use Rattle.state.proofs.StateLaws.{held-count-le, entry-count-le}
 use Rattle.state.proofs.StoreLaws.{columns-fresh, table-awaiting, data-rows, datum-standing, data-form, data-columns}
+use Rattle.settling.specs.code.Rows.{withTerm}
 use Rattle.steps.specs.Steps.{settled, tooMany}
+use Rattle.engine.specs.code.Blame.{blamedBy}
 use Rattle.settling.proofs.OutcomeLaws.{held-live, entries-live, many-live, few-counts}
 use borrow.Author.Needs.{needs}
 use Rattle.engine.proofs.receiving.take_in.Statement.{statement}
@@ -42,8 +44,8 @@ settle-requires c κs =
       (
         (a .pre .0 .0, form, a .pre .1 .0 .1),
         (
-          table-awaiting (a .args .old .known) _ 48 s (a .args .masks .now) (omega arith) (omega (arith, a .pre .1 .1 .2)),
-          ((a .pre .1 .1 .0, a .pre .1 .1 .1, omega arith), rows ∙ sym held),
+          table-awaiting (a .args .old .known) _ 48 s (a .args .masks .now) (omega arith) (omega (arith, a .pre .1 .1 .0 .2)),
+          ((a .pre .1 .1 .0 .0, a .pre .1 .1 .0 .1, omega arith), (a .pre .1 .1 .1, rows ∙ sym held)),
         ),
       ),
     )
@@ -51,7 +53,8 @@ settle-requires c κs =
 -- what the steps leave is the store of the definition
 same : (c : tie.After-settle) → let a = c .before .before .before .before .before .before .before .before .before .before .before .before .before .before .before .before .before .before .before .before .before .args in let u = c .settle in
     storeIn (u .result .held) (columns (u .last .0) (u .last .1 .0) (u .last .1 .1 .0) (u .last .1 .1 .1 .0)) (u .result .known) (tableFrom (entryCount (a .state .now)) (a .state .now) (u .last .1 .1 .1 .1 .1 .1 .1 .0) (u .last .1 .1 .1 .1 .1 .1 .1 .1 .0))
-    ≡ settled (datumOf (a .new) (a .p .now)) (storeOf (a .state .now))
+    ≡ settled (datumOf (a .new) (a .p .now)) (blamedBy (a .blame) (storeOf (a .state .now)))
+unfolding blamedBy
 same c =
     let a = c .before .before .before .before .before .before .before .before .before .before .before .before .before .before .before .before .before .before .before .before .before in
     let s = a .args .state .now in
@@ -59,9 +62,9 @@ same c =
     let read = c .before .before .before .before .before .before .before .before .before .before .before .before .get-data .ensures in
     let held = data-form _ s (a .pre .0 .1) (a .pre .1 .0 .0) _ _ _ _ _ _ _ _ (read .0) (read .1 .0) (read .1 .1 .0) (read .1 .1 .1) in
     subst
-    (λ (n : ℕ). storeIn (u .result .held) (columns (u .last .0) (u .last .1 .0) (u .last .1 .1 .0) (u .last .1 .1 .1 .0)) (u .result .known) (tableFrom n s (u .last .1 .1 .1 .1 .1 .1 .1 .0) (u .last .1 .1 .1 .1 .1 .1 .1 .1 .0)) ≡ settled (datumOf (a .args .new) (a .args .p .now)) (storeOf s))
+    (λ (n : ℕ). storeIn (u .result .held) (columns (u .last .0) (u .last .1 .0) (u .last .1 .1 .0) (u .last .1 .1 .1 .0)) (u .result .known) (tableFrom n s (u .last .1 .1 .1 .1 .1 .1 .1 .0) (u .last .1 .1 .1 .1 .1 .1 .1 .1 .0)) ≡ settled (datumOf (a .args .new) (a .args .p .now)) (blamedBy (a .args .blame) (storeOf s)))
     (a .pre .1 .0 .1)
-    (u .ensures .1 .1 .1 ∙ ap (λ (x : List Datum). settled (datumOf (a .args .new) (a .args .p .now)) (record { held = x; entries = storeOf s .entries })) held)
+    (u .ensures .1 .1 .1 ∙ ap (λ (x : List Datum). settled (datumOf (a .args .new) (a .args .p .now)) (record { held = x; entries = withTerm (a .args .blame) (storeOf s .entries) })) held)
 
 -- the table, told by the state's own count
 fits : (c : tie.After-settle) → let a = c .before .before .before .before .before .before .before .before .before .before .before .before .before .before .before .before .before .before .before .before .before .args in let u = c .settle in TableFits 16 (u .result .known) (tableFrom (entryCount (a .state .now)) (a .state .now) (u .last .1 .1 .1 .1 .1 .1 .1 .0) (u .last .1 .1 .1 .1 .1 .1 .1 .1 .0))
@@ -75,7 +78,7 @@ count-requires c κs = let left = c .before .before .before .before .before .bef
 
 -- the test for 32
 many : (c : tie.After-count) → let a = c .before .before .before .before .before .before .before .before .before .before .before .before .before .before .before .before .before .before .before .before .before .before .before .before .before .before .before .before .before .before .before .args in
-    tooMany (settled (datumOf (a .new) (a .p .now)) (storeOf (a .state .now))) ≡ (ltb 16 (c .count .result .held) || ltb 32 (c .count .result .known))
+    tooMany (settled (datumOf (a .new) (a .p .now)) (blamedBy (a .blame) (storeOf (a .state .now)))) ≡ (ltb 16 (c .count .result .held) || ltb 32 (c .count .result .known))
 many c =
     let at-settle = c .before .before .before .before .before .before .before .before .before .before in
     ap tooMany (sym (same at-settle)) ∙ many-live _ _ _ _ (at-settle .settle .ensures .1 .0 .0) (fits at-settle) ∙ rw (← (c .count .ensures .0), ← (c .count .ensures .1))

@@ -38,7 +38,7 @@ deliver-requires c κs =
     let at-take = c .before .before .before .before .before .before .before .before .before .take-words in
     let says = taken-says (a .args .message .now) (sym (same (c .before .before .before .before .before .before)) ∙ c .before .before .before .before .got .given .1) in
     let words = words-taken _ _ _ _ (at-take .ensures .1) (at-take .ensures .0 .0) in
-    (a .pre .0, ((a .pre .1 .0, a .pre .1 .1, says .0), (says .1, says .2, rw (c .before .term-words .ensures, words) (says .3))))
+    (a .pre .0, ((a .pre .1 .0, a .pre .1 .1, says .0, a .pre .1 .2), (says .1, says .2, rw (c .before .term-words .ensures, words) (says .3))))
 
 returns-2 : tie.Need-returns-2
 unfolding delivered deliveredAs deliveredNumber deliveredState

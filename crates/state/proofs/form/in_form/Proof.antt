@@ -31,8 +31,9 @@ entries-fit-requires c κs =
 returns-2 : tie.Need-returns-2
 unfolding inForm dataFit entriesFit
 returns-2 c =
-    let at-own = c .before .before .before .before in
-    rw (fits (at-own .before), c .before .data-fit .ensures, c .entries-fit .ensures, at-own .get32 .ensures .0, c .before .before .before .get322 .ensures .0, c .before .before .get323 .ensures .0)
+    let at-entries = c .before in
+    let at-own = at-entries .before .before .before .before in
+    rw (fits (at-own .before), at-entries .before .data-fit .ensures, at-entries .entries-fit .ensures, c .clocks-fit .ensures, at-own .get32 .ensures .0, at-entries .before .before .before .get322 .ensures .0, at-entries .before .before .get323 .ensures .0)
 
 pub in-form-spec : {M : Type 1} → statement M
 in-form-spec =
@@ -47,4 +48,5 @@ in-form-spec =
     data-fit-requires
     (λ c. search needs)
     entries-fit-requires
+    (λ c κs. search needs)
     returns-2)
