@@ -20,7 +20,7 @@
 #include <stdint.h>
 
 /** Rises by one with each change that a C program can see; CHANGELOG.md says what it was. */
-#define MONITOR_VERSION 2
+#define MONITOR_VERSION 3
 
 /** The mark of a result that must be looked at, where the compiler knows one: a refusal that nobody sees leaves a state that nobody expects. */
 #if (defined(__cplusplus) && __cplusplus >= 201703L) || (defined(__STDC_VERSION__) && __STDC_VERSION__ >= 202311L)
@@ -36,7 +36,7 @@ extern "C" {
 #endif
 
 /** A monitor's state. A lent state may be longer; the bytes beyond stay as they are. */
-#define MONITOR_STATE_BYTES 3032
+#define MONITOR_STATE_BYTES 5236
 
 /** What monitor_message_read writes: sender, left, right, term count, 8 bytes each. */
 #define MONITOR_READING_BYTES 32
@@ -65,6 +65,9 @@ extern "C" {
 #define MONITOR_GREATEST_READING ((UINT64_C(1) << 58) - 1)
 #define MONITOR_GREATEST_END ((UINT64_C(1) << 58) - 1)
 
+/** The greatest clock reading and half width that monitor_receive_with_readings takes. */
+#define MONITOR_GREATEST_CLOCK ((UINT64_C(1) << 43) - 1)
+
 /** The count that monitor_fewest writes when more than MONITOR_GREATEST_LIMIT monitors must have failed. */
 #define MONITOR_FEWEST_OVER (MONITOR_GREATEST_LIMIT + 1)
 
@@ -74,6 +77,7 @@ extern "C" {
 #define MONITOR_STACK_SET_UP 64
 #define MONITOR_STACK_AGE 256
 #define MONITOR_STACK_RECEIVE 3968
+#define MONITOR_STACK_RECEIVE_WITH_READINGS 3968
 #define MONITOR_STACK_WRITE 320
 #define MONITOR_STACK_ASK 7552
 #define MONITOR_STACK_FEWEST 6144
@@ -114,7 +118,9 @@ enum monitor_refusal {
     /* caused by a filling site */
     MONITOR_END = 30,           /**< an end would pass MONITOR_GREATEST_END */
     MONITOR_TERM_COUNT = 31,    /**< more than MONITOR_MOST_TERMS terms in the new predicate's normal form, stored or not */
-    MONITOR_TOO_MANY = 32       /**< too many data or entries */
+    MONITOR_TOO_MANY = 32,      /**< too many data or entries */
+    /* caused by the host program, with clock readings */
+    MONITOR_READINGS = 40       /**< a clock reading or half width above MONITOR_GREATEST_CLOCK, or a drift above MONITOR_GREATEST_DRIFT */
 };
 
 /** Sets a monitor up: it holds nothing.
@@ -137,7 +143,8 @@ uint32_t monitor_set_up(uint8_t *state, size_t state_len, uint32_t own, uint32_t
 MONITOR_CHECKED
 uint32_t monitor_age(uint8_t *state, size_t state_len, uint64_t reading);
 
-/** Receives a message at the reading the state was last aged to. A message whose predicate is true is taken and changes nothing.
+/** Receives a message at the reading the state was last aged to. A message whose predicate is true is taken and changes nothing. What is saved
+ *  of the sender's clock stays as it is.
  *  @param state        the monitor's bytes; those beyond MONITOR_STATE_BYTES stay as they are
  *  @param state_len    how many bytes are lent
  *  @param least        the channel's least delay
@@ -148,6 +155,30 @@ uint32_t monitor_age(uint8_t *state, size_t state_len, uint64_t reading);
  *  Stack: MONITOR_STACK_RECEIVE bytes. */
 MONITOR_CHECKED
 uint32_t monitor_receive(uint8_t *state, size_t state_len, uint64_t least, uint64_t greatest, const uint8_t *message, size_t message_len);
+
+/** Receives a message as monitor_receive does, and watches the sender's clock by readings of it and of the own one. They are tested against three
+ *  that are saved of this sender: the previous ones, and those with the largest a - b + w and b - a + w, the earlier on a tie, where a is the
+ *  sender's reading, b the own one and w the half width. With a1, b1, w1 saved and a2, b2, w2 new, the test is violated if
+ *  ||b2 - b1| - (a2 - a1)| is above |a2 - a1| times the sum of both drifts, plus w1 + w2. A violation makes the sender's name an entry, that is,
+ *  it is known from then on that this monitor has failed, and held data that this explains go. The new readings are saved, violating ones too;
+ *  the first of a sender are saved without a test. All this is done for a message whose predicate is true too.
+ *  @param state           the monitor's bytes; those beyond MONITOR_STATE_BYTES stay as they are
+ *  @param state_len       how many bytes are lent
+ *  @param least           the channel's least delay
+ *  @param greatest        the channel's greatest delay, at most MONITOR_GREATEST_DELAY
+ *  @param sender_reading  the sender's clock when it sent, at most MONITOR_GREATEST_CLOCK
+ *  @param own_reading     the own clock at that moment, as far as is known, at most MONITOR_GREATEST_CLOCK; it is not compared with the reading
+ *                         the state was last aged to
+ *  @param half_width      how far off own_reading may be to either side, at most MONITOR_GREATEST_CLOCK
+ *  @param sender_drift    the sender's clock's drift in parts per million, at most MONITOR_GREATEST_DRIFT
+ *  @param message         the words, four bytes each; they are not changed
+ *  @param message_len     how many bytes they are
+ *  @return 0 when taken; else, tested in this order, 24, 25, 21, 40, 10, 12, 11, 13, 14, 15, 16, 17, 18, 30, 31 or 32, and no byte has changed
+ *  Stack: MONITOR_STACK_RECEIVE_WITH_READINGS bytes. */
+MONITOR_CHECKED
+uint32_t monitor_receive_with_readings(uint8_t *state, size_t state_len, uint64_t least, uint64_t greatest, uint64_t sender_reading,
+                                       uint64_t own_reading, uint64_t half_width, uint32_t sender_drift, const uint8_t *message,
+                                       size_t message_len);
 
 /** Writes a held datum as a message in ends form, with the own name as sender.
  *  @param state        the monitor's bytes; they are not changed

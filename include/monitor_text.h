@@ -63,6 +63,7 @@ static inline const char *monitor_text(uint32_t number)
     case MONITOR_END: return "An end would pass 2^58 - 1.";
     case MONITOR_TERM_COUNT: return "The new predicate has more than 8 terms in normal form.";
     case MONITOR_TOO_MANY: return "There would be more than 16 data or more than 32 entries.";
+    case MONITOR_READINGS: return "A clock reading or the half width is 2^43 or more, or the sender's drift is above 1,000 parts per million.";
     default: return "No call returns this number.";
     }
 }

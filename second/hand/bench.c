@@ -1,7 +1,8 @@
 /* How long each call takes, by the engine and by hand.c: a table in Markdown. `bench` is the full measure, `bench N` one of N rounds.
  *
- * The states are those of second/src/samples/loads.rs, from the same random numbers, and states whose terms are all single names. Engine and C
- * run in turn in batches of about 20 microseconds; the numbers are medians for one call. */
+ * The states are those of second/src/samples/loads.rs, from the same random numbers, and states whose terms are all single names; each with
+ * nothing saved of any sender's clock, and with triples saved of all 28. Engine and C run in turn in batches of about 20 microseconds; the
+ * numbers are medians for one call. */
 #define _POSIX_C_SOURCE 199309L
 #include <stdio.h>
 #include <stdlib.h>
@@ -104,6 +105,24 @@ static void make_loads(const struct filling *f, int far, struct load loads[STATE
     }
 }
 
+/* Readings that agree with all that is saved: the sender's, the own one, half width and drift. */
+#define READINGS 9000, 9003, 5, 100
+
+/* Triples of every name but the own one, as receipts leave them: the previous one, and those with the largest sums. */
+static void save_clocks(struct load loads[STATES])
+{
+    for (unsigned i = 0; i < STATES; i++)
+        for (uint32_t name = 0; name < NAMES; name++) {
+            const uint64_t saved[] = {3000, 3001, 20, 1000 + name, 1000, 60, 2000, 2004 + name, 60};
+            uint8_t *place = loads[i].state + CLOCKS_AT + CLOCK * name;
+            if (name == OWN)
+                continue;
+            put32(place, 1);
+            for (unsigned n = 0; n < 9; n++)
+                put64(place + 4 + 8 * n, saved[n]);
+        }
+}
+
 /* ---- calls */
 
 /* A call with its other arguments, by one of the two programs, and the number that it returns. */
@@ -129,6 +148,7 @@ BY(fresh, set_up(l->state, sizeof l->state, 3, 100, 7))
 BY(form, write(l->state, sizeof l->state, UINT64_MAX, l->out, sizeof l->out))
 BY(older, age(l->state, sizeof l->state, ++l->reading))
 BY(taken, receive(l->state, sizeof l->state, 10, 60, l->message, l->len))
+BY(watched, receive_with_readings(l->state, sizeof l->state, 10, 60, READINGS, l->message, l->len))
 BY(ask0, ask(l->state, sizeof l->state, 0, l->out, MONITOR_ANSWER_BYTES))
 BY(ask1, ask(l->state, sizeof l->state, 1, l->out, MONITOR_ANSWER_BYTES))
 BY(ask2, ask(l->state, sizeof l->state, 2, l->out, MONITOR_ANSWER_BYTES))
@@ -138,7 +158,7 @@ BY(least, fewest(l->state, sizeof l->state, l->out, MONITOR_FEWEST_BYTES))
 BY(written, write(l->state, sizeof l->state, 2, l->out, sizeof l->out))
 
 static const struct call set_up = CALL("set up", fresh, 0);
-static const struct call receiving = CALL("receive", taken, 0);
+static const struct call receiving[] = {CALL("receive", taken, 0), CALL("receive with readings", watched, 0)};
 static const struct call calls[] = {
     CALL("form check", form, 23), CALL("age", older, 0), CALL("ask 0", ask0, 0), CALL("ask 1", ask1, 0),  CALL("ask 2", ask2, 0),
     CALL("ask 3", ask3, 0),       CALL("ask 4", ask4, 0), CALL("fewest", least, 0), CALL("write", written, 0),
@@ -205,6 +225,22 @@ static void line(const struct call *call, const char *state, const struct load l
     fflush(stdout);
 }
 
+/* The lines of the states of a filling. */
+static void lines(const struct filling *f, const char *saved, const struct load near[STATES], const struct load far[STATES], unsigned rounds)
+{
+    char name[60], far_name[60];
+    snprintf(name, sizeof name, "%s%s", f->name, saved);
+    snprintf(far_name, sizeof far_name, "%s%s, far off", f->name, saved);
+    for (unsigned c = 0; c < sizeof calls / sizeof *calls; c++) {
+        line(&calls[c], name, near, rounds);
+        for (unsigned k = 0; c == 1 && k < 2; k++) {
+            line(&receiving[k], name, near, rounds);
+            if (f->entries > 0)
+                line(&receiving[k], far_name, far, rounds);
+        }
+    }
+}
+
 int main(int argc, char **argv)
 {
     static struct load near[STATES], far[STATES];
@@ -214,19 +250,12 @@ int main(int argc, char **argv)
     make_loads(&fillings[0], 0, near);
     line(&set_up, "any", near, rounds);
     for (unsigned f = 0; f < sizeof fillings / sizeof *fillings; f++) {
-        char name[60];
         make_loads(&fillings[f], 0, near);
-        for (unsigned c = 0; c < sizeof calls / sizeof *calls; c++) {
-            line(&calls[c], fillings[f].name, near, rounds);
-            if (c != 1)
-                continue;
-            line(&receiving, fillings[f].name, near, rounds);
-            if (fillings[f].entries == 0)
-                continue;
-            make_loads(&fillings[f], 1, far);
-            snprintf(name, sizeof name, "%s, far off", fillings[f].name);
-            line(&receiving, name, far, rounds);
-        }
+        make_loads(&fillings[f], fillings[f].entries > 0, far);
+        lines(&fillings[f], "", near, far, rounds);
+        save_clocks(near);
+        save_clocks(far);
+        lines(&fillings[f], ", 28 saved", near, far, rounds);
     }
     return 0;
 }

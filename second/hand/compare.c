@@ -1,5 +1,5 @@
 /* Compares hand.c with the engine over seeded random calls: numbers, and every byte of state and output, guards around them too. `compare` is
- * the full comparison, `compare N` one of N rounds. Fails at the first difference, and if a number of document 01's list was never seen. */
+ * the full comparison, `compare N` one of N rounds. Fails at the first difference, and if a number of the papers' lists was never seen. */
 #include <stdio.h>
 #include <stdlib.h>
 
@@ -12,14 +12,15 @@
 #define COUNT(array) (sizeof(array) / sizeof *(array))
 #define PICK(r, ...) (((const uint64_t[]){__VA_ARGS__})[below(r, COUNT(((const uint64_t[]){__VA_ARGS__})))])
 
-enum kind { SET_UP, AGE, RECEIVE, WRITE, ASK, FEWEST, KINDS };
-static const char *const kind_names[KINDS] = {"set_up", "age", "receive", "write", "ask", "fewest"};
+enum kind { SET_UP, AGE, RECEIVE, WITH_READINGS, WRITE, ASK, FEWEST, KINDS };
+static const char *const kind_names[KINDS] = {"set_up", "age", "receive", "receive_with_readings", "write", "ask", "fewest"};
 
-/* Document 01's numbers for each call; 0 is taken and stands first. */
-static const unsigned expected[KINDS][17] = {
+/* The papers' numbers for each call; 0 is taken and stands first. */
+static const unsigned expected[KINDS][18] = {
     {0, 1, 2, 3, 24},
     {0, 3, 20, 24, 25, 30},
     {0, 10, 11, 12, 13, 14, 15, 16, 17, 18, 21, 24, 25, 30, 31, 32},
+    {0, 10, 11, 12, 13, 14, 15, 16, 17, 18, 21, 24, 25, 30, 31, 32, 40},
     {0, 23, 24, 25},
     {0, 22, 24, 25},
     {0, 24, 25},
@@ -27,6 +28,10 @@ static const unsigned expected[KINDS][17] = {
 
 static unsigned long seen[KINDS][64];
 static unsigned long answers[3], counts[6];
+
+/* What taken receipts with readings met. */
+enum met { FIRST, AGREED, VIOLATED, METS };
+static unsigned long met[METS];
 
 /* ---- calls by both programs */
 
@@ -41,6 +46,8 @@ struct call {
     enum kind kind;
     uint32_t own, drift;
     uint64_t a, b; /* reading, delays, position or limit */
+    uint64_t sender_reading, own_reading, half_width;
+    uint32_t sender_drift;
     uint8_t message[200];
     size_t len;
 };
@@ -66,6 +73,9 @@ static uint32_t by_engine(const struct call *c, uint8_t *state, size_t len, uint
         return monitor_age(state, len, c->a);
     case RECEIVE:
         return monitor_receive(state, len, c->a, c->b, c->message, c->len);
+    case WITH_READINGS:
+        return monitor_receive_with_readings(state, len, c->a, c->b, c->sender_reading, c->own_reading, c->half_width, c->sender_drift,
+                                             c->message, c->len);
     case WRITE:
         return monitor_write(state, len, c->a, out, out_len);
     case ASK:
@@ -84,6 +94,9 @@ static uint32_t by_hand(const struct call *c, uint8_t *state, size_t len, uint8_
         return hand_age(state, len, c->a);
     case RECEIVE:
         return hand_receive(state, len, c->a, c->b, c->message, c->len);
+    case WITH_READINGS:
+        return hand_receive_with_readings(state, len, c->a, c->b, c->sender_reading, c->own_reading, c->half_width, c->sender_drift,
+                                          c->message, c->len);
     case WRITE:
         return hand_write(state, len, c->a, out, out_len);
     case ASK:
@@ -91,6 +104,29 @@ static uint32_t by_hand(const struct call *c, uint8_t *state, size_t len, uint8_
     default:
         return hand_fewest(state, len, out, out_len);
     }
+}
+
+/* ---- test (20) */
+
+/* As printed, times a million, in 128 bits: how many of the three triples in a name's place the readings violate it with. */
+static int violations(const uint8_t *place, const struct call *c, uint32_t own_drift)
+{
+    __extension__ typedef __int128 wide;
+    int count = 0;
+    for (const uint8_t *saved = place + 4; saved < place + CLOCK; saved += 24) {
+        wide a = (wide)c->sender_reading - get64(saved), b = (wide)c->own_reading - get64(saved + 8);
+        wide left = (b < 0 ? -b : b) - a, right = ((wide)own_drift + c->sender_drift) * (a < 0 ? -a : a);
+        right += ((wide)get64(saved + 16) + c->half_width) * 1000000;
+        count += (left < 0 ? -left : left) * 1000000 > right;
+    }
+    return count;
+}
+
+/* The place of the message's sender, or none. */
+static const uint8_t *place_of(const uint8_t *state, const struct call *c)
+{
+    uint32_t sender = c->len > 0 ? c->message[0] & 31 : 0;
+    return sender < NAMES ? state + CLOCKS_AT + CLOCK * sender : NULL;
 }
 
 static void differ(const struct call *c, uint64_t round, const char *what, uint32_t engine, uint32_t hand)
@@ -119,16 +155,20 @@ static uint32_t compare(uint64_t round, const struct call *c, struct lent *state
         answers[out->hand[out->at] % 3]++;
     if (c->kind == FEWEST && hand == 0)
         counts[out->hand[out->at] % 6]++;
+    if (c->kind == WITH_READINGS && hand == 0) {
+        const uint8_t *before = state->before + state->at, *place = place_of(before, c);
+        met[get32(place) == 0 ? FIRST : violations(place, c, get32(before + 4)) > 0 ? VIOLATED : AGREED]++;
+    }
     return hand;
 }
 
-/* Lends a state of 3,032 bytes and an output to a call, seldom too few bytes of them, and keeps what it makes of the state. */
+/* Lends a state and an output to a call, seldom too few bytes of them, and keeps what it makes of the state. */
 static uint32_t run(struct source *r, uint64_t round, const struct call *c, uint8_t *state)
 {
     static struct lent lent, out;
     uint8_t filler[MONITOR_MESSAGE_BYTES] = {0};
     size_t wanted = c->kind == WRITE ? MONITOR_MESSAGE_BYTES : c->kind == ASK ? MONITOR_ANSWER_BYTES : MONITOR_FEWEST_BYTES;
-    size_t len = once_in(r, 40) ? MONITOR_STATE_BYTES - 1 - below(r, PICK(r, 1, 4, 3000)) : MONITOR_STATE_BYTES + below(r, 9);
+    size_t len = once_in(r, 40) ? MONITOR_STATE_BYTES - 1 - below(r, PICK(r, 1, 4, 5000)) : MONITOR_STATE_BYTES + below(r, 9);
     lend(r, &lent, state, MONITOR_STATE_BYTES, len);
     lend(r, &out, filler, sizeof filler, once_in(r, 10) ? below(r, wanted) : wanted);
     uint32_t number = compare(round, c, &lent, &out);
@@ -307,12 +347,73 @@ static void any_message(struct source *r, const struct world *w, const uint8_t *
         c->len -= 1 + below(r, 3);
 }
 
+/* A half width, mostly small. */
+static uint64_t any_width(struct source *r)
+{
+    return once_in(r, 40) ? PICK(r, below(r, MONITOR_GREATEST_CLOCK), MONITOR_GREATEST_CLOCK) : PICK(r, 0, 0, 1, 2, 3, 8, 20);
+}
+
+static uint64_t sum(uint64_t x, uint64_t y)
+{
+    return x + y < MONITOR_GREATEST_CLOCK ? x + y : MONITOR_GREATEST_CLOCK;
+}
+
+static uint64_t difference(uint64_t x, uint64_t y)
+{
+    return x > y ? x - y : 0;
+}
+
+/* Readings some time after one of the three saved ones, seldom before it, and off by about what is allowed. */
+static void near_readings(struct source *r, const uint8_t *place, uint32_t own_drift, struct call *c)
+{
+    const uint8_t *saved = place + 4 + 24 * below(r, 3);
+    uint64_t a = get64(saved), b = get64(saved + 8), w = get64(saved + 16) % 41, passed = PICK(r, 0, below(r, 12), below(r, 12), 5000, 40000000);
+    c->half_width = any_width(r);
+    uint64_t allowed = (own_drift + c->sender_drift) * passed / 1000000 + w + c->half_width % 41;
+    uint64_t off = PICK(r, 0, below(r, allowed + 1), allowed, allowed, allowed + 1);
+    c->sender_reading = once_in(r, 8) ? difference(a, passed) : sum(a, passed);
+    c->own_reading = once_in(r, 8) ? difference(b, passed) : sum(b, passed);
+    c->own_reading = once_in(r, 2) ? sum(c->own_reading, off) : difference(c->own_reading, off);
+}
+
+/* Readings of the message's sender: they agree mostly with what is saved, or violate the test with one triple alone; flawed now and then. */
+static void any_readings(struct source *r, const uint8_t *state, struct call *c)
+{
+    const uint8_t *place = place_of(state, c);
+    int wanted = (int)PICK(r, 0, 0, 0, 0, 0, 1, 3);
+    uint32_t own_drift = get32(state + 4) % 1001;
+    c->sender_drift = (uint32_t)PICK(r, 0, 0, 1, 100, below(r, 1001), MONITOR_GREATEST_DRIFT);
+    c->sender_reading = PICK(r, below(r, 60), below(r, 60), below(r, MONITOR_GREATEST_CLOCK), MONITOR_GREATEST_CLOCK);
+    c->own_reading = PICK(r, c->sender_reading, below(r, 60), below(r, MONITOR_GREATEST_CLOCK), MONITOR_GREATEST_CLOCK);
+    c->half_width = any_width(r);
+    if (place != NULL && get32(place) == 1)
+        for (int tries = 0; tries < 8 && (tries == 0 || (wanted < 3 && violations(place, c, own_drift) != wanted)); tries++)
+            near_readings(r, place, own_drift, c);
+    if (!once_in(r, 16))
+        return;
+    uint64_t past = PICK(r, MONITOR_GREATEST_CLOCK + 1, MONITOR_GREATEST_CLOCK + 1, UINT64_C(1) << 63, bits(r));
+    switch (below(r, 4)) {
+    case 0:
+        c->sender_reading = past;
+        break;
+    case 1:
+        c->own_reading = past;
+        break;
+    case 2:
+        c->half_width = past;
+        break;
+    default:
+        c->sender_drift = (uint32_t)PICK(r, 1001, 65536, UINT32_MAX, bits(r));
+    }
+}
+
 static struct call any_call(struct source *r, const struct world *w, const uint8_t *state)
 {
-    struct call c = {.kind = (enum kind)PICK(r, RECEIVE, RECEIVE, RECEIVE, RECEIVE, RECEIVE, RECEIVE, AGE, WRITE, ASK, ASK, FEWEST)};
+    struct call c = {.kind = (enum kind)PICK(r, RECEIVE, RECEIVE, RECEIVE, WITH_READINGS, WITH_READINGS, WITH_READINGS, AGE, WRITE, ASK, ASK, FEWEST)};
     uint64_t reading = get64(state + READING_AT), most = w->span / 6 + 1;
     switch (c.kind) {
     case RECEIVE:
+    case WITH_READINGS:
         c.a = PICK(r, 0, 0, below(r, most));
         c.b = c.a + below(r, most);
         if (once_in(r, 30)) {
@@ -320,6 +421,7 @@ static struct call any_call(struct source *r, const struct world *w, const uint8
             c.b = PICK(r, c.b, MONITOR_GREATEST_DELAY, MONITOR_GREATEST_DELAY + 1, UINT64_MAX);
         }
         any_message(r, w, state, &c);
+        any_readings(r, state, &c);
         break;
     case AGE:
         c.a = PICK(r, reading, reading + 1, reading + below(r, w->span), reading + below(r, 3000000), reading - 1,
@@ -373,6 +475,19 @@ static void add_suspect(uint8_t *state, uint32_t name)
     }
 }
 
+/* What may be saved of the senders' clocks, in no order: of no name, of few or of all. */
+static void put_clocks(struct source *r, uint8_t *state)
+{
+    uint64_t times = PICK(r, 0, 0, 1, 4);
+    for (uint8_t *place = state + CLOCKS_AT; times > 0 && place < state + MONITOR_STATE_BYTES; place += CLOCK) {
+        if (!once_in(r, times))
+            continue;
+        put32(place, 1);
+        for (int i = 0; i < 9; i++)
+            put64(place + 4 + 8 * i, PICK(r, 0, below(r, 60), below(r, 60), below(r, MONITOR_GREATEST_CLOCK), MONITOR_GREATEST_CLOCK));
+    }
+}
+
 /* Any state in form: runs reach few of them. */
 static void any_state(struct source *r, uint8_t *state)
 {
@@ -396,13 +511,15 @@ static void any_state(struct source *r, uint8_t *state)
         put_terms(r, state + ENTRIES_AT + ENTRY * i, names, own, ENTRY_TERMS);
     if (once_in(r, 2))
         add_suspect(state, 1u << (own + 1 + below(r, NAMES - 1)) % NAMES);
+    put_clocks(r, state);
 }
 
-/* One damage, in the head, in a row in use or anywhere; the state may stay in form. */
+/* One damage, in the head, in a row in use, in the places of the clocks or anywhere; the state may stay in form. */
 static void damage_state(struct source *r, uint8_t *state)
 {
     size_t data = DATUM * (1 + get32(state + HELD_AT) % MOST_DATA), entries = ENTRY * (1 + get32(state + KNOWN_AT) % MOST_ENTRIES);
-    size_t at = PICK(r, below(r, DATA_AT), DATA_AT + below(r, data), ENTRIES_AT + below(r, entries), below(r, MONITOR_STATE_BYTES));
+    size_t clocks = CLOCKS_AT + PICK(r, below(r, CLOCK * NAMES), CLOCK * below(r, NAMES), CLOCK * below(r, NAMES) + 4 * (2 + 2 * below(r, 9)));
+    size_t at = PICK(r, below(r, DATA_AT), DATA_AT + below(r, data), ENTRIES_AT + below(r, entries), clocks, below(r, MONITOR_STATE_BYTES));
     size_t word = at / 4 * 4, from = below(r, MONITOR_STATE_BYTES / 4) * 4;
     uint32_t x = get32(state + word);
     switch (below(r, 6)) {
@@ -413,7 +530,7 @@ static void damage_state(struct source *r, uint8_t *state)
         put32(state + word, x + (uint32_t)PICK(r, 1, UINT32_MAX));
         break;
     case 2:
-        put32(state + word, (uint32_t)PICK(r, 0, 1, below(r, 34), 1u << 28, 1u << 29, UINT32_MAX));
+        put32(state + word, (uint32_t)PICK(r, 0, 1, below(r, 34), 2047, 2048, 1u << 28, 1u << 29, UINT32_MAX));
         break;
     case 3:
         put32(state + word, x ^ 1u << below(r, NAMES));
@@ -474,7 +591,7 @@ static int report(void)
     int missing = 0;
     unsigned long all = 0;
     for (int k = 0; k < KINDS; k++) {
-        printf("%-8s", kind_names[k]);
+        printf("%-21s", kind_names[k]);
         for (unsigned n = 0; n < 64; n++) {
             all += seen[k][n];
             if (seen[k][n] > 0)
@@ -489,8 +606,9 @@ static int report(void)
     }
     printf("answers: contradicted %lu, open %lu, between %lu\n", answers[0], answers[1], answers[2]);
     printf("fewest: 0 %lu, 1 %lu, 2 %lu, 3 %lu, 4 %lu, over %lu\n", counts[0], counts[1], counts[2], counts[3], counts[4], counts[5]);
+    printf("readings: first %lu, agreed %lu, violated %lu\n", met[FIRST], met[AGREED], met[VIOLATED]);
     for (int i = 0; i < 6; i++)
-        missing |= (i < 3 && answers[i] == 0) || counts[i] == 0;
+        missing |= (i < 3 && answers[i] == 0) || counts[i] == 0 || (i < METS && met[i] == 0);
     printf("%lu calls compared, %s\n", all, missing ? "but not all that was to be seen was" : "no difference");
     return missing;
 }

@@ -1,11 +1,13 @@
-//! The book of a run (demand 3; document 01, "Asking"): what the calls were handed and which were
-//! taken, and from that alone the instants that are possible. No state is looked at.
+//! The book of a run (demand 3; document 01, "Asking"; document 02, W-201): what the calls were
+//! handed and which were taken, and from that alone the instants that are possible. No state is
+//! looked at.
 
 use crate::ageing::advance;
 use crate::calls::Call;
+use crate::clocks::{Readings, Saved, Triple};
 use crate::instants::Instants;
-use crate::message;
-use crate::predicates::{names_within, sets, Term};
+use crate::message::{self, Message};
+use crate::predicates::{names_within, sets, Term, NAMES};
 use crate::receiving::formed;
 use crate::refusal;
 use crate::state::Datum;
@@ -17,6 +19,8 @@ pub enum Line {
     Aged { least: u64, greatest: u64 },
     /// The grown interval and the predicate as it was formed, a true one too.
     Received(Datum),
+    /// A sender that violated test (20): from here on a set has to hold its name.
+    Blamed(u32),
 }
 
 #[derive(Clone, Debug, PartialEq, Eq)]
@@ -26,12 +30,15 @@ pub struct Book {
     /// The last one.
     reading: u64,
     lines: Vec<Line>,
+    /// By name: every triple of taken receipts, in order.
+    histories: [Vec<Triple>; NAMES as usize],
 }
 
 impl Book {
     /// The book of a run that was just set up.
     pub fn new(own: u32, drift: u32, reading: u64) -> Book {
-        Book { own, drift, reading, lines: vec![] }
+        let histories = std::array::from_fn(|_| vec![]);
+        Book { own, drift, reading, lines: vec![], histories }
     }
 
     /// What was entered, in order.
@@ -51,8 +58,12 @@ impl Book {
                 self.reading = reading;
                 self.lines.push(Line::Aged { least, greatest });
             }
-            Call::Receive { least, greatest, ref message } => {
-                let datum = self.heard(least, greatest, message);
+            Call::Receive { least, greatest, readings, ref message } => {
+                let message = taken(message);
+                if let Some(readings) = readings {
+                    self.watch(message.sender, readings);
+                }
+                let datum = self.heard(least, greatest, &message);
                 self.lines.push(Line::Received(datum));
             }
             Call::Write { .. } | Call::Ask { .. } | Call::Fewest => {}
@@ -60,33 +71,65 @@ impl Book {
     }
 
     /// What a taken message says to this receiver.
-    fn heard(&self, least: u64, greatest: u64, message: &[u8]) -> Datum {
-        let words = message::words_of(message).expect("a taken message");
-        let message = message::read(&words).expect("a taken message");
+    fn heard(&self, least: u64, greatest: u64, message: &Message) -> Datum {
         Datum {
             interval: message.interval.grown(least, greatest).expect("a taken message"),
-            predicate: formed(self.own, &message),
+            predicate: formed(self.own, message),
         }
+    }
+
+    /// Tests the sender's triple against the three of its history, and adds it there.
+    fn watch(&mut self, sender: u32, Readings { triple, drift }: Readings) {
+        let saved = self.saved(sender);
+        if saved.is_some_and(|saved| saved.violated_by(triple, self.drift + drift)) {
+            self.lines.push(Line::Blamed(sender));
+        }
+        self.histories[sender as usize].push(triple);
+    }
+
+    /// The three triples of a name, looked for in its whole history; none where that is empty.
+    pub fn saved(&self, name: u32) -> Option<Saved> {
+        let history = &self.histories[name as usize];
+        Some(Saved {
+            previous: *history.last()?,
+            ahead: first_largest(history, |t| i128::from(t.a) - i128::from(t.b) + i128::from(t.w)),
+            behind: first_largest(history, |t| i128::from(t.b) - i128::from(t.a) + i128::from(t.w)),
+        })
     }
 
     /// Where the paths can end that agree with s and the book. They start with any whole number,
     /// and as each advance is by any whole amount within its bounds, no gap comes up on the way.
     pub fn reached(&self, s: Term) -> Instants {
-        self.lines.iter().fold(Instants::All, |instants, line| match line {
-            Line::Aged { least, greatest } => instants.advanced(*least, *greatest),
-            Line::Received(datum) if datum.predicate.holds(s) => instants,
-            Line::Received(datum) => instants.meet(datum.interval),
-        })
+        let mut instants = Instants::All;
+        for line in &self.lines {
+            instants = match line {
+                Line::Aged { least, greatest } => instants.advanced(*least, *greatest),
+                Line::Received(datum) if datum.predicate.holds(s) => instants,
+                Line::Received(datum) => instants.meet(datum.interval),
+                Line::Blamed(name) if s >> name & 1 != 0 => instants,
+                Line::Blamed(_) => Instants::Empty,
+            };
+            // Nothing comes of no instants.
+            if instants == Instants::Empty {
+                break;
+            }
+        }
+        instants
     }
 
     /// The sets within a limit that can differ in what they reach: names of no term within the
-    /// limit change nothing, and no formed predicate has a term with the own one.
+    /// limit and of no blamed sender change nothing, and no formed predicate has a term with the own
+    /// one.
     pub fn sets(&self, limit: u32) -> Vec<Term> {
         let predicates = self.lines.iter().filter_map(|line| match line {
             Line::Received(datum) => Some(&datum.predicate),
-            Line::Aged { .. } => None,
+            Line::Aged { .. } | Line::Blamed(_) => None,
         });
-        sets(names_within(predicates, limit) & !(1 << self.own), limit)
+        let blamed = self.lines.iter().fold(0, |names, line| match line {
+            Line::Blamed(name) => names | 1 << name,
+            Line::Aged { .. } | Line::Received(_) => names,
+        });
+        sets((names_within(predicates, limit) | blamed) & !(1 << self.own), limit)
     }
 
     /// From the least to the greatest instant that is possible within the limit; all or none.
@@ -94,4 +137,16 @@ impl Book {
         let sets = self.sets(limit).into_iter();
         sets.fold(Instants::Empty, |all, s| all.join(self.reached(s)))
     }
+}
+
+/// The message in bytes that were taken.
+fn taken(bytes: &[u8]) -> Message {
+    let words = message::words_of(bytes).expect("a taken message");
+    message::read(&words).expect("a taken message")
+}
+
+/// The earliest of those with the largest value.
+fn first_largest(history: &[Triple], value: impl Fn(&Triple) -> i128) -> Triple {
+    let largest = history.iter().map(&value).max().expect("a triple");
+    *history.iter().find(|&triple| value(triple) == largest).expect("the largest is among them")
 }

@@ -1,6 +1,7 @@
 //! The calls over a state as values: a run is a list of them.
 
 use crate::asking::{ANSWER_BYTES, FEWEST_BYTES};
+use crate::clocks::{Readings, Triple};
 use crate::lent::{compare, Lent};
 use crate::message::MESSAGE_BYTES;
 use crate::receiving::Branches;
@@ -11,19 +12,36 @@ use std::fmt;
 /// A call with its arguments, the lent bytes aside.
 #[derive(Clone, PartialEq, Eq)]
 pub enum Call {
-    SetUp { own: u32, drift: u32, reading: u64 },
-    Age { reading: u64 },
-    Receive { least: u64, greatest: u64, message: Vec<u8> },
-    Write { position: u64 },
-    Ask { limit: u64 },
+    SetUp {
+        own: u32,
+        drift: u32,
+        reading: u64,
+    },
+    Age {
+        reading: u64,
+    },
+    /// With readings or without: two calls of the engine.
+    Receive {
+        least: u64,
+        greatest: u64,
+        readings: Option<Readings>,
+        message: Vec<u8>,
+    },
+    Write {
+        position: u64,
+    },
+    Ask {
+        limit: u64,
+    },
     Fewest,
 }
 
 impl Call {
-    pub const NAMES: [&str; 6] = [
+    pub const NAMES: [&str; 7] = [
         "monitor_set_up",
         "monitor_age",
         "monitor_receive",
+        "monitor_receive_with_readings",
         "monitor_write",
         "monitor_ask",
         "monitor_fewest",
@@ -34,10 +52,21 @@ impl Call {
         match self {
             Call::SetUp { .. } => 0,
             Call::Age { .. } => 1,
-            Call::Receive { .. } => 2,
-            Call::Write { .. } => 3,
-            Call::Ask { .. } => 4,
-            Call::Fewest => 5,
+            Call::Receive { readings: None, .. } => 2,
+            Call::Receive { .. } => 3,
+            Call::Write { .. } => 4,
+            Call::Ask { .. } => 5,
+            Call::Fewest => 6,
+        }
+    }
+
+    /// The same call, a receipt without its readings.
+    pub fn without_readings(self) -> Call {
+        match self {
+            Call::Receive { least, greatest, message, .. } => {
+                Call::Receive { least, greatest, readings: None, message }
+            }
+            other => other,
         }
     }
 
@@ -46,8 +75,8 @@ impl Call {
         match *self {
             Call::SetUp { own, drift, reading } => set_up::call(state, own, drift, reading),
             Call::Age { reading } => ageing::call(state, reading),
-            Call::Receive { least, greatest, ref message } => {
-                receiving::call_seen(state, least, greatest, message, seen)
+            Call::Receive { least, greatest, readings, ref message } => {
+                receiving::call_seen(state, least, greatest, readings, message, seen)
             }
             Call::Write { position } => writing::call(state, position, out),
             Call::Ask { limit } => asking::ask_call(state, limit, out),
@@ -62,8 +91,11 @@ impl Call {
                 engine::monitor_set_up(state, own, drift, reading)
             }
             Call::Age { reading } => engine::monitor_age(state, reading),
-            Call::Receive { least, greatest, ref message } => {
+            Call::Receive { least, greatest, readings: None, ref message } => {
                 engine::monitor_receive(state, least, greatest, message)
+            }
+            Call::Receive { least, greatest, readings: Some(readings), ref message } => {
+                engine::monitor_receive_with_readings(state, least, greatest, readings, message)
             }
             Call::Write { position } => engine::monitor_write(state, position, out),
             Call::Ask { limit } => engine::monitor_ask(state, limit, out),
@@ -94,11 +126,15 @@ impl fmt::Debug for Call {
         match self {
             Call::SetUp { own, drift, reading } => write!(f, "{name} {own} {drift} {reading}"),
             Call::Age { reading } => write!(f, "{name} {reading}"),
-            Call::Receive { least, greatest, message } => {
+            Call::Receive { least, greatest, readings, message } => {
                 let words = message.chunks(4).map(|word| word.iter().rev());
                 let words = words.map(|word| word.fold(0, |w, &b| w << 8 | u32::from(b)));
                 let words: Vec<u32> = words.collect();
-                write!(f, "{name} {least} {greatest} {words:?} of {} bytes", message.len())
+                write!(f, "{name} {least} {greatest} ")?;
+                if let Some(Readings { triple: Triple { a, b, w }, drift }) = readings {
+                    write!(f, "{a} {b} {w} {drift} ")?;
+                }
+                write!(f, "{words:?} of {} bytes", message.len())
             }
             Call::Write { position } => write!(f, "{name} {position}"),
             Call::Ask { limit } => write!(f, "{name} {limit}"),

@@ -3,6 +3,8 @@
 //! Lent slices do not overlap; `&` and `&mut` see to that. A test that leaves a call out links
 //! with an archive that does not have it.
 
+use crate::clocks::{Readings, Triple};
+
 mod c {
     extern "C" {
         pub fn monitor_message_read(
@@ -34,6 +36,19 @@ mod c {
             state_len: usize,
             least: u64,
             greatest: u64,
+            message: *const u8,
+            message_len: usize,
+        ) -> u32;
+
+        pub fn monitor_receive_with_readings(
+            state: *mut u8,
+            state_len: usize,
+            least: u64,
+            greatest: u64,
+            sender_reading: u64,
+            own_reading: u64,
+            half_width: u64,
+            sender_drift: u32,
             message: *const u8,
             message_len: usize,
         ) -> u32;
@@ -102,6 +117,34 @@ pub fn monitor_receive(state: &mut [u8], least: u64, greatest: u64, message: &[u
     // Safe: as above.
     unsafe {
         c::monitor_receive(state, state_len, least, greatest, message.as_ptr(), message.len())
+    }
+}
+
+/// The engine's `monitor_receive_with_readings`.
+pub fn monitor_receive_with_readings(
+    state: &mut [u8],
+    least: u64,
+    greatest: u64,
+    readings: Readings,
+    message: &[u8],
+) -> u32 {
+    let (state, state_len) = (state.as_mut_ptr(), state.len());
+    let Readings { triple: Triple { a, b, w }, drift } = readings;
+    let (message, message_len) = (message.as_ptr(), message.len());
+    // Safe: as above.
+    unsafe {
+        c::monitor_receive_with_readings(
+            state,
+            state_len,
+            least,
+            greatest,
+            a,
+            b,
+            w,
+            drift,
+            message,
+            message_len,
+        )
     }
 }
 

@@ -90,7 +90,7 @@ impl Line {
             Line::Set { .. } => unreachable!("`set` makes its own state"),
             Line::Age { reading } => done(ageing::call(state, reading)),
             Line::Get { least, greatest, words } => {
-                done(receiving::call(state, least, greatest, &bytes_of(&words)))
+                done(receiving::call(state, least, greatest, None, &bytes_of(&words)))
             }
             Line::Ask { limit } => {
                 let mut out = [0; ANSWER_BYTES];

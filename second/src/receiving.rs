@@ -1,5 +1,6 @@
-//! Receiving (document 01, "Receiving"): a function for each of its steps.
+//! Receiving (document 01, "Receiving"; document 02, W-201): a function for each of its steps.
 
+use crate::clocks::{Readings, Saved, Triple};
 use crate::message::{self, Message};
 use crate::predicates::{holds, struck, Predicate};
 use crate::refusal;
@@ -15,6 +16,32 @@ pub enum Branch {
     Struck,
     /// The predicate was true.
     True,
+    /// Readings: nothing was saved of the sender before.
+    SavedFirst,
+    /// Readings: test (20) was made.
+    Tested,
+    /// Test (20): violated.
+    Violated,
+    /// Test (20): violated against the previous triple alone.
+    ByPrevious,
+    /// Test (20): violated against the one with the largest a − b + w alone.
+    ByAhead,
+    /// Test (20): violated against the one with the largest b − a + w alone.
+    ByBehind,
+    /// Test (20): not violated, and both sides equal against one of the three.
+    AtBound,
+    /// Test (20): the own reading was below a saved one.
+    OwnBack,
+    /// Test (20): the sender's reading was below a saved one.
+    SenderBack,
+    /// Saving: another triple had the largest a − b + w or b − a + w as well, and stayed.
+    Tie,
+    /// Violation: the name was not made an entry, since one implies it.
+    NameImplied,
+    /// Violation: the name was made an entry.
+    NameAdded,
+    /// Violation: entries went that the name implies.
+    NameDroveOut,
     /// Step 1: a held datum's interval was disjoint from the new one.
     Disjoint,
     /// Step 1: an entry was not added, since one implies it.
@@ -44,9 +71,22 @@ pub enum Branch {
 }
 
 impl Branch {
-    pub const ALL: [Branch; 15] = [
+    pub const ALL: [Branch; 28] = [
         Branch::Struck,
         Branch::True,
+        Branch::SavedFirst,
+        Branch::Tested,
+        Branch::Violated,
+        Branch::ByPrevious,
+        Branch::ByAhead,
+        Branch::ByBehind,
+        Branch::AtBound,
+        Branch::OwnBack,
+        Branch::SenderBack,
+        Branch::Tie,
+        Branch::NameImplied,
+        Branch::NameAdded,
+        Branch::NameDroveOut,
         Branch::Disjoint,
         Branch::EntryImplied,
         Branch::EntryAdded,
@@ -78,9 +118,16 @@ impl Branches {
     }
 }
 
-/// `monitor_receive`: the state after the receipt, or 24, 25, 21, 10, 12, 11, 13 to 18, 30 to 32.
-pub fn call(lent: &mut [u8], least: u64, greatest: u64, message: &[u8]) -> u32 {
-    call_seen(lent, least, greatest, message, &mut Branches::default())
+/// `monitor_receive`, or `monitor_receive_with_readings` where there are some: the state after the
+/// receipt, or 24, 25, 21, 40, 10, 12, 11, 13 to 18, 30 to 32.
+pub fn call(
+    lent: &mut [u8],
+    least: u64,
+    greatest: u64,
+    readings: Option<Readings>,
+    message: &[u8],
+) -> u32 {
+    call_seen(lent, least, greatest, readings, message, &mut Branches::default())
 }
 
 /// The same, and enters the branches that it came through.
@@ -88,10 +135,11 @@ pub fn call_seen(
     lent: &mut [u8],
     least: u64,
     greatest: u64,
+    readings: Option<Readings>,
     message: &[u8],
     seen: &mut Branches,
 ) -> u32 {
-    match received(lent, least, greatest, message, seen) {
+    match received(lent, least, greatest, readings, message, seen) {
         Ok(state) => state.encode(lent),
         Err(number) => return number,
     }
@@ -102,12 +150,16 @@ fn received(
     lent: &[u8],
     least: u64,
     greatest: u64,
+    readings: Option<Readings>,
     message: &[u8],
     seen: &mut Branches,
 ) -> Result<State, u32> {
     let mut state = State::of(lent)?;
     if least > greatest || greatest > GREATEST_DELAY {
         return Err(refusal::DELAYS);
+    }
+    if readings.is_some_and(|readings| !readings.fit()) {
+        return Err(refusal::READINGS);
     }
     let message = message::read(&message::words_of(message)?)?;
     if message.sender == state.own {
@@ -119,11 +171,18 @@ fn received(
     if predicate.len() > DATUM_TERMS {
         return Err(refusal::NEW_TERMS);
     }
+    let violated = readings.is_some_and(|new| watch(&mut state, message.sender, new, seen));
+    if violated {
+        blame(&mut state, message.sender, seen);
+    }
     let always = holds(0, &predicate);
     seen.enter(Branch::True, always);
     if !always {
-        take(&mut state, Datum { interval, predicate }, seen)?;
+        take(&mut state, Datum { interval, predicate }, seen);
+    } else if violated {
+        clear(&mut state, seen);
     }
+    counted(&state, seen)?;
     Ok(state)
 }
 
@@ -132,13 +191,60 @@ pub fn formed(own: u32, message: &Message) -> Predicate {
     Predicate::sum(&[1 << message.sender], &struck(own, &message.terms))
 }
 
-/// The four steps, and the counts at their end.
-fn take(state: &mut State, new: Datum, seen: &mut Branches) -> Result<(), u32> {
+/// Test (20) against what is saved of the sender; then the triple is saved. Whether it violates.
+fn watch(state: &mut State, sender: u32, new: Readings, seen: &mut Branches) -> bool {
+    let drifts = state.drift + new.drift;
+    let place = &mut state.clocks[sender as usize];
+    seen.enter(Branch::SavedFirst, place.is_none());
+    let Some(saved) = *place else {
+        *place = Some(Saved::first(new.triple));
+        return false;
+    };
+    *place = Some(saved.with(new.triple));
+    enter_test(saved, new.triple, drifts, seen);
+    saved.violated_by(new.triple, drifts)
+}
+
+/// Enters how the test went, and whether there is a tie.
+fn enter_test(saved: Saved, new: Triple, drifts: u32, seen: &mut Branches) {
+    let excesses = saved.excesses(new, drifts);
+    let violated = excesses.map(|excess| excess > 0);
+    seen.enter(Branch::Tested, true);
+    seen.enter(Branch::Violated, violated.contains(&true));
+    seen.enter(Branch::ByPrevious, violated == [true, false, false]);
+    seen.enter(Branch::ByAhead, violated == [false, true, false]);
+    seen.enter(Branch::ByBehind, violated == [false, false, true]);
+    seen.enter(Branch::AtBound, !violated.contains(&true) && excesses.contains(&0));
+    seen.enter(Branch::OwnBack, saved.triples().iter().any(|old| new.b < old.b));
+    seen.enter(Branch::SenderBack, saved.triples().iter().any(|old| new.a < old.a));
+    let ahead = saved.ahead != new && saved.ahead.ahead() == new.ahead();
+    let behind = saved.behind != new && saved.behind.behind() == new.behind();
+    seen.enter(Branch::Tie, ahead || behind);
+}
+
+/// A violation: the sender's name is an entry, placed as in step 1.
+fn blame(state: &mut State, sender: u32, seen: &mut Branches) {
+    let mut placed = Branches::default();
+    add_entry(&mut state.entries, Predicate::of(&[1 << sender]), &mut placed);
+    seen.enter(Branch::NameImplied, placed.has(Branch::EntryImplied));
+    seen.enter(Branch::NameAdded, placed.has(Branch::EntryAdded));
+    seen.enter(Branch::NameDroveOut, placed.has(Branch::EntriesGone));
+}
+
+/// The four steps.
+fn take(state: &mut State, new: Datum, seen: &mut Branches) {
     learn(state, &new, seen);
-    if !explain(state, &new, seen) {
+    clear(state, seen);
+    let ends = explained(&new.predicate, &state.entries);
+    seen.enter(Branch::NewExplained, ends);
+    if !ends {
         let new = meet(state, new, seen);
         store(state, new, seen);
     }
+}
+
+/// The counts at the end.
+fn counted(state: &State, seen: &mut Branches) -> Result<(), u32> {
     let (data, entries) = (state.held.len() > MOST_DATA, state.entries.len() > MOST_ENTRIES);
     seen.enter(Branch::TooManyData, data);
     seen.enter(Branch::TooManyEntries, entries);
@@ -171,15 +277,12 @@ fn add_entry(entries: &mut Vec<Predicate>, entry: Predicate, seen: &mut Branches
     seen.enter(Branch::EntriesOver, entries.len() > MOST_ENTRIES);
 }
 
-/// Step 2: held data that an entry explains go. Whether one explains the new datum too.
-fn explain(state: &mut State, new: &Datum, seen: &mut Branches) -> bool {
+/// Step 2: held data that an entry explains go.
+fn clear(state: &mut State, seen: &mut Branches) {
     let State { held, entries, .. } = state;
     let count = held.len();
     held.retain(|datum| !explained(&datum.predicate, entries));
-    let ends = explained(&new.predicate, entries);
     seen.enter(Branch::HeldExplained, held.len() < count);
-    seen.enter(Branch::NewExplained, ends);
-    ends
 }
 
 /// Whether p is implied by one entry.

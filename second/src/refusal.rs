@@ -1,4 +1,5 @@
-//! The numbers that calls return (document 01, "Who can cause which refusal").
+//! The numbers that calls return (document 01, "Who can cause which refusal";
+//! document 02).
 
 /// Not a refusal.
 pub const TAKEN: u32 = 0;
@@ -52,3 +53,7 @@ pub const PASSES_END: u32 = 30;
 pub const NEW_TERMS: u32 = 31;
 /// Too many data or entries.
 pub const TOO_MANY: u32 = 32;
+
+// The host program's, with clock readings.
+/// A clock reading or half width above the greatest, or the sender's drift.
+pub const READINGS: u32 = 40;

@@ -7,6 +7,7 @@ use crate::predicates::{normal, Term, GREATEST_NAME, NAMES};
 use crate::random::Random;
 
 pub mod climbing;
+pub mod clocks;
 pub mod loads;
 pub mod runs;
 pub mod states;

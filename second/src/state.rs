@@ -1,13 +1,14 @@
-//! The state and its bytes (document 01, "State bytes").
+//! The state and its bytes (document 01, "State bytes"; document 02, W-201).
 
+use crate::clocks::{Saved, Triple, GREATEST_CLOCK};
 use crate::instants::{Interval, GREATEST_END};
-use crate::predicates::{is_normal, Predicate, Term, ALL_NAMES, GREATEST_NAME};
+use crate::predicates::{is_normal, Predicate, Term, ALL_NAMES, GREATEST_NAME, NAMES};
 use crate::refusal;
 
 // ---- sizes and places: no other file has their numbers
 
 /// How many bytes a state has.
-pub const STATE_BYTES: usize = entry_at(MOST_ENTRIES);
+pub const STATE_BYTES: usize = clock_at(NAMES);
 pub const GREATEST_DRIFT: u32 = 1_000;
 pub const GREATEST_READING: u64 = (1 << 58) - 1;
 pub const MOST_DATA: usize = 16;
@@ -25,6 +26,7 @@ pub const HELD_COUNT_AT: usize = 16;
 pub const ENTRY_COUNT_AT: usize = 20;
 pub const DATA_AT: usize = 24;
 pub const ENTRIES_AT: usize = datum_at(MOST_DATA);
+pub const CLOCKS_AT: usize = entry_at(MOST_ENTRIES);
 
 // In a datum: its left end stands first, and from the term count on it is as an entry.
 pub const RIGHT_AT: usize = 8;
@@ -36,19 +38,30 @@ pub const MASKS_AT: usize = 4;
 pub const MASK_BYTES: usize = 4;
 pub const ENTRY_BYTES: usize = MASKS_AT + MASK_BYTES * ENTRY_TERMS;
 
+// In a name's place: a flag stands first, then the three triples.
+pub const TRIPLES_AT: usize = 4;
+pub const TRIPLE_BYTES: usize = 3 * 8;
+pub const CLOCK_BYTES: usize = TRIPLES_AT + 3 * TRIPLE_BYTES;
+
 /// Where the datum of a position begins; behind the last one the entries do.
 pub const fn datum_at(position: usize) -> usize {
     DATA_AT + DATUM_BYTES * position
 }
 
-/// Where the entry of a position begins; behind the last one the state ends.
+/// Where the entry of a position begins; behind the last one the names' places do.
 pub const fn entry_at(position: usize) -> usize {
     ENTRIES_AT + ENTRY_BYTES * position
 }
 
-// The sums as document 01 has them.
-const _: () = assert!(DATUM_BYTES == 52 && ENTRY_BYTES == 68);
-const _: () = assert!(ENTRIES_AT == 856 && STATE_BYTES == 3_032);
+/// Where the place of a name begins, for what is saved of its clock; behind the last one the state
+/// ends.
+pub const fn clock_at(name: u32) -> usize {
+    CLOCKS_AT + CLOCK_BYTES * name as usize
+}
+
+// The sums as documents 01 and 02 have them.
+const _: () = assert!(DATUM_BYTES == 52 && ENTRY_BYTES == 68 && CLOCK_BYTES == 76);
+const _: () = assert!(ENTRIES_AT == 856 && CLOCKS_AT == 3_032 && STATE_BYTES == 5_236);
 
 // ---- states
 
@@ -75,12 +88,18 @@ pub struct State {
     pub held: Vec<Datum>,
     /// Oldest first.
     pub entries: Vec<Predicate>,
+    pub clocks: Clocks,
 }
+
+/// What is saved of each name's clock; the own one's place is like the others.
+pub type Clocks = [Option<Saved>; NAMES as usize];
+/// Nothing is saved.
+pub const NO_CLOCKS: Clocks = [None; NAMES as usize];
 
 impl State {
     /// A state that holds nothing.
     pub fn fresh(own: u32, drift: u32, reading: u64) -> State {
-        State { own, drift, reading, held: vec![], entries: vec![] }
+        State { own, drift, reading, held: vec![], entries: vec![], clocks: NO_CLOCKS }
     }
 
     /// The state in lent bytes, or 24 and 25 in this order.
@@ -97,6 +116,7 @@ impl State {
             reading: head.reading,
             held: data_rows(bytes)[..head.held].iter().map(datum).collect(),
             entries: entry_rows(bytes)[..head.entries].iter().map(|row| predicate(row)).collect(),
+            clocks: std::array::from_fn(|name| saved(&clock_rows(bytes)[name])),
         }
     }
 
@@ -110,12 +130,18 @@ impl State {
         put_u32(bytes, HELD_COUNT_AT, self.held.len() as u32);
         put_u32(bytes, ENTRY_COUNT_AT, self.entries.len() as u32);
         let (data, entries) = bytes.split_at_mut(ENTRIES_AT);
+        let (entries, clocks) = entries.split_at_mut(CLOCKS_AT - ENTRIES_AT);
         for (row, datum) in data[DATA_AT..].chunks_exact_mut(DATUM_BYTES).zip(&self.held) {
             put_ends(row, datum.interval);
             put_predicate(&mut row[TERM_COUNT_AT..], &datum.predicate);
         }
         for (row, entry) in entries.chunks_exact_mut(ENTRY_BYTES).zip(&self.entries) {
             put_predicate(row, entry);
+        }
+        for (row, clock) in clocks.chunks_exact_mut(CLOCK_BYTES).zip(&self.clocks) {
+            if let Some(saved) = clock {
+                put_saved(row, saved);
+            }
         }
     }
 
@@ -174,6 +200,7 @@ pub fn in_form(bytes: &[u8; STATE_BYTES]) -> bool {
         && all_zero(no_entries.as_flattened())
         && data.iter().all(|row| datum_in_form(row, head.own))
         && entries.iter().all(|row| terms_in_form(row, head.own))
+        && clock_rows(bytes).iter().all(clock_in_form)
 }
 
 fn datum_in_form(row: &[u8; DATUM_BYTES], own: u32) -> bool {
@@ -199,6 +226,18 @@ fn terms_in_form(field: &[u8], own: u32) -> bool {
         && unused.iter().fold(0, |any, &mask| any | mask) == 0
 }
 
+/// Whether a name's place is: flag 0 and nothing, or flag 1 and nine numbers in their range, in
+/// whatever order.
+fn clock_in_form(row: &[u8; CLOCK_BYTES]) -> bool {
+    // The range ends at a power of 2, so that the bits of all numbers tell.
+    let any = row[TRIPLES_AT..].as_chunks().0.iter().fold(0, |any, &n| any | u64::from_le_bytes(n));
+    match u32_at(row, 0) {
+        0 => any == 0,
+        1 => any <= GREATEST_CLOCK,
+        _ => false,
+    }
+}
+
 /// Whether every byte is; all of them are looked at, which is faster than stopping.
 fn all_zero(bytes: &[u8]) -> bool {
     bytes.iter().fold(0, |any, &byte| any | byte) == 0
@@ -212,6 +251,10 @@ pub fn data_rows(bytes: &[u8; STATE_BYTES]) -> &[[u8; DATUM_BYTES]] {
 
 pub fn entry_rows(bytes: &[u8; STATE_BYTES]) -> &[[u8; ENTRY_BYTES]] {
     bytes[ENTRIES_AT..entry_at(MOST_ENTRIES)].as_chunks().0
+}
+
+fn clock_rows(bytes: &[u8; STATE_BYTES]) -> &[[u8; CLOCK_BYTES]] {
+    bytes[CLOCKS_AT..].as_chunks().0
 }
 
 /// The rows of the held data in bytes that are in form, to change their ends.
@@ -274,6 +317,26 @@ fn masks(field: &[u8]) -> [Term; ENTRY_TERMS] {
         *mask = u32::from_le_bytes(*place);
     }
     masks
+}
+
+/// What is saved in a name's place that is in form.
+fn saved(row: &[u8; CLOCK_BYTES]) -> Option<Saved> {
+    let [previous, ahead, behind] =
+        [0, 1, 2].map(|i| triple(&row[TRIPLES_AT + TRIPLE_BYTES * i..]));
+    (u32_at(row, 0) == 1).then_some(Saved { previous, ahead, behind })
+}
+
+fn triple(field: &[u8]) -> Triple {
+    Triple { a: u64_at(field, 0), b: u64_at(field, 8), w: u64_at(field, 16) }
+}
+
+fn put_saved(row: &mut [u8], saved: &Saved) {
+    put_u32(row, 0, 1);
+    for (field, triple) in row[TRIPLES_AT..].chunks_exact_mut(TRIPLE_BYTES).zip(saved.triples()) {
+        put_u64(field, 0, triple.a);
+        put_u64(field, 8, triple.b);
+        put_u64(field, 16, triple.w);
+    }
 }
 
 // ---- numbers

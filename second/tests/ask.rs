@@ -115,7 +115,8 @@ fn after(receipts: &[(u32, u64, u64, &[Term])]) -> State {
     for &(sender, left, right, terms) in receipts {
         let message =
             Message { sender, interval: Interval { left, right }, terms: Predicate::of(terms) };
-        let call = Call::Receive { least: 0, greatest: 0, message: message.bytes() };
+        let call =
+            Call::Receive { least: 0, greatest: 0, readings: None, message: message.bytes() };
         let (number, after, _) = call_in(&call, &bytes, 0);
         assert_eq!(number, 0, "{call:?}");
         bytes = after;
@@ -144,7 +145,7 @@ fn listed(line: &str) -> Call {
         ("age", &[reading]) => Call::Age { reading },
         ("get", &[least, greatest, ref words @ ..]) => {
             let words: Vec<u32> = words.iter().map(|&word| word as u32).collect();
-            Call::Receive { least, greatest, message: bytes_of(&words) }
+            Call::Receive { least, greatest, readings: None, message: bytes_of(&words) }
         }
         ("ask", &[limit]) => Call::Ask { limit },
         ("fewest", []) => Call::Fewest,

@@ -1,16 +1,18 @@
 //! Demand 3 over seeded runs: both programs' answers after a run are those that its book gives, set
-//! by set and at every limit, and further receipts make nothing possible that was not.
+//! by set and at every limit, and further receipts make nothing possible that was not. Half of the
+//! receipts bring clock readings, of which the book keeps every sender's whole history.
 
 use second::asking::{answer_bytes, ANSWER_BYTES, GREATEST_LIMIT};
 use second::book::{Book, Line};
 use second::calls::Call;
+use second::clocks::{Readings, Saved, Triple, GREATEST_CLOCK};
 use second::every_set::counting;
 use second::instants::{Instants, Interval};
 use second::lent::Lent;
 use second::message::Message;
 use second::predicates::{holds, Predicate, Term, GREATEST_NAME};
 use second::random::Random;
-use second::receiving::Branches;
+use second::receiving::{Branch, Branches};
 use second::samples::runs::World;
 use second::state::{Datum, State, GREATEST_DRIFT, STATE_BYTES};
 use std::collections::BTreeSet;
@@ -29,6 +31,8 @@ struct Run {
     book: Book,
     /// The calls that were taken after setting up.
     taken: Vec<Call>,
+    /// Of the last call.
+    branches: Branches,
 }
 
 impl Run {
@@ -38,7 +42,8 @@ impl Run {
         let state = Lent::new(&bytes, &mut random);
         // Setting up enters its numbers, whatever is here before.
         let book = Book::new(GREATEST_NAME, GREATEST_DRIFT, 0);
-        let mut run = Run { seed, random, state, book, taken: vec![] };
+        let branches = Branches::default();
+        let mut run = Run { seed, random, state, book, taken: vec![], branches };
         assert_eq!(run.call(&world.set_up()), 0, "seed {seed}");
         run.taken.clear();
         run
@@ -56,7 +61,8 @@ impl Run {
     /// A call by both programs with an output of so many bytes: its number and the output.
     fn both(&mut self, call: &Call, len: usize) -> (u32, Vec<u8>) {
         let mut out = Lent::new(&vec![0; len], &mut self.random);
-        let number = call.both(&mut self.state, &mut out, &mut Branches::default());
+        self.branches = Branches::default();
+        let number = call.both(&mut self.state, &mut out, &mut self.branches);
         let number = number.unwrap_or_else(|fault| {
             let state = State::of(self.state.bytes());
             panic!("seed {}: {fault}: {call:?} in {state:?}", self.seed)
@@ -76,7 +82,8 @@ impl Run {
         answer
     }
 
-    /// Compares the answers, and the instants of each set, with what the book says is possible.
+    /// Compares the answers, and the instants of each set, with what the book says is possible; and
+    /// what is saved of each name with what the book finds in its history.
     fn agrees(&mut self, tally: &mut Tally) {
         for limit in LIMITS {
             let possible = self.book.possible(limit);
@@ -90,6 +97,10 @@ impl Run {
             tally.count(limit, possible);
         }
         let state = self.state();
+        for (name, clock) in (0..).zip(state.clocks) {
+            let found = self.book.saved(name);
+            assert_eq!(clock, found, "seed {}: name {name}: {:?}", self.seed, self.taken);
+        }
         for s in self.book.sets(GREATEST_LIMIT) {
             let reached = self.book.reached(s);
             assert_eq!(
@@ -132,7 +143,15 @@ fn report(text: &str) {
 fn received(sender: u32, left: u64, right: u64, terms: &[Term]) -> Call {
     let message =
         Message { sender, interval: Interval { left, right }, terms: Predicate::of(terms) };
-    Call::Receive { least: 0, greatest: 50, message: message.bytes() }
+    Call::Receive { least: 0, greatest: 50, readings: None, message: message.bytes() }
+}
+
+/// The same from 0 to 10 without terms, with readings.
+fn watched(sender: u32, a: u64, b: u64, w: u64, drift: u32) -> Call {
+    let interval = Interval { left: 0, right: 10 };
+    let message = Message { sender, interval, terms: Predicate::of(&[]) }.bytes();
+    let readings = Some(Readings::of(a, b, w, drift));
+    Call::Receive { least: 0, greatest: 0, readings, message }
 }
 
 #[test]
@@ -151,6 +170,47 @@ fn book_enters_advances_and_what_was_formed() {
         Line::Received(Datum::of(7, 57, &[0])),
     ];
     assert_eq!(book.lines(), lines);
+}
+
+#[test]
+fn book_enters_a_violation_before_what_was_formed() {
+    let mut book = Book::new(5, 0, 0);
+    let heard = Line::Received(Datum::of(0, 10, &[2]));
+    // Nothing is saved; exactly at the bound; one past it.
+    book.enter(&watched(1, 0, 0, 1, 0), 0);
+    book.enter(&watched(1, 100, 102, 1, 0), 0);
+    assert_eq!(book.lines(), [heard.clone(), heard.clone()]);
+    assert_eq!(book.possible(0), Instants::Between(0, 10));
+    book.enter(&watched(1, 200, 203, 1, 0), 0);
+    let lines = [heard.clone(), heard.clone(), Line::Blamed(1), heard];
+    assert_eq!(book.lines(), lines);
+    assert_eq!(book.possible(0), Instants::Empty);
+    assert_eq!(book.possible(1), Instants::All);
+    // The own drift counts too.
+    let mut book = Book::new(5, 100, 0);
+    for call in [watched(1, 0, 0, 0, 100), watched(1, 5_000, 5_001, 0, 100)] {
+        book.enter(&call, 0);
+    }
+    assert!(!book.lines().contains(&Line::Blamed(1)));
+}
+
+#[test]
+fn book_finds_the_three_triples_in_the_whole_history() {
+    let mut book = Book::new(5, 0, 0);
+    assert_eq!(book.saved(1), None);
+    for (a, b, w) in [(4, 0, 1), (10, 6, 1), (10, 14, 0), (20, 25, 1), (21, 27, 0), (22, 22, 0)] {
+        book.enter(&watched(1, a, b, w, 0), 0);
+    }
+    book.enter(&watched(2, 9, 9, 9, 0), 0);
+    let [previous, ahead, behind] = [(22, 22, 0), (4, 0, 1), (20, 25, 1)];
+    let [previous, ahead, behind] = [previous, ahead, behind].map(|(a, b, w)| Triple { a, b, w });
+    assert_eq!(book.saved(1), Some(Saved { previous, ahead, behind }));
+    assert_eq!(book.saved(2), Some(Saved::first(Triple::of(9, 9, 9))));
+    // A refused receipt is not in it, and a setting up starts afresh.
+    book.enter(&watched(1, 90, 9, 9, 0), 32);
+    assert_eq!(book.saved(1), Some(Saved { previous, ahead, behind }));
+    book.enter(&Call::SetUp { own: 5, drift: 0, reading: 0 }, 0);
+    assert_eq!(book.saved(1), None);
 }
 
 #[test]
@@ -181,7 +241,8 @@ fn book_of_the_listing_gives_its_answers() {
         interval: Interval { left: 3_001_000, right: 3_001_000 },
         terms: Predicate::of(&[]),
     };
-    book.enter(&Call::Receive { least: 0, greatest: 0, message: message.bytes() }, 0);
+    let message = message.bytes();
+    book.enter(&Call::Receive { least: 0, greatest: 0, readings: None, message }, 0);
     assert_eq!(book.possible(0), Instants::Empty);
     assert_eq!(book.possible(1), Instants::Between(2_999_800, 3_001_000));
     assert_eq!(book.possible(2), Instants::All);
@@ -203,6 +264,7 @@ fn walked(book: &Book, s: Term) -> BTreeSet<i128> {
             let inside = i128::from(interval.left)..=i128::from(interval.right);
             here.into_iter().filter(|x| inside.contains(x) || holds(s, predicate)).collect()
         }
+        Line::Blamed(name) => here.into_iter().filter(|_| holds(s, &[1 << name])).collect(),
     })
 }
 
@@ -222,7 +284,9 @@ fn small_book(random: &mut Random) -> Book {
             let message =
                 Message { sender, interval: Interval { left, right }, terms: Predicate::of(terms) };
             let (least, greatest) = random.pick(&[(0, 0), (0, 2), (1, 3)]);
-            book.enter(&Call::Receive { least, greatest, message: message.bytes() }, 0);
+            let (a, b, w) = (random.below(6), random.below(6), random.below(2));
+            let readings = random.once_in(2).then_some(Readings::of(a, b, w, 0));
+            book.enter(&Call::Receive { least, greatest, readings, message: message.bytes() }, 0);
         }
     }
     book
@@ -234,15 +298,16 @@ fn unstopped(book: &Book) -> RangeInclusive<i128> {
         Line::Aged { least, greatest } => {
             range.start() + i128::from(*least)..=range.end() + i128::from(*greatest)
         }
-        Line::Received(_) => range,
+        Line::Received(_) | Line::Blamed(_) => range,
     })
 }
 
 #[test]
 fn book_reaches_what_paths_walked_one_by_one_do() {
-    let mut met = [0; 3];
+    let (mut met, mut blamed) = ([0; 3], 0);
     for seed in 0..3_000 {
         let book = small_book(&mut Random::new(seed));
+        blamed += u64::from(book.lines().iter().any(|line| matches!(line, Line::Blamed(_))));
         for s in 0..1 << 4 {
             let walked = walked(&book, s).into_iter();
             let (kind, same) = match book.reached(s) {
@@ -254,25 +319,125 @@ fn book_reaches_what_paths_walked_one_by_one_do() {
             met[kind] += 1;
         }
     }
-    assert!(met.iter().all(|&count| count > 2_000), "{met:?}");
+    assert!(met.iter().all(|&count| count > 2_000) && blamed > 300, "{met:?}, {blamed}");
 }
 
 // ---- the answers
 
+/// What the receipts with readings came to.
+#[derive(Default)]
+struct Watched {
+    receipts: u64,
+    with_readings: u64,
+    /// Of taken receipts.
+    branches: [u64; Branch::ALL.len()],
+    /// Violations of taken receipts: with a true predicate, and such that cleared held data.
+    with_true: u64,
+    cleared: u64,
+    /// Refused 32 after a violation.
+    refused: u64,
+    /// Refused 40 for one flaw alone: a, b, w and the sender's drift.
+    flaws: [u64; 4],
+}
+
+impl Watched {
+    const BRANCHES: [Branch; 13] = [
+        Branch::SavedFirst,
+        Branch::Tested,
+        Branch::Violated,
+        Branch::ByPrevious,
+        Branch::ByAhead,
+        Branch::ByBehind,
+        Branch::AtBound,
+        Branch::OwnBack,
+        Branch::SenderBack,
+        Branch::Tie,
+        Branch::NameImplied,
+        Branch::NameAdded,
+        Branch::NameDroveOut,
+    ];
+
+    fn count(&mut self, call: &Call, number: u32, branches: Branches) {
+        let Call::Receive { readings, .. } = call else {
+            return;
+        };
+        self.receipts += 1;
+        let Some(Readings { triple: Triple { a, b, w }, drift }) = *readings else {
+            return;
+        };
+        self.with_readings += 1;
+        match number {
+            0 => {
+                for branch in Branch::ALL.into_iter().filter(|&branch| branches.has(branch)) {
+                    self.branches[branch as usize] += 1;
+                }
+                let violated = |branch| branches.has(Branch::Violated) && branches.has(branch);
+                self.with_true += u64::from(violated(Branch::True));
+                self.cleared += u64::from(violated(Branch::HeldExplained));
+            }
+            32 => self.refused += u64::from(branches.has(Branch::NameAdded)),
+            40 => {
+                let past = |number: u64| number > GREATEST_CLOCK;
+                let flaws = [past(a), past(b), past(w), drift > GREATEST_DRIFT];
+                if flaws.iter().filter(|&&flaw| flaw).count() == 1 {
+                    (0..4).for_each(|i| self.flaws[i] += u64::from(flaws[i]));
+                }
+            }
+            _ => {}
+        }
+    }
+
+    /// Prints the counts, and checks that each is enough.
+    fn check(&self, enough: u64) {
+        let branches = Watched::BRANCHES.map(|b| (format!("{b:?}"), self.branches[b as usize]));
+        let more = [
+            ("violated with a true predicate", self.with_true),
+            ("held data cleared", self.cleared),
+            ("32 by a violation", self.refused),
+            ("40 by a", self.flaws[0]),
+            ("40 by b", self.flaws[1]),
+            ("40 by w", self.flaws[2]),
+            ("40 by the drift", self.flaws[3]),
+        ];
+        let more = more.map(|(what, count)| (what.to_string(), count));
+        let all: Vec<(String, u64)> = branches.into_iter().chain(more).collect();
+        let texts: Vec<String> =
+            all.iter().map(|(what, count)| format!("{what} {count}")).collect();
+        let (with, receipts) = (self.with_readings, self.receipts);
+        report(&format!("{receipts} receipts, {with} with readings: {}\n", texts.join(", ")));
+        assert!(receipts.abs_diff(2 * with) < receipts / 50, "half of the receipts have readings");
+        for (what, count) in all {
+            assert!(count >= enough, "{what} came {count} times");
+        }
+    }
+}
+
+/// What a run is drawn from, how many steps it has, and that once in so many it is compared with its
+/// book on the way: few names and small numbers, or now and then crowded places, so that all rows fill.
+fn drawn(random: &mut Random) -> (World, u64, u64) {
+    if random.once_in(10) {
+        (World::crowded(random), 60 + random.below(60), 100)
+    } else {
+        (World::small(random), random.below(40), 10)
+    }
+}
+
 #[test]
 fn book_of_a_run_gives_the_answers() {
-    let (mut tally, mut steps, mut refused) = (Tally::default(), 0, 0);
+    let (mut tally, mut watched) = (Tally::default(), Watched::default());
+    let (mut steps, mut refused) = (0, 0);
     for seed in 0..20_000 {
         let mut random = Random::new(seed);
-        let world = World::small(&mut random);
+        let (world, count, times) = drawn(&mut random);
         let mut run = Run::new(seed, random, &world);
-        for _ in 0..run.random.below(40) {
+        for _ in 0..count {
             let state = run.state();
             let step = world.step(&mut run.random, &state);
             let number = run.call(&step);
+            watched.count(&step, number, run.branches);
             steps += 1;
             refused += u64::from(number != 0);
-            if run.random.once_in(10) {
+            if run.random.once_in(times) {
                 run.agrees(&mut tally);
             }
         }
@@ -283,6 +448,7 @@ fn book_of_a_run_gives_the_answers() {
          between by limit {:?}\n",
         tally.0
     ));
+    watched.check(200);
     assert!(tally.least() >= 1_000, "too few of an answer");
     assert!(steps >= 300_000 && refused >= 50_000, "too few steps or refusals");
 }
@@ -300,8 +466,8 @@ fn instants(answer: &[u8]) -> Instants {
     }
 }
 
-/// Runs P and Q, set up alike: Q is drawn, and P makes the same steps without some receipts. None
-/// if their taken steps do not differ in further receipts alone.
+/// Runs P and Q, set up alike: Q is drawn, and P makes the same steps without some receipts, which
+/// come without readings. None if their taken steps do not differ in further receipts alone.
 fn further(seed: u64) -> Option<(Run, Run)> {
     let mut random = Random::new(seed);
     let world = World::small(&mut random);
@@ -311,10 +477,11 @@ fn further(seed: u64) -> Option<(Run, Run)> {
     for _ in 0..q.random.below(40) {
         let state = q.state();
         let step = world.step(&mut q.random, &state);
-        let taken = q.call(&step) == 0;
         if matches!(step, Call::Receive { .. }) && q.random.once_in(3) {
+            q.call(&step.without_readings());
             continue;
         }
+        let taken = q.call(&step) == 0;
         p.call(&step);
         if taken {
             shared.push(step);

@@ -4,6 +4,7 @@
 use second::ageing::advance;
 use second::asking::GREATEST_LIMIT;
 use second::calls::Call;
+use second::clocks::{Saved, Triple};
 use second::every_set::{ask, counting, fewest};
 use second::instants::{Instants, Interval};
 use second::message::{self, Message, MESSAGE_BYTES};
@@ -13,8 +14,9 @@ use second::receiving::Branches;
 use second::samples::runs::World;
 use second::samples::states;
 use second::state::{
-    self, datum_at, entry_at, Datum, State, DRIFT_AT, ENTRY_COUNT_AT, HELD_COUNT_AT, MASKS_AT,
-    MASK_BYTES, OWN_AT, READING_AT, RIGHT_AT, STATE_BYTES, TERM_COUNT_AT,
+    self, clock_at, datum_at, entry_at, Datum, State, DRIFT_AT, ENTRY_COUNT_AT, HELD_COUNT_AT,
+    MASKS_AT, MASK_BYTES, NO_CLOCKS, OWN_AT, READING_AT, RIGHT_AT, STATE_BYTES, TERM_COUNT_AT,
+    TRIPLES_AT, TRIPLE_BYTES,
 };
 use second::{ageing, receiving, set_up};
 
@@ -29,7 +31,7 @@ fn set_up(own: u32, drift: u32) -> Vec<u8> {
 fn get(bytes: &mut [u8], sender: u32, left: u64, right: u64, terms: &[Term]) {
     let message =
         Message { sender, interval: Interval { left, right }, terms: Predicate::of(terms) };
-    assert_eq!(receiving::call(bytes, 0, 0, &message.bytes()), 0);
+    assert_eq!(receiving::call(bytes, 0, 0, None, &message.bytes()), 0);
 }
 
 /// What the bytes hold.
@@ -98,12 +100,12 @@ fn case_advance_of_one_microsecond_is_0_and_2_and_of_none_0_and_0() {
 fn case_listing_holds_what_its_answers_say() {
     let mut bytes = set_up(5, 100);
     let words = [536870913, 1073741824, 1074741824, 1610612736, 1611612936, 3760096585];
-    assert_eq!(receiving::call(&mut bytes, 0, 50, &message::bytes_of(&words)), 0);
+    assert_eq!(receiving::call(&mut bytes, 0, 50, None, &message::bytes_of(&words)), 0);
     assert_eq!(held(&bytes), (vec![Datum::of(1_000_000, 1_000_250, &[2])], vec![]));
     assert_eq!(ageing::call(&mut bytes, 2_000_000), 0);
     assert_eq!(held(&bytes), (vec![Datum::of(2_999_800, 3_000_450, &[2])], vec![]));
     let words = [536870914, 1073741824, 1076742824, 1610612736, 1613613736, 3764098386];
-    assert_eq!(receiving::call(&mut bytes, 0, 0, &message::bytes_of(&words)), 0);
+    assert_eq!(receiving::call(&mut bytes, 0, 0, None, &message::bytes_of(&words)), 0);
     let data = vec![Datum::of(2_999_800, 3_000_450, &[2]), Datum::of(3_001_000, 3_001_000, &[4])];
     assert_eq!(held(&bytes), (data, vec![Predicate::of(&[2, 4])]));
 }
@@ -112,7 +114,15 @@ fn case_listing_holds_what_its_answers_say() {
 
 /// Every number of the layout at its place, whose number is in the state's module alone.
 #[test]
-fn bytes_of_a_state_stand_where_document_01_puts_them() {
+fn bytes_of_a_state_stand_where_the_papers_put_them() {
+    let mut clocks = NO_CLOCKS;
+    clocks[2] = Some(Saved {
+        previous: Triple::of(1, 2, 3),
+        ahead: Triple::of(4, 5, 6),
+        behind: Triple::of(7, 8, 0x0706_0504_0302),
+    });
+    // The own name's place may be in use too.
+    clocks[27] = Some(Saved::first(Triple::of(0, 0, 0)));
     let state = State {
         own: 27,
         drift: 0x0302,
@@ -122,6 +132,7 @@ fn bytes_of_a_state_stand_where_document_01_puts_them() {
             Datum::of(0x0201, 0x03_0201, &[0x0102_0304, 0x1000_0000]),
         ],
         entries: vec![Predicate::of(&[8]), Predicate::of(&[0x0504_0302])],
+        clocks,
     };
     let mut bytes = vec![0; STATE_BYTES];
     let mut put =
@@ -144,6 +155,14 @@ fn bytes_of_a_state_stand_where_document_01_puts_them() {
     put(entry_at(0) + MASKS_AT, &[8]);
     put(entry_at(1), &[1]);
     put(entry_at(1) + MASKS_AT, &[2, 3, 4, 5]);
+    put(clock_at(2), &[1]);
+    for (i, triple) in [[1, 2, 3], [4, 5, 6], [7, 8, 2]].into_iter().enumerate() {
+        for (j, number) in triple.into_iter().enumerate() {
+            put(clock_at(2) + TRIPLES_AT + TRIPLE_BYTES * i + 8 * j, &[number]);
+        }
+    }
+    put(clock_at(2) + TRIPLES_AT + TRIPLE_BYTES * 2 + 16, &[2, 3, 4, 5, 6, 7]);
+    put(clock_at(27), &[1]);
     assert_eq!(state.bytes(), bytes);
     assert_eq!(State::of(&bytes), Ok(state));
 }
@@ -166,13 +185,14 @@ fn bytes_in_form_come_back_after_decoding_and_encoding() {
 
 // ---- what a run leaves true
 
-/// The datum that a message is to its receiver.
-fn received(own: u32, least: u64, greatest: u64, message: &[u8]) -> Datum {
+/// The sender of a message, and the datum that it is to its receiver.
+fn received(own: u32, least: u64, greatest: u64, message: &[u8]) -> (u32, Datum) {
     let words = message::words_of(message).expect("whole words");
     let message = message::read(&words).expect("a sound message");
     let Interval { left, right } = message.interval;
-    let p = Predicate::sum(&[1 << message.sender], &struck(own, &message.terms));
-    Datum { interval: Interval { left: left + least, right: right + greatest }, predicate: p }
+    let predicate = Predicate::sum(&[1 << message.sender], &struck(own, &message.terms));
+    let interval = Interval { left: left + least, right: right + greatest };
+    (message.sender, Datum { interval, predicate })
 }
 
 /// Runs a call, and checks that a refusal changes nothing and that the bytes stay in form.
@@ -191,21 +211,38 @@ fn sets(own: u32) -> impl Iterator<Item = Term> {
     (0..1 << 5).filter(move |s| s >> own & 1 == 0)
 }
 
-/// What a taken receipt leaves: for each set just the instants that it had and the message allows.
-fn receipt_says_what_its_message_does(seed: u64, call: &Call, before: &State, after: &State) {
-    if let Call::Receive { least, greatest, message } = call {
-        let new = received(before.own, *least, *greatest, message);
-        for s in sets(before.own) {
-            let had = counting(s, before);
-            let wanted = if holds(s, &new.predicate) { had } else { had.meet(new.interval) };
-            assert_eq!(counting(s, after), wanted, "seed {seed}: set {s}, {call:?} in {before:?}");
-        }
+/// What a taken receipt leaves: for each set just the instants that it had and the message allows,
+/// and none where the sender's clock violates test (20) and the set does not hold the sender. Whether
+/// it does.
+fn receipt_says_what_its_message_does(
+    seed: u64,
+    call: &Call,
+    before: &State,
+    after: &State,
+) -> bool {
+    let Call::Receive { least, greatest, readings, message } = call else {
+        return false;
+    };
+    let (sender, new) = received(before.own, *least, *greatest, message);
+    let saved = before.clocks[sender as usize].zip(*readings);
+    let violated = saved.is_some_and(|(saved, readings)| {
+        saved.violated_by(readings.triple, before.drift + readings.drift)
+    });
+    for s in sets(before.own) {
+        let had = counting(s, before);
+        let wanted = match (violated && s >> sender & 1 == 0, holds(s, &new.predicate)) {
+            (true, _) => Instants::Empty,
+            (false, true) => had,
+            (false, false) => had.meet(new.interval),
+        };
+        assert_eq!(counting(s, after), wanted, "seed {seed}: set {s}, {call:?} in {before:?}");
     }
+    violated
 }
 
 #[test]
 fn receipts_in_runs_say_what_their_messages_do() {
-    let mut taken = 0;
+    let (mut taken, mut violated) = (0, 0);
     for seed in 0..20_000 {
         let mut random = Random::new(seed);
         let world = World::small(&mut random);
@@ -216,7 +253,8 @@ fn receipts_in_runs_say_what_their_messages_do() {
             let call = world.call(&mut random, &before);
             if checked(&call, &mut bytes, seed) == 0 {
                 let after = State::of(&bytes).expect("a state in form");
-                receipt_says_what_its_message_does(seed, &call, &before, &after);
+                let blamed = receipt_says_what_its_message_does(seed, &call, &before, &after);
+                violated += u64::from(blamed);
                 taken += u64::from(matches!(call, Call::Receive { .. }));
                 // What disjoint intervals taught is in the entries: the data left agree.
                 let learnt = |s| {
@@ -227,12 +265,12 @@ fn receipts_in_runs_say_what_their_messages_do() {
             }
         }
     }
-    assert!(taken > 100_000, "only {taken} receipts");
+    assert!(taken > 100_000 && violated > 3_000, "only {taken} receipts, {violated} violations");
 }
 
 #[test]
 fn receipts_in_any_state_in_form_say_what_their_messages_do() {
-    let mut taken = 0;
+    let (mut taken, mut violated) = (0, 0);
     for seed in 0..50_000 {
         let mut random = Random::new(seed);
         let before = states::in_form(&mut random);
@@ -240,11 +278,12 @@ fn receipts_in_any_state_in_form_say_what_their_messages_do() {
         let mut bytes = before.bytes();
         if checked(&call, &mut bytes, seed) == 0 {
             let after = State::of(&bytes).expect("a state in form");
-            receipt_says_what_its_message_does(seed, &call, &before, &after);
+            let blamed = receipt_says_what_its_message_does(seed, &call, &before, &after);
+            violated += u64::from(blamed);
             taken += u64::from(matches!(call, Call::Receive { .. }));
         }
     }
-    assert!(taken > 10_000, "only {taken} receipts");
+    assert!(taken > 10_000 && violated > 300, "only {taken} receipts, {violated} violations");
 }
 
 // ---- asking, instant by instant

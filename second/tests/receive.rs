@@ -23,7 +23,7 @@ fn receive_in(bytes: &[u8], delays: (u64, u64), message: &[u8]) -> (u32, Vec<u8>
         &mut state,
         &mut none,
         [STATE_BYTES, 0],
-        |bytes, _| receiving::call_seen(bytes, least, greatest, message, &mut branches),
+        |bytes, _| receiving::call_seen(bytes, least, greatest, None, message, &mut branches),
         |bytes, _| engine::monitor_receive(bytes, least, greatest, message),
     );
     let case = || format!("monitor_receive {delays:?} {message:?} in {:?}", State::of(bytes));

@@ -17,10 +17,11 @@ use std::io::Write as _;
 // ---- what was reached
 
 /// What each call can return.
-const NUMBERS: [&[u32]; 6] = [
+const NUMBERS: [&[u32]; 7] = [
     &[0, 1, 2, 3, 24],
     &[0, 3, 20, 24, 25, 30],
     &[0, 10, 11, 12, 13, 14, 15, 16, 17, 18, 21, 24, 25, 30, 31, 32],
+    &[0, 10, 11, 12, 13, 14, 15, 16, 17, 18, 21, 24, 25, 30, 31, 32, 40],
     &[0, 23, 24, 25],
     &[0, 22, 24, 25],
     &[0, 24, 25],
@@ -36,11 +37,13 @@ const ENOUGH: u64 = 100;
 struct Seen {
     runs: u64,
     /// By call and number.
-    numbers: [BTreeMap<u32, u64>; 6],
+    numbers: [BTreeMap<u32, u64>; 7],
     /// Of taken receipts; of refused ones those that say why.
     branches: [u64; Branch::ALL.len()],
     /// Refused 32 although the receipt ended at step 2.
     crowded_at_step_2: u64,
+    /// Refused 32 after a violation.
+    crowded_by_violation: u64,
     /// Taken receipts that left all places for data, or for entries, in use.
     all_data: u64,
     all_entries: u64,
@@ -55,8 +58,9 @@ impl Seen {
                 self.branches[branch as usize] += 1;
             }
         }
-        if number == 32 && branches.has(Branch::NewExplained) {
-            self.crowded_at_step_2 += 1;
+        if number == 32 {
+            self.crowded_at_step_2 += u64::from(branches.has(Branch::NewExplained));
+            self.crowded_by_violation += u64::from(branches.has(Branch::NameAdded));
         }
         if number == 0 && matches!(call, Call::Receive { .. }) {
             self.all_data += u64::from(usize::from(state[HELD_COUNT_AT]) == MOST_DATA);
@@ -78,6 +82,7 @@ impl Seen {
         let counts: Vec<String> = counts.map(|(b, count)| format!("{b:?} {count}")).collect();
         let more = [
             ("32 at step 2", self.crowded_at_step_2),
+            ("32 by a violation", self.crowded_by_violation),
             ("left with the most data", self.all_data),
             ("with the most entries", self.all_entries),
         ];
@@ -234,7 +239,8 @@ fn runs_that_fill_all_places_are_answered_alike() {
         Run::new(seed, random, world, &mut seen).start_set_up(steps);
     }
     seen.check("many names and crowded places", &[]);
-    for count in [seen.crowded_at_step_2, seen.all_data, seen.all_entries] {
+    let [step_2, violation] = [seen.crowded_at_step_2, seen.crowded_by_violation];
+    for count in [step_2, violation, seen.all_data, seen.all_entries] {
         assert!(count >= ENOUGH, "too seldom full");
     }
 }

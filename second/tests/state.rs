@@ -1,20 +1,24 @@
 //! The state's bytes in every call, by both programs: each condition of the form broken on its own,
-//! every bit flipped, lengths, and any bytes.
+//! every bit flipped, damaged places of the senders' clocks, lengths, and any bytes.
 
+use second::asking::ANSWER_BYTES;
 use second::calls::Call;
+use second::clocks::{Readings, Saved, Triple, GREATEST_CLOCK};
 use second::instants::{Interval, GREATEST_END};
 use second::lent::Lent;
 use second::message::{Message, MESSAGE_BYTES};
 use second::predicates::{Predicate, Term, ALL_NAMES, GREATEST_NAME, NAMES};
 use second::random::Random;
 use second::receiving::Branches;
-use second::samples::states;
+use second::samples::{clocks, states};
 use second::state::{
-    datum_at, entry_at, Datum, State, DATUM_BYTES, DATUM_TERMS, DRIFT_AT, ENTRY_BYTES,
-    ENTRY_COUNT_AT, ENTRY_TERMS, GREATEST_DRIFT, GREATEST_READING, HELD_COUNT_AT, MASKS_AT,
-    MASK_BYTES, MOST_DATA, MOST_ENTRIES, OWN_AT, READING_AT, RIGHT_AT, STATE_BYTES, TERM_COUNT_AT,
+    clock_at, datum_at, entry_at, Datum, State, CLOCK_BYTES, DATUM_BYTES, DATUM_TERMS, DRIFT_AT,
+    ENTRY_BYTES, ENTRY_COUNT_AT, ENTRY_TERMS, GREATEST_DRIFT, GREATEST_READING, HELD_COUNT_AT,
+    MASKS_AT, MASK_BYTES, MOST_DATA, MOST_ENTRIES, OWN_AT, READING_AT, RIGHT_AT, STATE_BYTES,
+    TERM_COUNT_AT, TRIPLES_AT,
 };
 use std::collections::BTreeMap;
+use std::io::Write as _;
 
 // ---- what is compared
 
@@ -27,20 +31,28 @@ fn number(bytes: &[u8], call: &Call, len: usize) -> u32 {
     number.unwrap_or_else(|fault| panic!("{fault}: {call:?} in {:?}", State::of(bytes)))
 }
 
-/// Those that look at the state, with arguments that any state in form takes.
-fn sound_calls(bytes: &[u8]) -> [Call; 2] {
+/// Those that look at the state, with arguments that any state in form takes, unless the readings
+/// violate test (20) and there is no place for an entry.
+fn sound_calls(bytes: &[u8]) -> [Call; 3] {
     let reading = u64::from_le_bytes(*bytes[READING_AT..].first_chunk().expect("eight bytes"));
     let sender = u32::from(bytes[OWN_AT] == 1) + 1;
     let interval = Interval { left: 0, right: 9 };
     let message = Message { sender, interval, terms: Predicate::of(&[0]) }.bytes();
-    [Call::Age { reading }, Call::Receive { least: 0, greatest: 0, message }]
+    let readings = Some(Readings::of(7, 7, GREATEST_CLOCK, GREATEST_DRIFT));
+    let receive = |readings| {
+        let message = message.clone();
+        Call::Receive { least: 0, greatest: 0, readings, message }
+    };
+    [Call::Age { reading }, receive(None), receive(readings)]
 }
 
 /// Those that look at the state, with flaws that are tested later.
-fn flawed_calls() -> [Call; 3] {
+fn flawed_calls() -> [Call; 4] {
+    let past = Some(Readings::of(u64::MAX, u64::MAX, u64::MAX, u32::MAX));
     [
         Call::Age { reading: GREATEST_READING + 1 },
-        Call::Receive { least: 1, greatest: 0, message: vec![] },
+        Call::Receive { least: 1, greatest: 0, readings: None, message: vec![] },
+        Call::Receive { least: 0, greatest: 0, readings: past, message: vec![] },
         Call::Write { position: 99 },
     ]
 }
@@ -65,9 +77,13 @@ fn out_of_form(bytes: &[u8]) {
 
 fn in_form(bytes: &[u8]) {
     let held = bytes[HELD_COUNT_AT].into();
-    for call in sound_calls(bytes) {
+    let [age, receive, with_readings] = sound_calls(bytes);
+    for call in [age, receive] {
         assert_eq!(number(bytes, &call, 0), 0, "{call:?}");
     }
+    let full = usize::from(bytes[ENTRY_COUNT_AT]) == MOST_ENTRIES;
+    let number_with = number(bytes, &with_readings, 0);
+    assert!(number_with == 0 || full && number_with == 32, "{with_readings:?}");
     for position in 0..=MOST_DATA as u64 {
         let wanted = if position < held { 0 } else { 23 };
         assert_eq!(number(bytes, &Call::Write { position }, MESSAGE_BYTES), wanted);
@@ -103,8 +119,21 @@ fn full_of_few() -> State {
     rows(&[3; MOST_DATA], &[2; MOST_ENTRIES])
 }
 
-fn all() -> [State; 4] {
-    [State::fresh(0, 0, 0), some(), full(), full_of_few()]
+/// With something saved of the names 0, 1 and 28, and at the own name's place.
+fn watched() -> State {
+    let mut state = some();
+    for (name, a) in [(0, 0), (1, 1_000), (5, 5), (28, GREATEST_CLOCK - 9)] {
+        let saved = Saved::first(Triple::of(a, a + 2, 8)).with(Triple::of(a + 3, a + 9, 4));
+        state.clocks[name] = Some(saved.with(Triple::of(a + 9, a + 8, 4)));
+    }
+    state
+}
+
+/// How many names have something saved there.
+const WATCHED: usize = 4;
+
+fn all() -> [State; 5] {
+    [State::fresh(0, 0, 0), some(), full(), full_of_few(), watched()]
 }
 
 /// The place of a datum's term count.
@@ -127,7 +156,11 @@ fn state_all_zero_is_in_form() {
     in_form(&zeros);
     let interval = Interval { left: 1, right: 2 };
     let message = Message { sender: 1, interval, terms: Predicate::of(&[]) }.bytes();
-    assert_eq!(number(&zeros, &Call::Receive { least: 0, greatest: 0, message }, 0), 0);
+    for readings in [None, Some(Readings::of(3, 4, 5, 6))] {
+        let message = message.clone();
+        let receive = Call::Receive { least: 0, greatest: 0, readings, message };
+        assert_eq!(number(&zeros, &receive, 0), 0);
+    }
     assert_eq!(number(&zeros, &Call::Age { reading: GREATEST_END }, 0), 0);
 }
 
@@ -315,8 +348,16 @@ fn state_ninth_term_that_fits_is_25() {
         out_of_form(&changed(&state, term_count_at(MOST_DATA - 1), &count.to_le_bytes()));
     }
     let seventeenth = ENTRY_TERMS as u32 + 1;
-    let bytes = changed(&full(), entry_at(MOST_ENTRIES - 1), &seventeenth.to_le_bytes());
-    refused(&[&bytes[..], &(1u32 << 25).to_le_bytes()].concat(), 25);
+    let last = changed(&full(), entry_at(MOST_ENTRIES - 1), &seventeenth.to_le_bytes());
+    out_of_form(&last);
+    // Behind the last entry stands the flag of name 0, which would do as a seventeenth term.
+    let mut state = full();
+    state.own = GREATEST_NAME;
+    state.entries[MOST_ENTRIES - 1] = Predicate::of(&[2 | 1 << 8]);
+    state.clocks[0] = Some(Saved::first(Triple::of(0, 0, 0)));
+    in_form(&state.bytes());
+    out_of_form(&changed(&state, entry_at(MOST_ENTRIES - 1), &2u32.to_le_bytes()));
+    out_of_form(&changed(&state, entry_at(MOST_ENTRIES - 1), &seventeenth.to_le_bytes()));
 }
 
 #[test]
@@ -420,6 +461,10 @@ fn unused(state: &State) -> Vec<usize> {
     for (i, entry) in state.entries.iter().enumerate() {
         places.extend(behind(entry_at(i), entry)..entry_at(i + 1));
     }
+    for name in (0..NAMES).filter(|&name| state.clocks[name as usize].is_none()) {
+        // The flag's first byte is left out: with 1 there the place is in use.
+        places.extend(clock_at(name) + 1..clock_at(name + 1));
+    }
     places
 }
 
@@ -432,7 +477,11 @@ fn state_any_byte_in_an_unused_place_is_25() {
     let (d, e) = (DATUM_TERMS, ENTRY_TERMS);
     let in_some = rows(MOST_DATA - 3, MOST_ENTRIES - 3) + masks(d - 3 + d - 1, e - 2 + e - 1);
     let in_few = masks(MOST_DATA * (d - 3), MOST_ENTRIES * (e - 2));
-    assert_eq!(counts, [rows(MOST_DATA, MOST_ENTRIES), in_some, 0, in_few]);
+    let clocks = |count: usize| count * (CLOCK_BYTES - 1);
+    let in_rows = [rows(MOST_DATA, MOST_ENTRIES), in_some, 0, in_few, in_some];
+    let all_names = NAMES as usize;
+    let in_clocks = [all_names, all_names, all_names, all_names, all_names - WATCHED].map(clocks);
+    assert_eq!(counts, std::array::from_fn(|i| in_rows[i] + in_clocks[i]));
     for state in all() {
         for at in unused(&state) {
             for byte in [1, 128] {
@@ -447,6 +496,208 @@ fn state_any_byte_in_an_unused_place_is_25() {
     }
 }
 
+// ---- the senders' clocks
+
+#[test]
+fn state_clock_flag_above_1_is_25() {
+    for flag in [2, 3, 255, 256, 257, 1 << 16, 1 << 31, u32::MAX] {
+        for name in 0..NAMES {
+            out_of_form(&changed(&State::fresh(5, 0, 0), clock_at(name), &flag.to_le_bytes()));
+            out_of_form(&changed(&watched(), clock_at(name), &flag.to_le_bytes()));
+        }
+    }
+}
+
+#[test]
+fn state_clock_flag_0_over_triples_is_25() {
+    for name in [0, 1, 5, 28] {
+        out_of_form(&changed(&watched(), clock_at(name), &[0]));
+    }
+}
+
+#[test]
+fn state_clock_flag_1_over_zeros_is_in_form() {
+    for name in 0..NAMES {
+        in_form(&changed(&State::fresh(5, 0, 0), clock_at(name), &[1]));
+        in_form(&changed(&full(), clock_at(name), &[1]));
+    }
+}
+
+#[test]
+fn state_clock_number_of_2_to_the_43_is_25_and_one_less_is_in_form() {
+    let (last, past) = (GREATEST_CLOCK, GREATEST_CLOCK + 1);
+    for name in [0, 1, 5, 28] {
+        for number in 0..9 {
+            let at = clock_at(name) + TRIPLES_AT + 8 * number;
+            in_form(&changed(&watched(), at, &last.to_le_bytes()));
+            for far in [past, past + 1, 1 << 44, 1 << 48, 1 << 56, 1 << 63, u64::MAX] {
+                out_of_form(&changed(&watched(), at, &far.to_le_bytes()));
+            }
+        }
+    }
+    let mut state = full();
+    state.clocks = [Some(Saved::first(Triple::of(last, last, last))); NAMES as usize];
+    in_form(&state.bytes());
+}
+
+#[test]
+fn state_clock_triples_in_any_order_are_in_form() {
+    // No receipts leave them so: neither has the largest sum that it should have.
+    let [previous, ahead, behind] = [(9, 0, 9), (0, 9, 0), (9, 0, 0)];
+    let [previous, ahead, behind] = [previous, ahead, behind].map(|(a, b, w)| Triple { a, b, w });
+    for name in 0..NAMES {
+        let mut state = full();
+        state.clocks[name as usize] = Some(Saved { previous, ahead, behind });
+        in_form(&state.bytes());
+    }
+}
+
+/// A name's place, byte by byte as document 02 words it: what is wrong with it, or what it is.
+#[derive(Clone, Copy, Debug, PartialEq, Eq, PartialOrd, Ord)]
+enum Place {
+    /// Flag 2 or more.
+    Flag,
+    /// Flag 0 with a byte set.
+    Unsaved,
+    /// Flag 1, and numbers past the range, all of them 2^43 itself.
+    AtBound,
+    /// Flag 1, and another number past the range.
+    Past,
+    /// Flag 0 and zeros.
+    Empty,
+    /// Flag 1 and zeros.
+    Zeros,
+    /// Flag 1 and numbers in the range.
+    Saved,
+}
+
+impl Place {
+    fn of(bytes: &[u8], name: u32) -> Place {
+        let (flag, numbers) = bytes[clock_at(name)..][..CLOCK_BYTES].split_at(TRIPLES_AT);
+        let zeros = numbers.iter().all(|&byte| byte == 0);
+        // A number below 2^43 has three bits in its sixth byte and none behind.
+        let past = |number: &[u8]| number[5] > 7 || number[6] > 0 || number[7] > 0;
+        let bound = |number: &[u8]| *number == [0, 0, 0, 0, 0, 8, 0, 0];
+        let numbers = || numbers.chunks(8);
+        match flag {
+            [0, 0, 0, 0] if zeros => Place::Empty,
+            [0, 0, 0, 0] => Place::Unsaved,
+            [1, 0, 0, 0] if zeros => Place::Zeros,
+            [1, 0, 0, 0] if !numbers().any(past) => Place::Saved,
+            [1, 0, 0, 0] if numbers().filter(|number| past(number)).all(bound) => Place::AtBound,
+            [1, 0, 0, 0] => Place::Past,
+            _ => Place::Flag,
+        }
+    }
+
+    fn in_form(self) -> bool {
+        matches!(self, Place::Empty | Place::Zeros | Place::Saved)
+    }
+}
+
+/// One damage to a name's place; it may leave it in form.
+fn damage_place(random: &mut Random, bytes: &mut [u8]) {
+    let at = clock_at(random.below(NAMES.into()) as u32);
+    let about = random.pick(&[GREATEST_CLOCK, GREATEST_CLOCK + 1, GREATEST_CLOCK + 1, 1 << 63]);
+    let number = at + TRIPLES_AT + 8 * random.index(9);
+    match random.below(5) {
+        0 => bytes[at..][..TRIPLES_AT].copy_from_slice(&[1, 0, 0, 0]),
+        1 => {
+            bytes[at..][..CLOCK_BYTES].fill(0);
+            bytes[at] = 1;
+        }
+        2 => {
+            bytes[at] = 1;
+            bytes[number..][..8].copy_from_slice(&about.to_le_bytes());
+        }
+        _ => states::damage_clock(random, bytes),
+    }
+}
+
+/// What is counted of the damaged states: those with one place out of form, by what is wrong there;
+/// and those in form that have such a place, or something saved at the own name's.
+#[derive(Default)]
+struct Damaged {
+    wrong: BTreeMap<Place, u64>,
+    right: BTreeMap<Place, u64>,
+    own: u64,
+    /// By call and number.
+    numbers: [BTreeMap<u32, u64>; Call::NAMES.len()],
+}
+
+impl Damaged {
+    /// Counts a state. Whether it is in form.
+    fn count(&mut self, bytes: &[u8], own: u32) -> bool {
+        let places: Vec<Place> = (0..NAMES).map(|name| Place::of(bytes, name)).collect();
+        let wrong: Vec<&Place> = places.iter().filter(|place| !place.in_form()).collect();
+        match wrong[..] {
+            [] => {
+                for place in [Place::Empty, Place::Zeros, Place::Saved] {
+                    let has = places.contains(&place);
+                    *self.right.entry(place).or_default() += u64::from(has);
+                }
+                self.own += u64::from(places[own as usize] != Place::Empty);
+            }
+            [place] => *self.wrong.entry(*place).or_default() += 1,
+            _ => {}
+        }
+        wrong.is_empty()
+    }
+
+    fn check(&self, enough: u64) {
+        let Damaged { wrong, right, own, numbers } = self;
+        let text = format!(
+            "200,000 states with damaged places: one out of form {wrong:?}, all in form {right:?}, \
+             own name's in use {own}, numbers {numbers:?}\n"
+        );
+        std::io::stderr().write_all(text.as_bytes()).expect("standard error");
+        for place in [Place::Flag, Place::Unsaved, Place::AtBound, Place::Past] {
+            assert!(wrong.get(&place) >= Some(&enough), "{place:?}: {wrong:?}");
+        }
+        for place in [Place::Empty, Place::Zeros, Place::Saved] {
+            assert!(right.get(&place) >= Some(&enough), "{place:?}: {right:?}");
+        }
+        assert!(*own >= enough, "{own}");
+        for (name, numbers) in Call::NAMES.iter().zip(numbers).skip(1) {
+            assert!(numbers.len() == 2 && numbers.values().all(|&n| n >= enough), "{name}");
+        }
+    }
+}
+
+#[test]
+fn state_damaged_clock_places_are_answered_alike() {
+    let mut damaged = Damaged::default();
+    let mut filler = Random::new(0);
+    let mut lent = Lent::new(&[0; STATE_BYTES], &mut filler);
+    let mut out = Lent::new(&[7; ANSWER_BYTES], &mut filler);
+    for seed in 0..200_000 {
+        let mut random = Random::new(seed);
+        let mut state = State::fresh(random.below(NAMES.into()) as u32, 9, 9);
+        if random.once_in(8) {
+            state = states::in_form(&mut random);
+            // With room for a violation's entry.
+            state.entries.truncate(MOST_ENTRIES - 1);
+        }
+        state.clocks = clocks::clocks(&mut random);
+        let mut bytes = state.bytes();
+        for _ in 0..random.pick(&[0, 1, 1, 1, 2, 3]) {
+            damage_place(&mut random, &mut bytes);
+        }
+        let [age, receive, with_readings] = sound_calls(&bytes);
+        let (none, ask, fewest) =
+            (Call::Write { position: 99 }, Call::Ask { limit: 0 }, Call::Fewest);
+        let call = random.pick(&[&age, &receive, &with_readings, &none, &ask, &fewest]);
+        lent.put(&bytes);
+        let number = call.both(&mut lent, &mut out, &mut Branches::default());
+        let number = number.unwrap_or_else(|fault| panic!("seed {seed}: {fault}: {call:?}"));
+        *damaged.numbers[call.kind()].entry(number).or_default() += 1;
+        let taken = if matches!(call, Call::Write { .. }) { 23 } else { 0 };
+        let wanted = if damaged.count(&bytes, state.own) { taken } else { 25 };
+        assert_eq!(number, wanted, "seed {seed}: {call:?}");
+    }
+    damaged.check(1_000);
+}
+
 // ---- all bytes
 
 #[test]
@@ -459,8 +710,9 @@ fn every_flipped_bit_is_answered_alike() {
         let mut out = Lent::new(&[7; MESSAGE_BYTES], &mut random);
         for bit in 0..8 * STATE_BYTES {
             let bytes = changed(&state, bit / 8, &[whole[bit / 8] ^ 1 << (bit % 8)]);
-            let [_, receive] = sound_calls(&whole);
-            for call in [Call::Age { reading: 2_000 }, receive, Call::Write { position: 0 }] {
+            let [_, receive, with_readings] = sound_calls(&whole);
+            let calls = [Call::Age { reading: 2_000 }, receive, with_readings];
+            for call in calls.into_iter().chain([Call::Write { position: 0 }]) {
                 lent.put(&bytes);
                 let number = call.both(&mut lent, &mut out, &mut Branches::default());
                 let number = number.unwrap_or_else(|fault| panic!("bit {bit}: {fault}: {call:?}"));
@@ -489,7 +741,8 @@ fn few_numbers_among_zeros_are_answered_alike() {
     let datum = [0, RIGHT_AT, RIGHT_AT + 4, TERM_COUNT_AT].map(|at| datum_at(0) + at);
     let datum_masks = masks.map(|at| term_count_at(0) + at);
     let entry = [0, masks[0], masks[1]].map(|at| entry_at(0) + at);
-    let places = [&head[..], &datum, &datum_masks, &entry].concat();
+    let clock = [0, TRIPLES_AT, TRIPLES_AT + 4].map(|at| clock_at(3) + at);
+    let places = [&head[..], &datum, &datum_masks, &entry, &clock].concat();
     for seed in 0..20_000 {
         let mut random = Random::new(seed);
         let mut bytes = vec![0; STATE_BYTES];

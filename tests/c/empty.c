@@ -15,6 +15,9 @@ static void no_state(const uint8_t *message, size_t len)
     check(monitor_age(NULL, 0, 7) == MONITOR_BUFFER, "ageing without a state is 24");
     check(monitor_receive(NULL, 0, 0, 50, message, len) == MONITOR_BUFFER, "receiving without a state is 24");
     check(monitor_receive(NULL, 0, 0, 50, NULL, 0) == MONITOR_BUFFER, "without a message too");
+    check(monitor_receive_with_readings(NULL, 0, 0, 50, 1, 2, 3, 4, message, len) == MONITOR_BUFFER, "with readings too");
+    check(monitor_receive_with_readings(NULL, 0, 51, 50, UINT64_MAX, UINT64_MAX, UINT64_MAX, UINT32_MAX, NULL, 0) == MONITOR_BUFFER,
+          "before 21 and 40");
     check(monitor_write(NULL, 0, 0, out, o.n) == MONITOR_BUFFER, "writing without a state is 24");
     check(monitor_write(NULL, 0, 0, NULL, 0) == MONITOR_BUFFER, "without an output too");
     check(monitor_ask(NULL, 0, 1, out, o.n) == MONITOR_BUFFER, "asking without a state is 24");
@@ -34,6 +37,9 @@ static void no_more(const uint8_t *message, size_t len)
     memcpy(before, state, sizeof before);
     check(monitor_receive(state, s.n, 0, 50, NULL, 0) == MONITOR_WORD_COUNT, "no message is 10");
     check(monitor_receive(state, s.n, 51, 50, NULL, 0) == MONITOR_DELAY, "21 comes first");
+    check(monitor_receive_with_readings(state, s.n, 0, 50, 1, 2, 3, 4, NULL, 0) == MONITOR_WORD_COUNT, "no message is 10 with readings too");
+    check(monitor_receive_with_readings(state, s.n, 0, 50, UINT64_MAX, 2, 3, 4, NULL, 0) == MONITOR_READINGS, "40 comes first");
+    check(monitor_receive_with_readings(state, s.n, 51, 50, UINT64_MAX, 2, 3, 4, NULL, 0) == MONITOR_DELAY, "and 21 before it");
     check(monitor_write(state, s.n, 0, NULL, 0) == MONITOR_BUFFER, "no output for a message is 24");
     check(monitor_write(state, s.n, 1, NULL, 0) == MONITOR_POSITION, "23 comes first");
     check(monitor_ask(state, s.n, 1, NULL, 0) == MONITOR_BUFFER, "no output for an answer is 24");

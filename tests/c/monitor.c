@@ -1,5 +1,5 @@
-/* A monitor from C: set up, aged, fed and asked as in document 01's listing, and its oldest datum written, with monitor.h and the archive
- * alone. */
+/* A monitor from C: set up, aged, fed and asked as in document 01's listing, its oldest datum written, and a sender's clock watched, with
+ * monitor.h and the archive alone. */
 #include <string.h>
 
 #include "lent.h"
@@ -135,10 +135,84 @@ static void over_limit(void)
     check(answers(state, MONITOR_GREATEST_LIMIT, MONITOR_CONTRADICTED, 0, 0), "which is more than the greatest limit");
 }
 
+/* ---- a sender's clock */
+
+/* Document 01's first message with readings of its sender, without delay; drift 0. */
+static uint32_t watched(uint8_t *state, uint64_t sender_reading, uint64_t own_reading, uint64_t half_width)
+{
+    uint8_t message[sizeof first];
+    size_t len = monitor_put_words(message, first, 6);
+    return monitor_receive_with_readings(state, MONITOR_STATE_BYTES, 0, 0, sender_reading, own_reading, half_width, 0, message, len);
+}
+
+/* Whether sender 1's place has flag 1 and these nine numbers. */
+static int saved(const uint8_t *state, const uint64_t numbers[9])
+{
+    const uint8_t *place = state + CLOCK_OF(1);
+    int same = monitor_word(place) == 1;
+    for (int i = 0; i < 9; i++)
+        same &= monitor_number(place + 4 + 8 * i) == numbers[i];
+    return same;
+}
+
+/* Whether all places but sender 1's are zeros. */
+static int no_other_saved(const uint8_t *state)
+{
+    int zeros = 1;
+    for (size_t i = CLOCK_OF(0); i < MONITOR_STATE_BYTES; i++)
+        zeros &= state[i] == 0 || (i >= CLOCK_OF(1) && i < CLOCK_OF(2));
+    return zeros;
+}
+
+static void clock_is_watched(void)
+{
+    static const uint64_t one[9] = {0, 0, 1, 0, 0, 1, 0, 0, 1}, two[9] = {100, 102, 1, 0, 0, 1, 100, 102, 1};
+    static const uint64_t three[9] = {200, 205, 1, 0, 0, 1, 200, 205, 1};
+    struct lent s;
+    uint8_t *state = lend(&s, MONITOR_STATE_BYTES);
+    check(monitor_set_up(state, s.n, 5, 0, 0) == MONITOR_TAKEN && no_other_saved(state), "a fresh state has nothing saved");
+    check(watched(state, 0, 0, 1) == MONITOR_TAKEN && saved(state, one), "the first readings are saved three times");
+    check(watched(state, 100, 102, 1) == MONITOR_TAKEN && saved(state, two), "at the bound of the test they agree, and are saved");
+    check(state[HELD_COUNT] == 1 && state[ENTRY_COUNT] == 0 && no_other_saved(state), "a datum is held, and no failure is known");
+    check(answers(state, 0, MONITOR_BETWEEN, 1000000, 1000200), "ask 0 is its interval");
+    check(watched(state, 200, 205, 1) == MONITOR_TAKEN && saved(state, three), "past the bound they are taken and saved too");
+    check(state[HELD_COUNT] == 0 && state[ENTRY_COUNT] == 1 && monitor_word(state + FIRST_MASK) == 2, "the sender is known to have failed");
+    check(answers(state, 0, MONITOR_CONTRADICTED, 0, 0) && answers(state, 1, MONITOR_OPEN, 0, 0), "ask 0 is contradicted, ask 1 open");
+    check(fewest(state, 1, 2), "fewest 1 2");
+    check(no_other_saved(state) && untouched(&s, MONITOR_STATE_BYTES), "nothing beside is written");
+}
+
+static void readings_refuse(void)
+{
+    struct lent s;
+    uint8_t *state = lend(&s, MONITOR_STATE_BYTES), before[MONITOR_STATE_BYTES], message[sizeof first];
+    size_t len = monitor_put_words(message, first, 6);
+    const uint64_t past = MONITOR_GREATEST_CLOCK + 1;
+    check(monitor_set_up(state, s.n, 5, 0, 0) == MONITOR_TAKEN, "a monitor is set up");
+    memcpy(before, state, sizeof before);
+    check(watched(state, past, 0, 0) == MONITOR_READINGS, "a sender's reading of 2^43 is 40");
+    check(watched(state, 0, past, 0) == MONITOR_READINGS, "an own reading of 2^43 is 40");
+    check(watched(state, 0, 0, past) == MONITOR_READINGS, "a half width of 2^43 is 40");
+    check(monitor_receive_with_readings(state, s.n, 0, 0, 0, 0, 0, MONITOR_GREATEST_DRIFT + 1, message, len) == MONITOR_READINGS,
+          "a sender's drift of 1,001 is 40");
+    check(monitor_receive_with_readings(state, s.n, 1, 0, past, 0, 0, 0, message, len) == MONITOR_DELAY, "21 comes before 40");
+    check(monitor_receive_with_readings(state, s.n, 0, 0, past, 0, 0, 0, message, len - 1) == MONITOR_READINGS, "40 comes before 10");
+    check(monitor_receive_with_readings(state, s.n, 0, 0, 1, 2, 3, 4, message, len - 1) == MONITOR_WORD_COUNT, "a length that leaves a rest is 10");
+    check(monitor_receive_with_readings(state, s.n - 1, 1, 0, past, 0, 0, 0, message, len) == MONITOR_BUFFER, "a state one byte short is 24");
+    check(memcmp(before, state, sizeof before) == 0, "and the refusals left every byte");
+    check(watched(state, past - 1, past - 1, past - 1) == MONITOR_TAKEN, "the greatest numbers are taken");
+    state[CLOCK_OF(1)] = 2;
+    memcpy(before, state, sizeof before);
+    check(watched(state, past, 0, 0) == MONITOR_STATE_FORM && monitor_age(state, s.n, 0) == MONITOR_STATE_FORM, "a flag of 2 is 25, before 40");
+    check(memcmp(before, state, sizeof before) == 0 && untouched(&s, MONITOR_STATE_BYTES), "and the refusals left every byte");
+}
+
 int main(void)
 {
     set_up_refuses();
     listing();
     over_limit();
+    clock_is_watched();
+    readings_refuse();
     return report();
 }

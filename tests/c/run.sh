@@ -7,7 +7,8 @@ set -uo pipefail
 cd "$(dirname "$0")/../.." || exit 2
 archive=target/staticlib/libmonitor.a
 warnings="-O2 -Wall -Wextra -Wpedantic -Werror -Iinclude"
-calls="monitor_set_up monitor_age monitor_receive monitor_write monitor_ask monitor_fewest monitor_message_read monitor_message_rewrite"
+calls="monitor_set_up monitor_age monitor_receive monitor_receive_with_readings monitor_write monitor_ask monitor_fewest"
+calls="$calls monitor_message_read monitor_message_rewrite"
 . tests/counted.sh
 
 # build COMPILER SOURCE PROGRAM FLAGS..: -z now, so that no call takes the stack that the loader would need
@@ -72,6 +73,7 @@ caller() {
     monitor_set_up) arguments='b, 0, 0, 0, 0' ;;
     monitor_age) arguments='b, 0, 0' ;;
     monitor_receive) arguments='b, 0, 0, 0, b, 0' ;;
+    monitor_receive_with_readings) arguments='b, 0, 0, 0, 0, 0, 0, 0, b, 0' ;;
     monitor_write | monitor_ask) arguments='b, 0, 0, b, 0' ;;
     *) arguments='b, 0, b, 0' ;;
     esac

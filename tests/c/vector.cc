@@ -15,6 +15,11 @@ static std::uint32_t receive(bytes &state, const bytes &message)
     return monitor_receive(state.data(), state.size(), 0, 50, message.data(), message.size());
 }
 
+static std::uint32_t receive_with_readings(bytes &state, std::uint64_t sender_reading, std::uint64_t own_reading, const bytes &message)
+{
+    return monitor_receive_with_readings(state.data(), state.size(), 0, 50, sender_reading, own_reading, 1, 0, message.data(), message.size());
+}
+
 static std::uint32_t write(const bytes &state, bytes &out) { return monitor_write(state.data(), state.size(), 0, out.data(), out.size()); }
 
 static std::uint32_t ask(const bytes &state, bytes &answer) { return monitor_ask(state.data(), state.size(), 0, answer.data(), answer.size()); }
@@ -46,7 +51,9 @@ static void empty()
     check(none.data() == nullptr, "an empty vector hands in NULL here");
     check(set_up(none) == MONITOR_BUFFER && age(none, 0) == MONITOR_BUFFER && receive(none, message) == MONITOR_BUFFER, "no state is 24");
     check(write(none, none) == MONITOR_BUFFER && ask(none, none) == MONITOR_BUFFER && fewest(none, none) == MONITOR_BUFFER, "and so elsewhere");
+    check(receive_with_readings(none, 0, 0, message) == MONITOR_BUFFER, "with readings too");
     check(set_up(state) == MONITOR_TAKEN && receive(state, none) == MONITOR_WORD_COUNT, "no message is 10");
+    check(receive_with_readings(state, 0, 0, none) == MONITOR_WORD_COUNT, "with readings too");
     check(receive(state, message) == MONITOR_TAKEN, "a message is received");
     check(write(state, none) == MONITOR_BUFFER && ask(state, none) == MONITOR_BUFFER && fewest(state, none) == MONITOR_BUFFER, "no output is 24");
     check(read(none, none) == MONITOR_WORD_COUNT && rewrite(none, none) == MONITOR_WORD_COUNT, "no message is 10");
@@ -67,9 +74,23 @@ static void filled()
     check(write(state, out) == MONITOR_TAKEN && read(out, reading) == MONITOR_TAKEN && monitor_number(reading.data()) == 5, "a datum is written");
 }
 
+// A clock that runs as it should, and then jumps.
+static void watched()
+{
+    bytes state(MONITOR_STATE_BYTES), message = first_message(), answer(MONITOR_FEWEST_BYTES);
+    check(set_up(state) == MONITOR_TAKEN, "a monitor is set up");
+    check(receive_with_readings(state, 0, 0, message) == MONITOR_TAKEN, "the first readings of a sender");
+    check(receive_with_readings(state, 5000, 5002, message) == MONITOR_TAKEN, "readings that agree");
+    check(fewest(state, answer) == MONITOR_TAKEN && monitor_number(answer.data()) == 0, "nobody need have failed");
+    check(receive_with_readings(state, 6000, 7000, message) == MONITOR_TAKEN, "readings that do not");
+    check(fewest(state, answer) == MONITOR_TAKEN && monitor_number(answer.data()) == 1 && monitor_number(answer.data() + 8) == 2,
+          "the sender has failed");
+}
+
 int main()
 {
     empty();
     filled();
+    watched();
     return report();
 }

@@ -1,14 +1,14 @@
 //! How long each call takes, by the engine and by the second program, from one run. `bench` is the
 //! full measure, `bench quick` a short one that shows that it runs.
 //!
-//! States are quiet, usual, full and the dearest that hill climbing finds for either program. Each
-//! line has the median times, and the engine's as a multiple of the second program's and of the
+//! States are quiet, usual, full and the dearest that hill climbing finds for either program; of the
+//! first three also with triples saved of all 28 senders. Each line has the median times, and the engine's as a multiple of the second program's and of the
 //! time that copying a state's bytes takes.
 
 use second::asking::{ANSWER_BYTES, FEWEST_BYTES, GREATEST_LIMIT};
 use second::message::MESSAGE_BYTES;
 use second::samples::climbing::Climb;
-use second::samples::loads::{Filling, Load, FULL, QUIET, USUAL};
+use second::samples::loads::{Filling, Load, FULL, QUIET, READINGS, USUAL};
 use second::state::{State, STATE_BYTES};
 use second::timing::{least, medians, Effort};
 use second::{ageing, asking, engine, message, receiving, set_up, writing};
@@ -74,7 +74,17 @@ const AGE: Call = Call {
 const RECEIVE: Call = Call {
     name: "receive",
     engine: |case| engine::monitor_receive(&mut case.state, 10, 60, &case.message),
-    second: |case| receiving::call(&mut case.state, 10, 60, &case.message),
+    second: |case| receiving::call(&mut case.state, 10, 60, None, &case.message),
+    number: 0,
+};
+/// From the second time on the triple is the one that was saved.
+const RECEIVE_WITH_READINGS: Call = Call {
+    name: "receive with readings",
+    engine: |case| {
+        let Case { state, message, .. } = case;
+        engine::monitor_receive_with_readings(state, 10, 60, READINGS, message)
+    },
+    second: |case| receiving::call(&mut case.state, 10, 60, Some(READINGS), &case.message),
     number: 0,
 };
 const WRITE: Call = Call {
@@ -161,23 +171,43 @@ const QUIET_GOALS: Goals = Goals { form: Some(2.), receive: Some(2.5), ask: [2.,
 const USUAL_GOALS: Goals = Goals { form: None, receive: None, ask: [2.5, 10., 30.] };
 const FULL_GOALS: Goals = Goals { form: Some(10.), receive: Some(46.), ask: [10., 60., 500.] };
 
-/// The lines of states that are filled in one way.
+/// The lines of states that are filled in one way, with nothing saved of any sender's clock and with
+/// all saved.
 fn filled(effort: Effort, count: usize, filling: Filling, goals: Goals) {
-    let cases = |far| -> Vec<Case> { filling.loads(count, far).iter().map(Case::new).collect() };
-    let near = cases(false);
-    line(effort, &FORM, filling.name, &near, goals.form);
-    line(effort, &AGE, filling.name, &near, goals.form);
-    line(effort, &RECEIVE, filling.name, &near, goals.receive);
+    let loads = [filling.loads(count, false), filling.loads(count, filling.entries > 0)];
+    let none = loads.each_ref().map(|loads| loads.iter().map(Case::new).collect());
+    calls(effort, filling, filling.name, none, &goals);
+    let all = loads.map(|loads| loads.iter().map(|load| Case::new(&load.with_clocks())).collect());
+    calls(effort, filling, &format!("{}, 28 saved", filling.name), all, &goals);
+}
+
+/// The lines of the calls in such states; the second cases have a message from far off, if any has.
+fn calls(effort: Effort, filling: Filling, state: &str, cases: [Vec<Case>; 2], goals: &Goals) {
+    let [near, far] = cases;
+    line(effort, &FORM, state, &near, goals.form);
+    line(effort, &AGE, state, &near, goals.form);
+    line(effort, &RECEIVE, state, &near, goals.receive);
+    line(effort, &RECEIVE_WITH_READINGS, state, &near, goals.receive);
     if filling.entries > 0 {
-        let state = format!("{}, far off", filling.name);
-        line(effort, &RECEIVE, &state, &cases(true), goals.receive);
+        let state = format!("{state}, far off");
+        line(effort, &RECEIVE, &state, &far, goals.receive);
+        line(effort, &RECEIVE_WITH_READINGS, &state, &far, goals.receive);
     }
     let [at_0, at_2, at_4] = goals.ask.map(Some);
     for (call, goal) in ASK.iter().zip([at_0, None, at_2, None, at_4]) {
-        line(effort, call, filling.name, &near, goal);
+        line(effort, call, state, &near, goal);
     }
-    for call in [&FEWEST, &WRITE, &READ, &REWRITE] {
-        line(effort, call, filling.name, &near, None);
+    for call in [&FEWEST, &WRITE] {
+        line(effort, call, state, &near, None);
+    }
+}
+
+/// The lines of the calls on messages alone.
+fn messages(effort: Effort, count: usize) {
+    for filling in [QUIET, USUAL, FULL] {
+        let cases: Vec<Case> = filling.loads(count, false).iter().map(Case::new).collect();
+        line(effort, &READ, filling.name, &cases, None);
+        line(effort, &REWRITE, filling.name, &cases, None);
     }
 }
 
@@ -227,5 +257,6 @@ fn main() {
     filled(effort, count, QUIET, QUIET_GOALS);
     filled(effort, count, USUAL, USUAL_GOALS);
     filled(effort, count, FULL, FULL_GOALS);
+    messages(effort, count);
     worst(effort, climb);
 }

@@ -1,6 +1,7 @@
 //! States and messages to measure with, all of them reached by receipts: senders that agree around
 //! one instant, and a few that are far off, so that entries are learnt.
 
+use crate::clocks::{Readings, Saved, Triple};
 use crate::instants::Interval;
 use crate::message::Message;
 use crate::predicates::{normal, Predicate, Term, GREATEST_NAME, NAMES};
@@ -8,10 +9,29 @@ use crate::random::Random;
 use crate::receiving;
 use crate::state::{State, MOST_DATA, MOST_ENTRIES, STATE_BYTES};
 
-/// A state and a message that it has just received: to receive it again changes nothing.
+/// A state and a message that it has just received, without readings: to receive it again changes
+/// nothing.
 pub struct Load {
     pub state: Vec<u8>,
     pub message: Vec<u8>,
+}
+
+/// Readings that agree with all that a load saves.
+pub const READINGS: Readings = Readings { triple: Triple { a: 9_000, b: 9_003, w: 5 }, drift: 100 };
+
+impl Load {
+    /// The same with triples saved of every name but the own one, as receipts leave them.
+    pub fn with_clocks(&self) -> Load {
+        let mut state = State::of(&self.state).expect("a state in form");
+        for (name, clock) in state.clocks.iter_mut().enumerate() {
+            let late = name as u64;
+            let saved = Saved::first(Triple::of(1_000 + late, 1_000, 60));
+            let saved = saved.with(Triple::of(2_000, 2_004 + late, 60));
+            *clock = Some(saved.with(Triple::of(3_000, 3_001, 20)));
+        }
+        state.clocks[OWN as usize] = None;
+        Load { state: state.bytes(), message: self.message.clone() }
+    }
 }
 
 /// How full a state is to be.
@@ -48,9 +68,10 @@ impl Filling {
         for _ in 0..60 {
             let (message, astray) = self.message(random);
             let message = message.bytes();
-            receiving::call(&mut bytes, 10, 60, &message);
+            receiving::call(&mut bytes, 10, 60, None, &message);
             let mut again = bytes.clone();
-            let settled = receiving::call(&mut again, 10, 60, &message) == 0 && again == bytes;
+            let settled =
+                receiving::call(&mut again, 10, 60, None, &message) == 0 && again == bytes;
             if settled && astray == far && self.is_met(&bytes) {
                 return Some(Load { state: bytes, message });
             }

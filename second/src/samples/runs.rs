@@ -2,12 +2,13 @@
 
 use crate::asking::GREATEST_LIMIT;
 use crate::calls::Call;
+use crate::clocks::{Readings, Triple, GREATEST_CLOCK};
 use crate::instants::{Interval, GREATEST_END};
 use crate::message::{bytes_of, MOST_TERMS};
 use crate::predicates::{normal, Term, GREATEST_NAME, NAMES};
 use crate::random::Random;
 use crate::receiving::GREATEST_DELAY;
-use crate::state::{State, GREATEST_DRIFT, GREATEST_READING};
+use crate::state::{State, GREATEST_DRIFT, GREATEST_READING, MOST_ENTRIES};
 
 /// What the calls of a run are drawn from.
 pub struct World {
@@ -93,13 +94,46 @@ impl World {
     }
 
     fn receive(&self, random: &mut Random, state: &State) -> Call {
+        if state.entries.len() == MOST_ENTRIES && random.once_in(4) {
+            if let Some(jump) = self.jump(random, state) {
+                return jump;
+            }
+        }
         let (least, greatest) = self.delays(random);
         let message = if random.once_in(12) {
             super::message(random).message().to_vec()
         } else {
             self.message(random, state)
         };
-        Call::Receive { least, greatest, message }
+        let readings = random.once_in(2).then(|| self.readings(random, state, &message));
+        Call::Receive { least, greatest, readings, message }
+    }
+
+    /// A receipt from a sender whose clock has jumped and whom no entry names, if there is one: where
+    /// all entries are in use there is no place for its name.
+    fn jump(&self, random: &mut Random, state: &State) -> Option<Call> {
+        let named = state.entries.iter().flat_map(|entry| entry.iter()).fold(0, |all, t| all | t);
+        let unnamed = |sender: u32| named >> sender & 1 == 0 && sender != state.own;
+        let saved = (0..NAMES).filter(|&sender| unnamed(sender)).filter_map(|sender| {
+            state.clocks[sender as usize].map(|saved| (sender, saved.previous))
+        });
+        let saved: Vec<(u32, Triple)> = saved.collect();
+        if saved.is_empty() {
+            return None;
+        }
+        let (sender, Triple { a, b, w }) = random.pick(&saved);
+        let readings = Some(Readings::of(a, (b + 3 * w + 1_000).min(GREATEST_CLOCK), w, 0));
+        let interval = self.interval(random, state);
+        let terms: &[Term] = random.pick(&[&[][..], &[0]]);
+        let words = super::sealed(sender, &in_any_form(random, interval), terms);
+        Some(Call::Receive { least: 0, greatest: 0, readings, message: bytes_of(&words) })
+    }
+
+    /// Readings of the message's sender.
+    fn readings(&self, random: &mut Random, state: &State, message: &[u8]) -> Readings {
+        let sender = message.first().map_or(0, |byte| byte & 31);
+        let saved = state.clocks.get(usize::from(sender)).copied().flatten();
+        super::clocks::readings(random, saved, state.drift)
     }
 
     /// Small delays; flawed or at the edge now and then.

@@ -4,9 +4,10 @@ use crate::instants::{Interval, GREATEST_END};
 use crate::predicates::{normal, Predicate, Term, ALL_NAMES, GREATEST_NAME, NAMES};
 use crate::random::Random;
 use crate::state::{
-    Datum, State, DATA_AT, DATUM_BYTES, DATUM_TERMS, DRIFT_AT, ENTRIES_AT, ENTRY_BYTES,
-    ENTRY_COUNT_AT, ENTRY_TERMS, GREATEST_DRIFT, GREATEST_READING, HELD_COUNT_AT, MOST_DATA,
-    MOST_ENTRIES, OWN_AT, READING_AT, STATE_BYTES, TERM_COUNT_AT,
+    clock_at, Datum, State, CLOCKS_AT, CLOCK_BYTES, DATA_AT, DATUM_BYTES, DATUM_TERMS, DRIFT_AT,
+    ENTRIES_AT, ENTRY_BYTES, ENTRY_COUNT_AT, ENTRY_TERMS, GREATEST_DRIFT, GREATEST_READING,
+    HELD_COUNT_AT, MOST_DATA, MOST_ENTRIES, OWN_AT, READING_AT, STATE_BYTES, TERM_COUNT_AT,
+    TRIPLES_AT,
 };
 
 /// Any state in form: data under one predicate, entries that imply each other or data, disjoint
@@ -27,6 +28,7 @@ pub fn in_form(random: &mut Random) -> State {
         entries: (0..count(random, most_entries))
             .map(|_| predicate(random, own, names, ENTRY_TERMS))
             .collect(),
+        clocks: super::clocks::clocks(random),
     }
 }
 
@@ -142,6 +144,7 @@ pub fn to_ask(random: &mut Random) -> State {
         let predicate = related(random, datum.predicate, &state, DATUM_TERMS);
         state.held.push(Datum { predicate, ..datum });
     }
+    state.clocks = super::clocks::clocks(random);
     state
 }
 
@@ -180,12 +183,13 @@ pub fn damage(random: &mut Random, bytes: &mut [u8]) {
     let at = place(random, bytes);
     let word = at / 4 * 4;
     let small = random.index(MOST_ENTRIES + 2) as u32;
-    match random.below(7) {
+    match random.below(8) {
         0 | 1 => bytes[at] ^= 1 << random.below(8),
         2 => bytes[at] = bytes[at].wrapping_add(random.pick(&[1, 255])),
         3 => put(bytes, word, random.pick(&[0, 1, small, 1 << 28, 1 << 29, u32::MAX])),
         4 => put(bytes, word, random.bits() as u32),
         5 => put(bytes, random.pick(&NUMBERS), small),
+        6 => damage_clock(random, bytes),
         _ => {
             let from = place(random, bytes) / 4 * 4;
             bytes.copy_within(from..from + 4, word);
@@ -193,12 +197,25 @@ pub fn damage(random: &mut Random, bytes: &mut [u8]) {
     }
 }
 
-/// A place in the head, in the data or entries that are held, or anywhere.
+/// One damage to a name's place: its flag, or a number about the greatest.
+pub fn damage_clock(random: &mut Random, bytes: &mut [u8]) {
+    let from = clock_at(random.below(NAMES.into()) as u32);
+    // The greatest number has ones up to bit 42, which is bit 10 of its high half.
+    let (number, high) = (TRIPLES_AT + 8 * random.index(9), random.pick(&[0, 1, 2047, 2048, 4095]));
+    match random.below(3) {
+        0 => put(bytes, from, random.pick(&[0, 1, 2, 3, 256, 1 << 31])),
+        1 => put(bytes, from + number + 4, high),
+        _ => bytes[from + random.index(CLOCK_BYTES)] ^= 1 << random.below(8),
+    }
+}
+
+/// A place in the head, in the data or entries that are held, in the names' places, or anywhere.
 fn place(random: &mut Random, bytes: &[u8]) -> usize {
     let data = DATUM_BYTES * usize::from(bytes[HELD_COUNT_AT]).clamp(1, MOST_DATA);
     let entries = ENTRY_BYTES * usize::from(bytes[ENTRY_COUNT_AT]).clamp(1, MOST_ENTRIES);
-    let whole = (0, STATE_BYTES);
-    let (from, len) = random.pick(&[(0, DATA_AT), (DATA_AT, data), (ENTRIES_AT, entries), whole]);
+    let (clocks, whole) = ((CLOCKS_AT, STATE_BYTES - CLOCKS_AT), (0, STATE_BYTES));
+    let rows = [(DATA_AT, data), (ENTRIES_AT, entries), clocks];
+    let (from, len) = random.pick(&[(0, DATA_AT), rows[0], rows[1], rows[2], whole]);
     from + random.index(len)
 }
 

@@ -49,6 +49,8 @@ pub fn text(random: &mut Random) -> Vec<u8> {
     let damages = random.pick(&[0, 0, 2, 2, 4]);
     for _ in 0..random.below(if crowded { 60 } else { 30 }) {
         let call = world.call(random, &State::of(&state).expect("a state in form"));
+        // The listing has no readings.
+        let call = call.without_readings();
         let mut bytes = line(&call);
         if damages > 0 && random.below(10) < damages {
             bytes = flawed(random, bytes);
@@ -87,7 +89,7 @@ fn line(call: &Call) -> Vec<u8> {
     let line = match call {
         Call::SetUp { own, drift, reading } => format!("set {own} {drift} {reading}"),
         Call::Age { reading } => format!("age {reading}"),
-        Call::Receive { least, greatest, message } => {
+        Call::Receive { least, greatest, message, .. } => {
             let words = message.as_chunks().0.iter().map(|&word| u32::from_le_bytes(word));
             let words: String = words.map(|word| format!(" {word}")).collect();
             format!("get {least} {greatest}{words}")
