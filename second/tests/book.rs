@@ -341,21 +341,12 @@ struct Watched {
 }
 
 impl Watched {
-    const BRANCHES: [Branch; 13] = [
-        Branch::SavedFirst,
-        Branch::Tested,
-        Branch::Violated,
-        Branch::ByPrevious,
-        Branch::ByAhead,
-        Branch::ByBehind,
-        Branch::AtBound,
-        Branch::OwnBack,
-        Branch::SenderBack,
-        Branch::Tie,
-        Branch::NameImplied,
-        Branch::NameAdded,
-        Branch::NameDroveOut,
-    ];
+    /// What a receipt with readings can come to beside what any receipt can: these branches stand
+    /// together.
+    fn branches() -> impl Iterator<Item = Branch> {
+        let of_readings = Branch::SavedFirst as usize..=Branch::NameDroveOut as usize;
+        Branch::ALL.into_iter().filter(move |&branch| of_readings.contains(&(branch as usize)))
+    }
 
     fn count(&mut self, call: &Call, number: u32, branches: Branches) {
         let Call::Receive { readings, .. } = call else {
@@ -389,7 +380,7 @@ impl Watched {
 
     /// Prints the counts, and checks that each is enough.
     fn check(&self, enough: u64) {
-        let branches = Watched::BRANCHES.map(|b| (format!("{b:?}"), self.branches[b as usize]));
+        let branches = Watched::branches().map(|b| (format!("{b:?}"), self.branches[b as usize]));
         let more = [
             ("violated with a true predicate", self.with_true),
             ("held data cleared", self.cleared),
@@ -400,7 +391,7 @@ impl Watched {
             ("40 by the drift", self.flaws[3]),
         ];
         let more = more.map(|(what, count)| (what.to_string(), count));
-        let all: Vec<(String, u64)> = branches.into_iter().chain(more).collect();
+        let all: Vec<(String, u64)> = branches.chain(more).collect();
         let texts: Vec<String> =
             all.iter().map(|(what, count)| format!("{what} {count}")).collect();
         let (with, receipts) = (self.with_readings, self.receipts);

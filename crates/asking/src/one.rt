@@ -40,7 +40,8 @@ fn all_names(masks: &[u32]) -> u32
     names
 }
 
-// What the held intervals have in common whose predicate the set, of one name or none, leaves false: from the greatest left end to the least right end.
+// What the held intervals have in common whose predicate the set, of one name or none, leaves false: from the greatest left end to the least
+// right end.
 fn span(s: &[u8], masks: &[u32], set: u32) -> Overlap
     requires { ⌜ (stateSize ≤ length (now s)) × T (inForm (now s)) × (now masks ≡ masksOf (storeOf (now s) .held)) × (ones set ≤ 1) ⌝ }
     ensures { λ r. ⌜ (r .left ≡ greatestLeft 0 (active set (storeOf (now (s .entry)) .held)))

@@ -33,8 +33,8 @@ fn all_bits(s: &[u8], at: usize) -> u64
     bits(s, at + PREVIOUS_IN) | (bits(s, at + AHEAD_IN) | bits(s, at + BEHIND_IN))
 }
 
-// Whether the place at `at` is in form: nothing saved and all zero, or three triples of numbers below 2^43. The numbers are read behind the test of the
-// flag: so the compiler reads two at a time.
+// Whether the place at `at` is in form: nothing saved and all zero, or three triples of numbers below 2^43. The numbers are read behind the
+// test of the flag: so the compiler reads two at a time.
 pub fn fits(s: &[u8], at: usize) -> bool
     requires { ⌜ at + placeSize ≤ length (now s) ⌝ }
     ensures { λ r. ⌜ r ≡ placeFits at (now (s .entry)) ⌝ }

@@ -1,5 +1,5 @@
-// A receipt on the bytes of a state in form: the grown interval, the formed predicate, the refusals 18, 30 and 31, the test of the sender's clock, and
-// then the four steps; a taken receipt's readings are saved.
+// A receipt on the bytes of a state in form: the grown interval, the formed predicate, the refusals 18, 30 and 31, the test of the sender's
+// clock, and then the four steps; a taken receipt's readings are saved.
 ghost use mathlib.Core.Path.{_≡_};
 ghost use mathlib.Core.Bool.{Bool, not, cond};
 ghost use mathlib.Core.List.{[], _∷_};
@@ -34,14 +34,16 @@ fn copy_masks(words: &[u32], row: &mut [u32])
     }
 }
 
-// Takes a datum of the sender under p, the formed predicate: where the readings violate the test, the sender's name becomes an entry, which implies p;
-// else a true predicate changes nothing, and any other takes the four steps. Answers 0 or 32. The readings are not saved yet.
+// Takes a datum of the sender under p, the formed predicate: where the readings violate the test, the sender's name becomes an entry, which
+// implies p; else a true predicate changes nothing, and any other takes the four steps. Answers 0 or 32. The readings are not saved yet.
 fn take(state: &mut [u8], readings: Readings, sender: u32, new: Ends, p: &[u32]) -> u32
     requires { ⌜ (stateSize ≤ length (now state)) × T (inForm (now state)) × (sender ≤ nameMost) × T (not (readingsFail readings)) ⌝ }
     requires { ⌜ (0 < length (now p)) × (length (now p) ≤ datumTerms) × T (isNormal (now p)) × T (implies (2 ^ sender ∷ []) (now p)) ⌝ }
-    ensures { λ r. ⌜ (let violation : Bool = violatedBy (headOf (now (state .entry)) .drift) (clockOf (headOf (now (state .entry))) sender) readings in
+    ensures { λ r. ⌜ (let violation : Bool =
+        violatedBy (headOf (now (state .entry)) .drift) (clockOf (headOf (now (state .entry))) sender) readings in
         r ≡ cond (tooMany (judged violation sender (datumOf new (now (p .entry))) (storeOf (now (state .entry))))) 32 0) ⌝ }
-    ensures { λ r. ⌜ (let violation : Bool = violatedBy (headOf (now (state .entry)) .drift) (clockOf (headOf (now (state .entry))) sender) readings in
+    ensures { λ r. ⌜ (let violation : Bool =
+        violatedBy (headOf (now (state .entry)) .drift) (clockOf (headOf (now (state .entry))) sender) readings in
         let k : Store = judged violation sender (datumOf new (now (p .entry))) (storeOf (now (state .entry))) in
         now (state .exit) ≡ after r (stateBytes (record { head = headOf (now (state .entry)); store = k })) (now (state .entry))) ⌝ }
 {

@@ -1,5 +1,6 @@
-// Receiving a datum that is not true, or one of a sender whose clock has jumped, on the bytes of a state in form: the held data go into local arrays, the entries stay where they are, and what
-// is learnt stands beside them; what the four steps leave is counted, and the bytes are written only once nothing refuses.
+// Receiving a datum that is not true, or one of a sender whose clock has jumped, on the bytes of a state in form: the held data go into local
+// arrays, the entries stay where they are, and what is learnt stands beside them; what the four steps leave is counted, and the bytes are
+// written only once nothing refuses.
 ghost use mathlib.Core.Path.{_≡_};
 ghost use mathlib.Core.Bool.{cond};
 ghost use mathlib.Core.List.{[], _∷_};
@@ -29,8 +30,8 @@ const FEW_DATA: usize = 4;
 
 const FEW_MASKS: usize = FEW_DATA * state::ENTRY_TERMS;
 
-// Takes the four steps with the datum of these ends under p. After a violation `blame` is the sender's name as a term, which becomes an entry first; else
-// it is 0. The array has a row for each entry that can be learnt. Answers 0 or 32.
+// Takes the four steps with the datum of these ends under p. After a violation `blame` is the sender's name as a term, which becomes an entry
+// first; else it is 0. The array has a row for each entry that can be learnt. Answers 0 or 32.
 fn take_in(state: &mut [u8], new: Ends, p: &[u32], old: Rows, masks: &mut [u32], blame: u32) -> u32
     requires { ⌜ (stateSize ≤ length (now state)) × T (inForm (now state)) ⌝ }
     requires { ⌜ (old .held ≡ heldCount (now state)) × (old .known ≡ entryCount (now state)) ⌝ }
@@ -97,8 +98,8 @@ fn take_many(state: &mut [u8], new: Ends, p: &[u32], old: Rows, blame: u32) -> u
     take_in(state, new, p, old, &mut masks, blame)
 }
 
-// Takes the four steps with the datum of these ends under p, the blamed name being an entry first, if there is one. Answers 0 or 32. Where few data are
-// held, less is cleared.
+// Takes the four steps with the datum of these ends under p, the blamed name being an entry first, if there is one. Answers 0 or 32. Where
+// few data are held, less is cleared.
 pub(crate) fn take_datum(state: &mut [u8], new: Ends, p: &[u32], blame: u32) -> u32
     requires { ⌜ (stateSize ≤ length (now state)) × T (inForm (now state)) ⌝ }
     requires { ⌜ (0 < length (now p)) × (length (now p) ≤ datumTerms) × ((blame ≡ 0 → ⊥) → T (implies (blame ∷ []) (now p))) ⌝ }

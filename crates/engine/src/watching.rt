@@ -1,5 +1,5 @@
-// The sender's clock (document 02, W-201), on the bytes of a state in form: readings that come with a receipt are tested against what is saved of their
-// sender, and saved. Only the sender's place is read or written.
+// The sender's clock (document 02, W-201), on the bytes of a state in form: readings that come with a receipt are tested against what is saved
+// of their sender, and saved. Only the sender's place is read or written.
 ghost use mathlib.Core.Path.{_≡_};
 ghost use mathlib.Core.Bool.{not, cond};
 ghost use Prim.Native.Nat.{_≤_, _^_};
@@ -34,7 +34,8 @@ fn violated(state: &[u8], sender: u32, readings: Readings) -> bool
 // The sender's name as a term where its readings violate the test; else 0.
 pub(crate) fn blame(state: &[u8], sender: u32, readings: Readings) -> u32
     requires { ⌜ (stateSize ≤ length (now state)) × T (inForm (now state)) × (sender ≤ nameMost) × T (not (readingsFail readings)) ⌝ }
-    ensures { λ r. ⌜ (let h : Head = headOf (now (state .entry)) in r ≡ cond (violatedBy (h .drift) (clockOf h sender) readings) (2 ^ sender) 0) ⌝ }
+    ensures { λ r. ⌜ (let h : Head = headOf (now (state .entry)) in
+        r ≡ cond (violatedBy (h .drift) (clockOf h sender) readings) (2 ^ sender) 0) ⌝ }
 {
     if violated(state, sender, readings) {
         return names::single(sender);
@@ -47,7 +48,9 @@ pub(crate) fn save(state: &mut [u8], sender: u32, readings: Readings)
     requires { ⌜ (stateSize ≤ length (now state)) × T (inForm (now state)) × (sender ≤ nameMost) × T (not (readingsFail readings)) ⌝ }
     ensures { λ _. ⌜ (let h : Head = headOf (now (state .entry)) in
         now (state .exit)
-        ≡ put 0 (stateBytes (record { head = withClocks h (watched readings sender (h .clocks)); store = storeOf (now (state .entry)) })) (now (state .entry))) ⌝ }
+        ≡ put 0
+        (stateBytes (record { head = withClocks h (watched readings sender (h .clocks)); store = storeOf (now (state .entry)) }))
+        (now (state .entry))) ⌝ }
 {
     let Readings::With(new, _) = readings else {
         return;

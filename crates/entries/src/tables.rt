@@ -202,8 +202,8 @@ fn put_last(
     marks[n] = mark;
 }
 
-// Places an entry of one term: not added where an entry implies it, else those that it implies go, and it stands last. Answers how many rows there are
-// now.
+// Places an entry of one term: not added where an entry implies it, else those that it implies go, and it stands last. Answers how many rows
+// there are now.
 pub fn learn_term(
     s: &[u8],
     first: usize,

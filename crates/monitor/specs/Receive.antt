@@ -1,5 +1,5 @@
--- Receiving, over bytes (document 01, "Receiving" and "Who can cause which refusal"; document 02, W-201): what C gives a receipt, what its message delivers, the number
--- that the call returns and the lent state afterwards. Assumes nothing: these are definitions.
+-- Receiving, over bytes (document 01, "Receiving" and "Who can cause which refusal"; document 02, W-201): what C gives a
+-- receipt, what its message delivers, the number that the call returns and the lent state afterwards. Assumes nothing: these are definitions.
 use Prim.Native.Nat.{ℕ}
 use mathlib.Core.List.{List}
 use Rattle.numbers.specs.Numbers.{wordsOf}
@@ -40,7 +40,8 @@ pub data Delivered : Type 0 where
 unfoldable pub deliveredAs : Receipt → Reading → Delivered
 deliveredAs g (Refused number) = refused number
 deliveredAs g (Message sender left right count) =
-    brings (delivery (g .least) (g .greatest) (g .readings) sender left right (masks (termWords (Message sender left right count) (wordsOf (g .message)))))
+    brings (delivery (g .least) (g .greatest) (g .readings) sender left right
+    (masks (termWords (Message sender left right count) (wordsOf (g .message)))))
 
 unfoldable pub delivered : Receipt → Delivered
 delivered g = deliveredAs g (readBytes (g .message))

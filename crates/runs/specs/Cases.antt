@@ -1,5 +1,5 @@
--- The cases of document 01 ("Cases (P: to be proved)"), the answers of its listing and cases of document 02, as one table: what a row is, when it holds of the exported
--- calls' numbers and bytes, and the rows. Assumes nothing: these are definitions.
+-- The cases of document 01 ("Cases (P: to be proved)"), the answers of its listing and cases of document 02, as one table: what a row is,
+-- when it holds of the exported calls' numbers and bytes, and the rows. Assumes nothing: these are definitions.
 use Prim.Native.Nat.{ℕ, _+_, _^_, _≤_}
 use mathlib.Core.Path.{_≡_}
 use mathlib.Core.List.{List, [], _∷_, _++_}

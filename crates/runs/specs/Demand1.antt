@@ -245,8 +245,8 @@ EqualReading =
     (s : List ℕ) → Bytes s → stateSize ≤ length s → T (inForm s)
     → (ageNumber s (headOf s .reading) ≡ 0) × (ageState s (headOf s .reading) ≡ s)
 
--- "If it is true, the receipt is taken and changes nothing", where it comes without readings: every byte stays, and only 21, 18 and 30 can refuse it, since "30 comes also for a
--- predicate that is true"
+-- "If it is true, the receipt is taken and changes nothing", where it comes without readings: every byte stays, and only 21, 18
+-- and 30 can refuse it, since "30 comes also for a predicate that is true"
 unfoldable pub TrueReceipt : Type 0
 TrueReceipt =
     (s : List ℕ) → Bytes s → stateSize ≤ length s → T (inForm s) → (g : Receipt) (d : Delivery) → g .readings ≡ Without → delivered g ≡ brings d

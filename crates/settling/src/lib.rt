@@ -10,7 +10,8 @@ ghost use lib.Dec.{T};
 ghost use Rattle.predicates.specs.Predicates.{implies};
 ghost use Rattle.state.specs.Layout.{stateSize, datumTerms, entriesMost, entryTerms, rowsMost, entryCount, storeOf};
 ghost use Rattle.state.specs.Form.{inForm};
-ghost use Rattle.state.specs.code.Tables.{Columns, Table, tableFrom, columns, TableFits, ColumnsFit, EntriesStand, entriesIn, datumOf, datumIn, dataIn, storeIn};
+ghost use Rattle.state.specs.code.Tables.{Columns, Table, tableFrom, columns, TableFits, ColumnsFit, EntriesStand};
+ghost use Rattle.state.specs.code.Tables.{entriesIn, datumOf, datumIn, dataIn, storeIn};
 ghost use Rattle.entries.specs.code.Marks.{Marked, Left};
 ghost use Rattle.settling.specs.code.Rows.{DataLeft, liveBelow, withTerm};
 ghost use Rattle.steps.specs.Steps.{learnt, met, without, stored, settled};
@@ -67,8 +68,8 @@ fn place(
     h + 1
 }
 
-// Step 1: after a violation the blamed name is placed as an entry, which implies p, so that there is nothing else to learn; else what the new datum and
-// the held data teach. Answers how many rows of entries there are now.
+// Step 1: after a violation the blamed name is placed as an entry, which implies p, so that there is nothing else to learn; else what the new
+// datum and the held data teach. Answers how many rows of entries there are now.
 fn learn(
     lefts: &[u64],
     rights: &[u64],
@@ -116,9 +117,9 @@ fn learn(
 }
 
 // The four steps: what the new datum teaches, what the entries explain, and what becomes of it. The entries stay in the state's bytes; they are
-// marked first, since many predicates are held against them. After a violation of the sender's clock `blame` is its name as a term, which implies p; else it
-// is 0. Answers how many rows there are now. What stands in the arrays for rows without terms
-// (a datum that is not stored, say), and behind the last row, is free.
+// marked first, since many predicates are held against them. After a violation of the sender's clock `blame` is its name as a term, which
+// implies p; else it is 0. Answers how many rows there are now. What stands in the arrays for rows without terms (a datum that is not stored,
+// say), and behind the last row, is free.
 pub fn settle(
     lefts: &mut [u64],
     rights: &mut [u64],

@@ -14,7 +14,8 @@ use Rattle.predicates.specs.Predicates.{isNormal}
 use Rattle.clocks.specs.Clocks.{savedOk}
 use Rattle.clocks.specs.Places.{placeFits}
 use Rattle.state.specs.Model.{Datum, Head, Store, State, nameMost, driftMost, endLimit, readingLimit}
-use Rattle.state.specs.Layout.{ownAt, driftAt, readingAt, rightIn, rowIn, dataMost, datumTerms, entriesMost, entryTerms, datumPlace, entryPlace, masksAt, rowAt, heldCount, entryCount, clocksMost, clockPlace}
+use Rattle.state.specs.Layout.{ownAt, driftAt, readingAt, rightIn, rowIn, dataMost, datumTerms, entriesMost, entryTerms}
+use Rattle.state.specs.Layout.{datumPlace, entryPlace, masksAt, rowAt, heldCount, entryCount, clocksMost, clockPlace}
 
 -- ---- terms and predicates
 

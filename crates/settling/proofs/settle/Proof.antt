@@ -1,5 +1,6 @@
 -- `settling::settle` meets its contract: the entries are counted and marked where they stand (`entries-standing`), and the four steps follow,
--- one after the other; where the entries explain the new datum, the receipt ends at step 2. What the arrays then hold is the store of the definition (`settled-by`).
+-- one after the other; where the entries explain the new datum, the receipt ends at step 2. What the arrays then hold is the
+-- store of the definition (`settled-by`).
 use Prim.Native.Nat.{_+_, _≤_, _<_}
 use mathlib.Core.Path.{_≡_, refl, sym, _∙_}
 use native.Mathlib.Omega.{arith}

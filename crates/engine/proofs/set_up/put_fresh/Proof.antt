@@ -1,4 +1,5 @@
--- `engine::set_up::put_fresh` meets its contract: the head's numbers, no data, the fresh knowledge and the cleared clocks are the parts of the fresh state (`fresh-put`).
+-- `engine::set_up::put_fresh` meets its contract: the head's numbers, no data, the fresh knowledge and the cleared clocks are the parts of the
+-- fresh state (`fresh-put`).
 use native.Mathlib.Omega.{arith}
 use Rattle.numbers.specs.Numbers.{tab}
 use Rattle.state.specs.Layout.{entryPlace, entriesMost, dataBytes, joined}
