@@ -1,13 +1,13 @@
 -- Taken calls leave a right state (`stateOk` of `state.specs.Form`): setting up, ageing and receiving.
--- The idea: a refusal of 0 says that no test of its chain passed, and what a call could break of the state is what these tests keep. Ageing
--- keeps left at most right since the least advance is at most the greatest; what receiving does to the store is in `steps.proofs`, and to the clocks
--- in `proofs.WatchLaws`.
+-- The idea: a refusal of 0 says that no test of its chain passed, and what a call could break of the state is what these tests keep. Ageing, and
+-- a message's delays, keep left at most right since the least advance is at most the greatest; what receiving does to the store is in
+-- `steps.proofs`, and to the clocks in `proofs.WatchLaws`.
 -- No contract cites this file. Assumes nothing.
 use Prim.Native.Nat.{ℕ, _+_, _*_, _-_, _^_, _≤_, _<_}
 use mathlib.Core.Path.{_≡_, refl, sym, subst}
 use mathlib.Core.Bool.{Bool, true, false, not}
 use mathlib.Core.List.{List, [], _∷_, map}
-use native.Mathlib.Nat.{mul-le-mul-left}
+use native.Mathlib.Nat.{le-refl, mul-le-mul-left, mul-le-mul-right}
 use native.Mathlib.Omega.{arith}
 use lib.Dec.{T, T-not, eqb, eqb-refl, leb, le→leb, nleb→lt, ltb, lt→ltb, nltb→le}
 use lib.ListN.{length, length-map}
@@ -46,14 +46,17 @@ set-up-ok u e =
 
 -- ---- ageing
 
-pub least-greatest : (r d : ℕ) → leastAdvance r d ≤ greatestAdvance r d
+-- the least advance of a time is at most the greatest of the same or a longer one
+pub least-greatest : (r short long : ℕ) → short ≤ long → leastAdvance r short ≤ greatestAdvance r long
 unfolding leastAdvance greatestAdvance
-least-greatest r d =
-    let h : d * (1_000_000 - r) ≤ d * (1_000_000 + r) = mul-le-mul-left d (omega arith) in omega arith
+least-greatest r short long h =
+    let slower : short * (1_000_000 - r) ≤ short * (1_000_000 + r) = mul-le-mul-left short (omega arith) in
+    let longer : short * (1_000_000 + r) ≤ long * (1_000_000 + r) = mul-le-mul-right (1_000_000 + r) h in
+    omega arith
 
 pub slow-fast : (h : Head) (reading : ℕ) → slow h reading ≤ fast h reading
 unfolding slow fast
-slow-fast h reading = least-greatest (h .drift) (reading - h .reading)
+slow-fast h reading = let passed = reading - h .reading in least-greatest (h .drift) passed passed (le-refl passed)
 
 -- right data that are widened, none beyond the last end
 widened-ok : (own lo hi : ℕ) (ds : List Datum) → lo ≤ hi → T (all (datumOk own) ds)
@@ -102,17 +105,17 @@ pub record Heard (g : Delivery) : Type 0 where
   pub readings : T (not (readingsFail (g .readings)))
 
 -- the new datum has passed 18, 30 and 31
-pub record Passed (own : ℕ) (g : Delivery) : Type 0 where
-  pub other : g .sender ≡ own → ⊥
-  pub below : grown own g .right < endLimit
-  pub few : length (grown own g .terms) ≤ 8
+pub record Passed (h : Head) (g : Delivery) : Type 0 where
+  pub other : g .sender ≡ h .own → ⊥
+  pub below : grown h g .right < endLimit
+  pub few : length (grown h g .terms) ≤ 8
 
 pub receipt-passed : (st : State) (g : Delivery) → receiptRefusal st g ≡ 0
-    → Passed (st .head .own) g × T (countsOk (made (st .head) (st .store) (receive g)))
+    → Passed (st .head) g × T (countsOk (made (st .head) (st .store) (receive g)))
 unfolding receiptRefusal tooMany countsOk
 receipt-passed st g e =
     let own = st .head .own in
-    let n = grown own g in
+    let n = grown (st .head) g in
     let k = made (st .head) (st .store) (receive g) in
     let a = refuse-none (eqb (g .sender) own) 18 _ (omega arith) e in
     let b = refuse-none (leb endLimit (n .right)) 30 _ (omega arith) (a .1) in
@@ -128,19 +131,20 @@ receipt-passed st g e =
           (le→leb (length (k .entries)) 32 (nltb→le 32 (length (k .entries)) (few .1))),
     )
 
-pub grown-ends : (own : ℕ) (g : Delivery) → Heard g → grown own g .left ≤ grown own g .right
+-- the grown interval is not empty
+pub grown-ends : (h : Head) (g : Delivery) → Heard g → grown h g .left ≤ grown h g .right
 unfolding grown
-grown-ends own g h = omega arith
+grown-ends h g e = omega (arith, least-greatest (h .drift) (g .least) (g .greatest) (e .delays), e .ends)
 
 -- a new datum that is not true is right
-pub grown-ok : (own : ℕ) (g : Delivery) → Heard g → Passed own g → T (not (isTrue (grown own g .terms))) → T (datumOk own (grown own g))
+pub grown-ok : (h : Head) (g : Delivery) → Heard g → Passed h g → T (not (isTrue (grown h g .terms))) → T (datumOk (h .own) (grown h g))
 unfolding grown
-grown-ok own g h p n =
-    ok-datum-in own (grown own g)
+grown-ok h g e p n =
+    ok-datum-in (h .own) (grown h g)
     record {
-      ends = grown-ends own g h;
+      ends = grown-ends h g e;
       below = p .below;
-      fit = formed-fit own (g .sender) (g .terms) (h .sender-le) (p .other) (h .small) n (p .few);
+      fit = formed-fit (h .own) (g .sender) (g .terms) (e .sender-le) (p .other) (e .small) n (p .few);
     }
 
 -- what a receipt leaves is right, violated or not
@@ -152,14 +156,14 @@ judged-ok own true sender n k s f i h d =
     subst (λ (j : Store). T (storeOk own j)) (sym (judged-violated sender n k i)) (swept-blamed-ok own sender k s f h)
 judged-ok own false sender n k s f i h d = received-ok own n k h d
 
-pub made-ok : (st : State) (g : Delivery) → T (stateOk st) → Heard g → Passed (st .head .own) g
+pub made-ok : (st : State) (g : Delivery) → T (stateOk st) → Heard g → Passed (st .head) g
     → T (storeOk (st .head .own) (made (st .head) (st .store) (receive g)))
 unfolding made stateOk grown
 made-ok st g t h p =
     let own = st .head .own in
     let old : T (storeOk own (st .store)) = search (both-l, both-r) depth 9 in
-    judged-ok own (violated (st .head) g) (g .sender) (grown own g) (st .store) (h .sender-le) (p .other) (formed-single own (g .sender) (g .terms))
-    old (grown-ok own g h p)
+    judged-ok own (violated (st .head) g) (g .sender) (grown (st .head) g) (st .store) (h .sender-le) (p .other) (formed-single own (g .sender) (g .terms))
+    old (grown-ok (st .head) g h p)
 
 -- the same, before the readings are saved
 pub unsaved-ok : (st : State) (g : Delivery) → T (stateOk st) → Heard g → receiptRefusal st g ≡ 0

@@ -54,5 +54,5 @@ passes-both st reading t =
 
 -- ---- receiving: a message that was read, with delays that fit
 
-pub grown-both : (st : State) (g : Delivery) → Heard g → growsPast st g ≡ anEndPasses (grown (st .head .own) g)
-grown-both st g h = right-decides (grown (st .head .own) g) (grown-ends (st .head .own) g h)
+pub grown-both : (st : State) (g : Delivery) → Heard g → growsPast st g ≡ anEndPasses (grown (st .head) g)
+grown-both st g h = right-decides (grown (st .head) g) (grown-ends (st .head) g h)

@@ -15,10 +15,12 @@ use lib.Seq.{sets, sets-eq, take-at}
 use Rattle.numbers.specs.Numbers.{put}
 use Rattle.names.specs.Sets.{noSet}
 use Rattle.message.specs.Words.{masks}
-use Rattle.predicates.specs.Lists.{any, all, In}
+use Rattle.message.proofs.WordLaws.{length-masks}
+use Rattle.predicates.specs.Lists.{any, all, In, padded}
 use Rattle.predicates.specs.Predicates.{implies, isNormal, isTrue, formed, precedes}
 use Rattle.predicates.proofs.ListLaws.{both-l, both-r, true-T}
 use Rattle.predicates.proofs.BitLaws.{or-zero}
+use Rattle.predicates.proofs.SumLaws.{padded-front}
 use Rattle.clocks.specs.Clocks.{violatedBy, watched}
 use Rattle.state.specs.Model.{Datum, datum, Store, State, withClocks, endLimit}
 use Rattle.state.specs.Refusal.{after}
@@ -26,6 +28,7 @@ use Rattle.state.specs.Layout.{stateSize, datumTerms, stateBytes, stateOf, head
 use Rattle.state.specs.Form.{inForm, stateOk}
 use Rattle.state.proofs.PartLaws.{put-over}
 use Rattle.state.proofs.StateLaws.{length-state, put-state, held-count-le, entry-count-le, length-held, length-entries}
+use Rattle.engine.specs.Ageing.{leastAdvance, greatestAdvance}
 use Rattle.engine.specs.Receiving.{Delivery, grown}
 use Rattle.engine.specs.Calls.{receive, clockOf, violated, done, moved, made}
 use Rattle.steps.specs.Steps.{settled, received, blamed, judged, tooMany}
@@ -37,9 +40,20 @@ use Rattle.engine.specs.Refusals.{receiptRefusal}
 
 -- ---- the row
 
-pub row-front : (m z r : List ℕ) → length m ≤ length z → r ≡ sets z 0 m → take (length m) r ≡ m
+row-front : (m z r : List ℕ) → length m ≤ length z → r ≡ sets z 0 m → take (length m) r ≡ m
 row-front m z r h e =
     ap (λ (l : List ℕ). take (length m) l) (e ∙ sets-eq m z 0 (omega arith)) ∙ take-at m (drop (0 + length m) z) (length m) refl
+
+-- the predicate formed of a row that the terms of words stand at the front of
+pub formed-front : (ws z r : List ℕ) (own same sender : ℕ) → length ws ≤ length z → r ≡ sets z 0 (masks ws) → own ≡ same
+    → formed own sender (take (length ws) r) ≡ formed same sender (masks ws)
+formed-front ws z r own same sender h e o =
+    let front = row-front (masks ws) z r (omega (arith, length-masks ws)) e in
+    rw (o, rw (length-masks ws) at front)
+
+-- what stands at the front afterwards
+pub kept-front : (n m : ℕ) (p y r : List ℕ) → m ≡ length p → r ≡ padded n p ++ y → take m r ≡ p
+kept-front n m p y r e f = rw (e, f) (padded-front n p y)
 
 -- a predicate in normal form is true where its first term is empty
 pub true-first : (p : List ℕ) → T (isNormal p) → 0 < length p → isTrue p ≡ eqb (getD p 0 0) 0
@@ -136,27 +150,34 @@ module _ (s : List ℕ) (g : Delivery) where
   receipt-own e = rw (eq-eqb _ _ e)
 
   module _ (other : g .sender ≡ stateOf s .head .own → ⊥) where
-    pub receipt-end : endLimit ≤ grown (stateOf s .head .own) g .right → receiptRefusal (stateOf s) g ≡ 30
+    pub receipt-end : endLimit ≤ grown (stateOf s .head) g .right → receiptRefusal (stateOf s) g ≡ 30
     unfolding receiptRefusal
     receipt-end h = rw (ne-eqb _ _ other, le-leb _ _ h)
 
-    module _ (below : grown (stateOf s .head .own) g .right < endLimit) where
-      pub receipt-terms : datumTerms < length (grown (stateOf s .head .own) g .terms) → receiptRefusal (stateOf s) g ≡ 31
+    module _ (below : grown (stateOf s .head) g .right < endLimit) where
+      pub receipt-terms : datumTerms < length (grown (stateOf s .head) g .terms) → receiptRefusal (stateOf s) g ≡ 31
       unfolding receiptRefusal
       receipt-terms h = rw (ne-eqb _ _ other, lt-leb _ _ below, lt-ltb _ _ h)
 
       -- the last test: too many, or taken
-      pub receipt-counts : length (grown (stateOf s .head .own) g .terms) ≤ datumTerms
+      pub receipt-counts : length (grown (stateOf s .head) g .terms) ≤ datumTerms
           → receiptRefusal (stateOf s) g ≡ cond (tooMany (made (headOf s) (storeOf s) (receive g))) 32 0
       unfolding receiptRefusal stateOf
       receipt-counts h = rw (ne-eqb _ _ other, lt-leb _ _ below, le-ltb _ _ h)
 
--- the bytes of a taken receipt before its readings are saved, told of the predicate in the row
-pub receipt-written : (s : List ℕ) (g : Delivery) (p : List ℕ) (r : ℕ) (u : List ℕ) → p ≡ formed (headOf s .own) (g .sender) (g .terms) → r ≡ 0
-    → u ≡ after r (stateBytes (record { head = headOf s; store = judged (violatedBy (headOf s .drift) (clockOf (headOf s) (g .sender)) (g .readings)) (g .sender) (datum (g .left + g .least) (g .right + g .greatest) p) (storeOf s) })) s
+-- the datum with the grown ends, told of the predicate in the row
+pub datum-grown : (s : List ℕ) (g : Delivery) (left right : ℕ) (p : List ℕ) → left ≡ g .left + leastAdvance (headOf s .drift) (g .least)
+    → right ≡ g .right + greatestAdvance (headOf s .drift) (g .greatest) → p ≡ formed (headOf s .own) (g .sender) (g .terms)
+    → datum left right p ≡ grown (headOf s) g
+unfolding grown
+datum-grown s g left right p l r e = rw (l, r, e)
+
+-- the bytes of a taken receipt before its readings are saved
+pub receipt-written : (s : List ℕ) (g : Delivery) (n : Datum) (r : ℕ) (u : List ℕ) → n ≡ grown (headOf s) g → r ≡ 0
+    → u ≡ after r (stateBytes (record { head = headOf s; store = judged (violatedBy (headOf s .drift) (clockOf (headOf s) (g .sender)) (g .readings)) (g .sender) n (storeOf s) })) s
     → u ≡ put 0 (stateBytes (record { head = headOf s; store = made (headOf s) (storeOf s) (receive g) })) s
-unfolding made violated grown after
-receipt-written s g p r u e z q = q ∙ rw (z, e)
+unfolding made violated after
+receipt-written s g n r u e z q = q ∙ rw (z, e)
 
 -- the store of a taken receipt, and then its readings saved
 pub receipt-saved : (s : List ℕ) (g : Delivery) (u v : List ℕ) → stateSize ≤ length s → T (stateOk (record { head = headOf s; store = made (headOf s) (storeOf s) (receive g) }))

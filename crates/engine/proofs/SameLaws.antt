@@ -90,13 +90,13 @@ true-alone (t ∷ p) n h =
     let less = ltb→lt t (k .0) (both-l (ltb t (k .0)) _ (all-out (λ u. precedes t u) p first (k .0) (k .1))) in
     absurd (omega (arith, eqb→eq (k .0) 0 (k .2)))) (or-cases (eqb t 0) (any (λ u. eqb u 0) p) h)
 
-module _ (st : State) (t : T (stateOk st)) (g : Delivery) (w : g .readings ≡ Without) (h : T (isTrue (grown (st .head .own) g .terms))) where
+module _ (st : State) (t : T (stateOk st)) (g : Delivery) (w : g .readings ≡ Without) (h : T (isTrue (grown (st .head) g .terms))) where
   pub receive-same : done st (receive g) ≡ st
   unfolding done moved made violated judged received
   receive-same =
-      rw (watched-none (g .readings) (g .sender) (st .head .clocks) w, violated-none (st .head .drift) (clockOf (st .head) (g .sender)) (g .readings) w, T-true (isTrue (grown (st .head .own) g .terms)) h)
+      rw (watched-none (g .readings) (g .sender) (st .head .clocks) w, violated-none (st .head .drift) (clockOf (st .head) (g .sender)) (g .readings) w, T-true (isTrue (grown (st .head) g .terms)) h)
 
-  few-terms : length (grown (st .head .own) g .terms) ≤ 1
+  few-terms : length (grown (st .head) g .terms) ≤ 1
   unfolding grown
   few-terms = true-alone (formed (st .head .own) (g .sender) (g .terms)) (formed-normal (st .head .own) (g .sender) (g .terms)) h
 
@@ -109,8 +109,8 @@ module _ (st : State) (t : T (stateOk st)) (g : Delivery) (w : g .readings ≡ W
         violated-none (st .head .drift) (clockOf (st .head) (g .sender)) (g .readings) w,
         T-false (fromSelf st g) other,
         T-false (growsPast st g) below,
-        le-ltb datumTerms (length (grown (st .head .own) g .terms)) (omega (arith, few-terms)),
-        T-true (isTrue (grown (st .head .own) g .terms)) h,
+        le-ltb datumTerms (length (grown (st .head) g .terms)) (omega (arith, few-terms)),
+        T-true (isTrue (grown (st .head) g .terms)) h,
         le-ltb dataMost (length (st .store .held)) (o .held-le),
         le-ltb entriesMost (length (st .store .entries)) (o .entries-le),
       )

@@ -49,7 +49,7 @@ moved h (receive g) = withClocks h (watched (g .readings) (g .sender) (h .clocks
 -- what is held and known after a taken call
 unfoldable pub made : Head → Store → Call → Store
 made h k (age reading) = aged (slow h reading) (fast h reading) k
-made h k (receive g) = judged (violated h g) (g .sender) (grown (h .own) g) k
+made h k (receive g) = judged (violated h g) (g .sender) (grown h g) k
 
 -- the state after a taken call
 unfoldable pub done : State → Call → State

@@ -1,9 +1,11 @@
--- What a receipt is given and the datum that it makes (document 01, "Receiving", head; document 02, W-201). Assumes nothing: these are definitions.
+-- What a receipt is given and the datum that it makes (document 01, "Receiving", head; document 02, W-201 and W-202).
+-- Assumes nothing: these are definitions.
 use Prim.Native.Nat.{ℕ, _+_}
 use mathlib.Core.List.{List}
 use Rattle.predicates.specs.Predicates.{formed}
 use Rattle.clocks.specs.declared.Readings.{Readings}
-use Rattle.state.specs.Model.{Datum}
+use Rattle.state.specs.Model.{Datum, Head}
+use Rattle.engine.specs.Ageing.{leastAdvance, greatestAdvance}
 
 -- what a receipt is given: the channel's least and greatest delay, clock readings or none, and what the message says
 pub record Delivery : Type 0 where
@@ -19,7 +21,13 @@ abbrev pub delivery : ℕ → ℕ → Readings → ℕ → ℕ → ℕ → List 
 delivery least greatest readings sender left right terms =
     record { least = least; greatest = greatest; readings = readings; sender = sender; left = left; right = right; terms = terms }
 
--- "The interval grows by the channel's least and greatest delay: left plus least, right plus greatest. The predicate becomes sender + predicate
--- with every term that names the receiver struck out, in normal form."
-unfoldable pub grown : ℕ → Delivery → Datum
-grown own g = record { left = g .left + g .least; right = g .right + g .greatest; terms = formed own (g .sender) (g .terms) }
+-- The grown interval: it "grows by the channel's least and greatest delay", and by document 02 "delays are counted on the receiver's clock": "a delay
+-- now counts by the ageing rule, the least as a left end's advance, the greatest as a right end's", with the own drift.
+-- "The predicate becomes sender + predicate with every term that names the receiver struck out, in normal form."
+unfoldable pub grown : Head → Delivery → Datum
+grown h g =
+    record {
+      left = g .left + leastAdvance (h .drift) (g .least);
+      right = g .right + greatestAdvance (h .drift) (g .greatest);
+      terms = formed (h .own) (g .sender) (g .terms);
+    }

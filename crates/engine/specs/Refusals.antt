@@ -62,9 +62,9 @@ ageRefusal st reading =
 
 -- the greatest delay that a channel may have
 abbrev pub delayMost : ℕ
-delayMost = 60_000_000
+delayMost = 600_000_000
 
--- 21: "least delay above greatest, or greatest above 60,000,000"
+-- 21: "least delay above greatest, or greatest above" 600,000,000 (document 02, W-202)
 abbrev pub delaysFail : ℕ → ℕ → Bool
 delaysFail least greatest = ltb greatest least || ltb delayMost greatest
 
@@ -74,11 +74,11 @@ fromSelf st g = eqb (g .sender) (st .head .own)
 
 -- 30, of the grown interval
 abbrev pub growsPast : State → Delivery → Bool
-growsPast st g = leb endLimit (grown (st .head .own) g .right)
+growsPast st g = leb endLimit (grown (st .head) g .right)
 
 -- "31 more than 8 terms in the new predicate's normal form, stored or not"
 abbrev pub termsFail : State → Delivery → Bool
-termsFail st g = ltb datumTerms (length (grown (st .head .own) g .terms))
+termsFail st g = ltb datumTerms (length (grown (st .head) g .terms))
 
 -- "32 too many data or entries"
 abbrev pub overfills : State → Delivery → Bool

@@ -7,4 +7,4 @@ pub mod set_up;
 mod watching;
 
 // The greatest delay that a channel may have, in microseconds.
-pub const DELAY_MOST: u64 = 60_000_000;
+pub const DELAY_MOST: u64 = 600_000_000;

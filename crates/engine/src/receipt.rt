@@ -3,7 +3,7 @@
 ghost use mathlib.Core.Path.{_≡_};
 ghost use mathlib.Core.Bool.{Bool, not, cond};
 ghost use mathlib.Core.List.{[], _∷_};
-ghost use Prim.Native.Nat.{_≤_, _<_, _^_};
+ghost use Prim.Native.Nat.{_+_, _≤_, _<_, _^_};
 ghost use lib.Dec.{T};
 ghost use lib.ListN.{length};
 ghost use lib.Seq.{sets};
@@ -16,6 +16,7 @@ ghost use Rattle.state.specs.Form.{inForm};
 ghost use Rattle.state.specs.code.Tables.{datumOf};
 ghost use Rattle.steps.specs.Steps.{judged, tooMany};
 ghost use Rattle.message.specs.Words.{masks};
+ghost use Rattle.engine.specs.Ageing.{leastAdvance, greatestAdvance};
 ghost use Rattle.engine.specs.Receiving.{Delivery, delivery};
 ghost use Rattle.engine.specs.Calls.{receive as Calls·receive, done, clockOf};
 ghost use Rattle.engine.specs.Refusals.{delayMost, receiptRefusal};
@@ -31,6 +32,20 @@ fn copy_masks(words: &[u32], row: &mut [u32])
     while i < words.len() {
         row[i] = words[i] % message::PAYLOAD_SIZE;
         i += 1;
+    }
+}
+
+// The ends of a message's interval, grown by the delays: these were counted on the own clock, so its drift counts as in ageing.
+fn grow(state: &[u8], least: u64, greatest: u64, left: u64, right: u64) -> Ends
+    requires { ⌜ (stateSize ≤ length (now state)) × T (inForm (now state)) ⌝ }
+    requires { ⌜ (least ≤ greatest) × (greatest ≤ delayMost) × (left ≤ right) × (right < endLimit) ⌝ }
+    ensures { λ new. ⌜ new .left ≡ left + leastAdvance (headOf (now (state .entry)) .drift) least ⌝ }
+    ensures { λ new. ⌜ new .right ≡ right + greatestAdvance (headOf (now (state .entry)) .drift) greatest ⌝ }
+{
+    let drift = numbers::get32(state, state::DRIFT_AT) as u64;
+    Ends {
+        left: left + (least - super::ageing::drift_over(least, drift)),
+        right: right + (greatest + super::ageing::drift_over(greatest, drift)),
     }
 }
 
@@ -77,10 +92,7 @@ pub fn deliver(
     if sender == own {
         return 18;
     }
-    let new = Ends {
-        left: left + least,
-        right: right + greatest,
-    };
+    let new = grow(state, least, greatest, left, right);
     if state::END_LIMIT <= new.right {
         return 30;
     }

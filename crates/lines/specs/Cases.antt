@@ -87,12 +87,12 @@ printed text line = record { text = text; line = line }
 unfoldable pub asPrinted : Printed → Bool
 asPrinted p = sameBytes (p .text) (ascii (p .line) ++ (10 ∷ []))
 
--- those of document 01's listing, and the longest numbers
+-- those of document 01's listing, its first two answers as document 02 (W-202) has them, and the longest numbers
 unfoldable pub answers : List Printed
 answers =
     printed (numberText 0) "ok"
-    ∷ printed (answerText (Between 1_000_000 1_000_250)) "between 1000000 1000250"
-    ∷ printed (answerText (Between 2_999_800 3_000_450)) "between 2999800 3000450"
+    ∷ printed (answerText (Between 1_000_000 1_000_251)) "between 1000000 1000251"
+    ∷ printed (answerText (Between 2_999_800 3_000_451)) "between 2999800 3000451"
     ∷ printed (answerText Contradicted) "contradicted"
     ∷ printed (answerText (Between 2_999_800 3_001_000)) "between 2999800 3001000"
     ∷ printed (answerText Open) "open"

@@ -135,4 +135,4 @@ unfolding made linesOf sees grown
 call-agrees h (age reading) f s k ls ag =
     age-agrees (sees s) s k ls ag (slow h reading) (fast h reading) (slow-fast h reading)
 call-agrees h (receive g) f s k ls ag =
-    judged-agrees (sees s) s k ls ag (violated h g) (g .sender) (grown (h .own) g) (grown-ends (h .own) g f) (formed-single (h .own) (g .sender) (g .terms)) refl refl
+    judged-agrees (sees s) s k ls ag (violated h g) (g .sender) (grown h g) (grown-ends h g f) (formed-single (h .own) (g .sender) (g .terms)) refl refl

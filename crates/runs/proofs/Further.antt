@@ -62,7 +62,7 @@ less-receipt c b g e l =
       head = rw (watched-none (g .readings) (g .sender) (c .head .clocks) e) (l .head);
       ends = λ v x p.
           let own-line = rw (violated-none (c .head .drift) (clockOf (c .head) (g .sender)) (g .readings) e) at p in
-          let w = ends-out v (c .lines) (heard (grown (c .head .own) g) ∷ []) x own-line in
+          let w = ends-out v (c .lines) (heard (grown (c .head) g) ∷ []) x own-line in
           rw (w .2 .1) at (l .ends v (w .0) (w .1));
     }
 

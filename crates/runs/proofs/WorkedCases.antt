@@ -40,8 +40,8 @@ use Rattle.monitor.specs.Calls.{ageNumber}
 use Rattle.monitor.specs.Ask.{limitMost, limitFails, limitRefusal, askNumber}
 use Rattle.runs.specs.Book.{Step}
 use Rattle.runs.specs.Runs.{stateAfter}
-use Rattle.runs.specs.Cases.{Question, asking, refusing, holding, knowing, saving, forming, advancing, Case, Comes, runOf, CaseComes, cases, EachCase}
-use Rattle.runs.proofs.DecodedRuns.{numberOn, doneBy, next, stepsFrom, stateFrom, set-up-taken, run-steps, run-state}
+use Rattle.runs.specs.Cases.{Question, asking, refusing, holding, knowing, saving, forming, advancing, returning, Case, Comes, runOf, CaseComes, cases, EachCase}
+use Rattle.runs.proofs.DecodedRuns.{numberOn, doneBy, next, stepsFrom, stateFrom, set-up-taken, number-on, run-steps, run-state}
 use Rattle.runs.proofs.Runs.{reached}
 use Rattle.runs.proofs.Demand3.{ask-answers}
 
@@ -86,6 +86,7 @@ meets st (knowing es) = alike same (st .store .entries) es
 meets st (saving name v) = sameSaved (clockOf (st .head) name) v
 meets st (forming sender terms p) = same (formed (st .head .own) sender terms) p
 meets st (advancing reading lo hi) = eqb (ageRefusal st reading) 0 && (eqb (slow (st .head) reading) lo && eqb (fast (st .head) reading) hi)
+meets st (returning q number) = eqb (numberOn st q) number
 
 unfoldable passes : Case → Bool
 passes c =
@@ -175,6 +176,7 @@ module _ (s : List ℕ) (h : stateSize ≤ length s) (t : T (inForm s)) where
     eqb→eq (slow (headOf s) reading) lo (search (both-l, both-r) depth 9),
     eqb→eq (fast (headOf s) reading) hi (search (both-l, both-r) depth 9),
   )
+  question-comes (returning q number) p = number-on s h t q ∙ eqb→eq (numberOn (stateOf s) q) number p
 
 case-comes : (c : Case) → T (passes c) → (buffer : List ℕ) → stateSize ≤ length buffer → CaseComes c buffer
 unfolding passes

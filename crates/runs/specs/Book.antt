@@ -50,7 +50,7 @@ opened u = record { head = begun u; lines = [] }
 -- plays no part." A violation enters its line first. "The book of demand 3 keeps triples of its own by the same rule", in its head (`moved`).
 unfoldable pub linesOf : Head → Call → List Line
 linesOf h (age reading) = advanced (slow h reading) (fast h reading) ∷ []
-linesOf h (receive g) = cond (violated h g) (blames (g .sender) ∷ []) [] ++ (heard (grown (h .own) g) ∷ [])
+linesOf h (receive g) = cond (violated h g) (blames (g .sender) ∷ []) [] ++ (heard (grown h g) ∷ [])
 
 unfoldable pub entered : Book → Call → Book
 entered b c = record { head = moved (b .head) c; lines = b .lines ++ linesOf (b .head) c }

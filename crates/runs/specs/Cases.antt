@@ -1,6 +1,6 @@
 -- The cases of document 01 ("Cases (P: to be proved)"), the answers of its listing and cases of document 02, as one table: what a row is,
 -- when it holds of the exported calls' numbers and bytes, and the rows. Assumes nothing: these are definitions.
-use Prim.Native.Nat.{ℕ, _+_, _^_, _≤_}
+use Prim.Native.Nat.{ℕ, _+_, _-_, _^_, _≤_}
 use mathlib.Core.Path.{_≡_}
 use mathlib.Core.List.{List, [], _∷_, _++_}
 use lib.Dec.{T, eqb}
@@ -23,7 +23,7 @@ use Rattle.monitor.specs.Calls.{setUpNumber, ageNumber}
 use Rattle.monitor.specs.Receive.{receiptOf, receiptWith}
 use Rattle.monitor.specs.Ask.{answerSize, answerIn, askNumber, askOutput}
 use Rattle.runs.specs.Book.{Request, ageing, receipt, Step}
-use Rattle.runs.specs.Runs.{Run, stateAfter, stepsOf}
+use Rattle.runs.specs.Runs.{requestNumber, Run, stateAfter, stepsOf}
 
 -- ---- a row
 
@@ -43,6 +43,8 @@ pub data Question : Type 0 where
   saving : ℕ → Saved → Question
   -- an ageing to the reading has this least and this greatest advance
   advancing : ℕ → ℕ → ℕ → Question
+  -- a request returns the number
+  returning : Request → ℕ → Question
 
 -- it is put after a setting up and requests
 pub record Case : Type 0 where
@@ -61,6 +63,7 @@ Comes s (knowing es) = storeOf s .entries ≡ es
 Comes s (saving name v) = clockOf (headOf s) name ≡ v
 Comes s (forming sender terms p) = formed (headOf s .own) sender terms ≡ p
 Comes s (advancing reading lo hi) = (ageNumber s reading ≡ 0) × (slow (headOf s) reading ≡ lo) × (fast (headOf s) reading ≡ hi)
+Comes s (returning q number) = requestNumber s q ≡ number
 
 -- the row as a run in a buffer
 abbrev pub runOf : (c : Case) (buffer : List ℕ) → setUpNumber buffer (c .setup) ≡ 0 → Run
@@ -81,13 +84,20 @@ given u qs q = record { setup = u; requests = qs; question = q }
 abbrev pub named : ℕ → Setup
 named own = record { own = own; drift = 100; reading = 0 }
 
--- the same without drift
+-- the same without drift, and with the greatest
 abbrev pub steady : ℕ → Setup
 steady own = record { own = own; drift = 0; reading = 0 }
+
+abbrev pub hasty : ℕ → Setup
+hasty own = record { own = own; drift = 1_000; reading = 0 }
 
 -- a receipt of a message of these words, "four bytes make a word", as the listing's `get`
 abbrev pub get : ℕ → ℕ → List ℕ → Request
 get least greatest words = receipt (receiptOf least greatest (bytesOf words))
+
+-- a receipt of sender 1's message of an interval, over a channel with these delays
+abbrev pub delayed : ℕ → ℕ → ℕ → ℕ → Request
+delayed least greatest left right = get least greatest (messageWords 1 [] left right [])
 
 -- a receipt of a sender's message of an interval and terms, over a channel without delay
 abbrev pub hear : ℕ → ℕ → ℕ → List ℕ → Request
@@ -149,10 +159,10 @@ cases =
     -- the same by an ageing
     ∷ given (named 5) (hear 1 0 10 [] ∷ ageing 1 ∷ []) (holding (datum 0 12 (2 ^ 1 ∷ []) ∷ []))
     ∷ given (named 5) (hear 1 0 10 [] ∷ ageing 0 ∷ []) (holding (datum 0 10 (2 ^ 1 ∷ []) ∷ []))
-    -- the listing (its `fewest` is not here: `ones` takes as many steps as the mask is large): "between 1000000 1000250"
-    ∷ given (named 5) listingFirst (asking 0 (Between 1_000_000 1_000_250))
-    -- "between 2999800 3000450"
-    ∷ given (named 5) listingAged (asking 0 (Between 2_999_800 3_000_450))
+    -- the listing (its `fewest` is not here: `ones` takes as many steps as the mask is large). Document 02, W-202: "with delays 0 and 50 its
+    -- first two answers end at 1000251 and 3000451"
+    ∷ given (named 5) listingFirst (asking 0 (Between 1_000_000 1_000_251))
+    ∷ given (named 5) listingAged (asking 0 (Between 2_999_800 3_000_451))
     -- "contradicted", "between 2999800 3001000", "open"
     ∷ given (named 5) listingSecond (asking 0 Contradicted)
     ∷ given (named 5) listingSecond (asking 1 (Between 2_999_800 3_001_000))
@@ -184,6 +194,18 @@ cases =
     ∷ given (steady 5) (hear 2 20 30 [] ∷ one 0 0 0 ∷ []) (knowing ((2 ^ 1 ∷ 2 ^ 2 ∷ []) ∷ []))
     ∷ given (steady 5) (hear 2 20 30 [] ∷ one 0 0 0 ∷ one 0 9 0 ∷ []) (knowing ((2 ^ 1 ∷ []) ∷ []))
     ∷ given (steady 5) (hear 2 20 30 [] ∷ one 0 0 0 ∷ one 0 9 0 ∷ []) (holding (datum 20 30 (2 ^ 2 ∷ []) ∷ []))
+    -- document 02, W-202. Delays by the ageing rule: rounded as an ageing by 1 is, by 5, and at the greatest drift and delay
+    ∷ given (named 5) (delayed 1 1 0 0 ∷ []) (holding (datum 0 2 (2 ^ 1 ∷ []) ∷ []))
+    ∷ given (named 5) (delayed 5 5 10 10 ∷ []) (holding (datum 14 16 (2 ^ 1 ∷ []) ∷ []))
+    ∷ given (hasty 5) (delayed 600_000_000 600_000_000 0 0 ∷ []) (holding (datum 599_400_000 600_600_000 (2 ^ 1 ∷ []) ∷ []))
+    -- without drift left plus least, right plus greatest
+    ∷ given (steady 5) (delayed 3 600_000_000 10 20 ∷ []) (holding (datum 13 600_000_020 (2 ^ 1 ∷ []) ∷ []))
+    -- "Delay" 600,000,000 "taken", 600,000,001 "gives 21"
+    ∷ given (named 5) [] (returning (delayed 0 600_000_000 0 0) 0)
+    ∷ given (named 5) [] (returning (delayed 0 600_000_001 0 0) 21)
+    -- the end so grown is the greatest, and one beyond it
+    ∷ given (named 5) (delayed 0 1 0 (2 ^ 58 - 3) ∷ []) (holding (datum 0 (2 ^ 58 - 1) (2 ^ 1 ∷ []) ∷ []))
+    ∷ given (named 5) [] (returning (delayed 0 1 0 (2 ^ 58 - 2)) 30)
     ∷ []
 
 -- "The cases marked P are proved together, as one table with a common statement": each row holds of the exported calls, in every buffer that has room

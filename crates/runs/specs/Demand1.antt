@@ -163,7 +163,7 @@ ofDelivered f (brings d) = f d
 abbrev pub deliveryTests : State → Delivered → List Test
 deliveryTests st d =
     test (ofDelivered (fromSelf st) d) 18
-    ∷ test (ofDelivered (λ g. anEndPasses (grown (st .head .own) g)) d) 30
+    ∷ test (ofDelivered (λ g. anEndPasses (grown (st .head) g)) d) 30
     ∷ test (ofDelivered (termsFail st) d) 31
     ∷ test (ofDelivered (overfills st) d) 32
     ∷ []
@@ -250,7 +250,7 @@ EqualReading =
 unfoldable pub TrueReceipt : Type 0
 TrueReceipt =
     (s : List ℕ) → Bytes s → stateSize ≤ length s → T (inForm s) → (g : Receipt) (d : Delivery) → g .readings ≡ Without → delivered g ≡ brings d
-    → T (isTrue (grown (headOf s .own) d .terms))
+    → T (isTrue (grown (headOf s) d .terms))
     → (receiveState s g ≡ s)
     × (T (not (delaysFail (g .least) (g .greatest))) → T (not (fromSelf (stateOf s) d)) → T (not (growsPast (stateOf s) d)) → receiveNumber s g ≡ 0)
 

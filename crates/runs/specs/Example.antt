@@ -47,7 +47,7 @@ exampleNumbers = 10 ∷ 0 ∷ 20 ∷ 18 ∷ 21 ∷ 0 ∷ 0 ∷ 0 ∷ 40 ∷ 0 �
 -- the lines of the taken ones: "A refused call enters nothing", "a true one too"
 unfoldable pub exampleLines : List Line
 exampleLines =
-    heard (datum 1_000_000 1_000_250 (2 ^ 1 ∷ []))
+    heard (datum 1_000_000 1_000_251 (2 ^ 1 ∷ []))
     ∷ advanced 1_999_800 2_000_200
     ∷ heard (datum 3_001_000 3_001_000 (2 ^ 2 ∷ 2 ^ 3 ∷ []))
     ∷ heard (datum 0 0 (0 ∷ []))
