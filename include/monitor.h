@@ -20,7 +20,7 @@
 #include <stdint.h>
 
 /** Rises by one with each change that a C program can see; CHANGELOG.md says what it was. */
-#define MONITOR_VERSION 3
+#define MONITOR_VERSION 4
 
 /** The mark of a result that must be looked at, where the compiler knows one: a refusal that nobody sees leaves a state that nobody expects. */
 #if (defined(__cplusplus) && __cplusplus >= 201703L) || (defined(__STDC_VERSION__) && __STDC_VERSION__ >= 202311L)
@@ -58,7 +58,7 @@ extern "C" {
 /** The greatest name, drift in parts per million, delay in microseconds and limit of failed monitors. */
 #define MONITOR_GREATEST_NAME 28
 #define MONITOR_GREATEST_DRIFT 1000
-#define MONITOR_GREATEST_DELAY 60000000
+#define MONITOR_GREATEST_DELAY 600000000
 #define MONITOR_GREATEST_LIMIT 4
 
 /** The greatest reading, and the greatest end of an interval that can be stored. */
@@ -143,12 +143,13 @@ uint32_t monitor_set_up(uint8_t *state, size_t state_len, uint32_t own, uint32_t
 MONITOR_CHECKED
 uint32_t monitor_age(uint8_t *state, size_t state_len, uint64_t reading);
 
-/** Receives a message at the reading the state was last aged to. A message whose predicate is true is taken and changes nothing. What is saved
- *  of the sender's clock stays as it is.
+/** Receives a message at the reading the state was last aged to. The delays are counted on the own clock: the left end gains what true time
+ *  advances by at least over the least delay, the right end what it advances by at most over the greatest, as monitor_age has it. A message
+ *  whose predicate is true is taken and changes nothing. What is saved of the sender's clock stays as it is.
  *  @param state        the monitor's bytes; those beyond MONITOR_STATE_BYTES stay as they are
  *  @param state_len    how many bytes are lent
- *  @param least        the channel's least delay
- *  @param greatest     the channel's greatest delay, at most MONITOR_GREATEST_DELAY
+ *  @param least        the channel's least delay, by the own clock
+ *  @param greatest     the channel's greatest delay, by the own clock, at most MONITOR_GREATEST_DELAY
  *  @param message      the words, four bytes each; they are not changed
  *  @param message_len  how many bytes they are
  *  @return 0 when taken; else, tested in this order, 24, 25, 21, 10, 12, 11, 13, 14, 15, 16, 17, 18, 30, 31 or 32, and no byte has changed
@@ -164,8 +165,8 @@ uint32_t monitor_receive(uint8_t *state, size_t state_len, uint64_t least, uint6
  *  the first of a sender are saved without a test. All this is done for a message whose predicate is true too.
  *  @param state           the monitor's bytes; those beyond MONITOR_STATE_BYTES stay as they are
  *  @param state_len       how many bytes are lent
- *  @param least           the channel's least delay
- *  @param greatest        the channel's greatest delay, at most MONITOR_GREATEST_DELAY
+ *  @param least           the channel's least delay, by the own clock
+ *  @param greatest        the channel's greatest delay, by the own clock, at most MONITOR_GREATEST_DELAY
  *  @param sender_reading  the sender's clock when it sent, at most MONITOR_GREATEST_CLOCK
  *  @param own_reading     the own clock at that moment, as far as is known, at most MONITOR_GREATEST_CLOCK; it is not compared with the reading
  *                         the state was last aged to

@@ -55,7 +55,7 @@ static inline const char *monitor_text(uint32_t number)
     case MONITOR_TERMS: return "The terms are not in normal form: masks strictly rising, no term containing another.";
     case MONITOR_SENDER: return "The sender is the own name.";
     case MONITOR_BACKWARDS: return "The reading is below the last one.";
-    case MONITOR_DELAY: return "The least delay is above the greatest, or the greatest is above 60,000,000 microseconds.";
+    case MONITOR_DELAY: return "The least delay is above the greatest, or the greatest is above 600,000,000 microseconds.";
     case MONITOR_LIMIT: return "The limit is above 4.";
     case MONITOR_POSITION: return "No datum is held at that position.";
     case MONITOR_BUFFER: return "A lent buffer is too short.";

@@ -33,6 +33,13 @@ static unsigned long answers[3], counts[6];
 enum met { FIRST, AGREED, VIOLATED, METS };
 static unsigned long met[METS];
 
+/* Document 01's greatest delay: a radio that takes longer has slept. */
+#define AWAKE 60000000
+/* Drifts at which receipts from such radios have to be taken; what else those met, and those refused 30. */
+static const uint32_t drifts[] = {0, 1, 100, 999, 1000};
+enum slept { ALIKE, LONGEST, AT_END, PAST_END, SLEPTS };
+static unsigned long slept_at[COUNT(drifts)], slept[SLEPTS];
+
 /* ---- calls by both programs */
 
 /* Bytes lent to both, between filled guards and at any alignment. */
@@ -129,6 +136,35 @@ static const uint8_t *place_of(const uint8_t *state, const struct call *c)
     return sender < NAMES ? state + CLOCKS_AT + CLOCK * sender : NULL;
 }
 
+/* ---- delays */
+
+/* The ageing rule's greatest advance as printed, in 128 bits. */
+static uint64_t greatest_advance(uint64_t passed, uint32_t drift)
+{
+    __extension__ typedef unsigned __int128 wide;
+    return (uint64_t)(((wide)passed * (1000000 + drift) + 999999) / 1000000);
+}
+
+static int has_slept(const struct call *c)
+{
+    return c->b > AWAKE && c->b <= MONITOR_GREATEST_DELAY;
+}
+
+/* Counts a receipt from a radio that has slept. */
+static void count_slept(const struct call *c, uint32_t drift, uint32_t number)
+{
+    uint8_t reading[MONITOR_READING_BYTES];
+    if (monitor_message_read(c->message, c->len, reading, sizeof reading) != MONITOR_TAKEN)
+        return;
+    uint64_t end = get64(reading + 16) + greatest_advance(c->b, drift);
+    for (size_t i = 0; i < COUNT(drifts); i++)
+        slept_at[i] += number == 0 && drift == drifts[i];
+    slept[ALIKE] += number == 0 && c->a == c->b;
+    slept[LONGEST] += number == 0 && c->b == MONITOR_GREATEST_DELAY;
+    slept[AT_END] += number == 0 && end == MONITOR_GREATEST_END;
+    slept[PAST_END] += number == MONITOR_END && end == MONITOR_GREATEST_END + 1;
+}
+
 static void differ(const struct call *c, uint64_t round, const char *what, uint32_t engine, uint32_t hand)
 {
     printf("FAILED: round %llu, %s: %s, engine %u, C %u\n", (unsigned long long)round, kind_names[c->kind], what, engine, hand);
@@ -159,6 +195,8 @@ static uint32_t compare(uint64_t round, const struct call *c, struct lent *state
         const uint8_t *before = state->before + state->at, *place = place_of(before, c);
         met[get32(place) == 0 ? FIRST : violations(place, c, get32(before + 4)) > 0 ? VIOLATED : AGREED]++;
     }
+    if ((c->kind == RECEIVE || c->kind == WITH_READINGS) && has_slept(c))
+        count_slept(c, get32(state->before + state->at + 4), hand);
     return hand;
 }
 
@@ -191,7 +229,7 @@ static struct world small_world(struct source *r)
     uint64_t span = PICK(r, 6, 12, 12, 30, 1000);
     return (struct world){
         .own = (uint32_t)below(r, names),
-        .drift = (uint32_t)PICK(r, 0, 1, 100, below(r, 1001), MONITOR_GREATEST_DRIFT),
+        .drift = (uint32_t)PICK(r, 0, 1, 100, below(r, 1001), 999, MONITOR_GREATEST_DRIFT),
         .names = names,
         .reading = PICK(r, 0, 5, 1000000, MONITOR_GREATEST_READING - 3 * span),
         .base = PICK(r, 0, 0, 0, 1 << 29, MONITOR_GREATEST_END - 3 * span),
@@ -203,7 +241,7 @@ static struct world crowded_world(struct source *r)
 {
     return (struct world){
         .own = (uint32_t)below(r, NAMES),
-        .drift = (uint32_t)PICK(r, 0, 1, 100),
+        .drift = (uint32_t)PICK(r, 0, 1, 100, 999, MONITOR_GREATEST_DRIFT),
         .names = (uint32_t)PICK(r, 12, 20, NAMES),
         .reading = below(r, 1000000),
         .base = PICK(r, 0, 1 << 29, UINT64_C(1) << 40),
@@ -283,6 +321,16 @@ static void any_ends(struct source *r, const struct world *w, const uint8_t *sta
         *left = *right;
 }
 
+/* As it was sent, if there is room below: once it has grown its right end is there, or one past it. */
+static void send_earlier(struct source *r, uint64_t delay, uint32_t drift, uint64_t *left, uint64_t *right)
+{
+    uint64_t gained = greatest_advance(delay, drift) - (uint64_t)once_in(r, 3);
+    if (*right < gained)
+        return;
+    *left = *left > gained ? *left - gained : 0;
+    *right -= gained;
+}
+
 /* One damage to the words: a bit, a kind, a payload, one lost, doubled or moved, or the length. */
 static void damage_words(struct source *r, struct message *m)
 {
@@ -338,6 +386,8 @@ static void any_message(struct source *r, const struct world *w, const uint8_t *
         count = (unsigned)below(r, 3);
     }
     any_ends(r, w, state, &left, &right);
+    if (has_slept(c) && !once_in(r, 4))
+        send_earlier(r, c->b, get32(state + 4) % 1001, &left, &right);
     struct message m = message_of(sender, left, right, terms, count, once_in(r, 2));
     for (uint64_t damages = PICK(r, 0, 0, 0, 0, 0, 0, 0, 0, 1, 2); damages > 0 && m.count > 0; damages--)
         damage_words(r, &m);
@@ -407,19 +457,29 @@ static void any_readings(struct source *r, const uint8_t *state, struct call *c)
     }
 }
 
+/* The delays, mostly small; those of a radio that has slept and flawed ones now and then. */
+static void any_delays(struct source *r, uint64_t most, struct call *c)
+{
+    c->a = PICK(r, 0, 0, below(r, most));
+    c->b = c->a + below(r, most);
+    if (once_in(r, 20)) {
+        c->b = PICK(r, AWAKE + 1, AWAKE + 1 + below(r, MONITOR_GREATEST_DELAY - AWAKE), MONITOR_GREATEST_DELAY);
+        c->a = PICK(r, c->b, c->b - below(r, most), c->b - c->b % 1000000, below(r, c->b), 0);
+    }
+    if (once_in(r, 30)) {
+        c->a = PICK(r, c->b, c->b + 1, bits(r));
+        c->b = PICK(r, c->b, MONITOR_GREATEST_DELAY, MONITOR_GREATEST_DELAY + 1, UINT64_MAX);
+    }
+}
+
 static struct call any_call(struct source *r, const struct world *w, const uint8_t *state)
 {
     struct call c = {.kind = (enum kind)PICK(r, RECEIVE, RECEIVE, RECEIVE, WITH_READINGS, WITH_READINGS, WITH_READINGS, AGE, WRITE, ASK, ASK, FEWEST)};
-    uint64_t reading = get64(state + READING_AT), most = w->span / 6 + 1;
+    uint64_t reading = get64(state + READING_AT);
     switch (c.kind) {
     case RECEIVE:
     case WITH_READINGS:
-        c.a = PICK(r, 0, 0, below(r, most));
-        c.b = c.a + below(r, most);
-        if (once_in(r, 30)) {
-            c.a = PICK(r, c.b, c.b + 1, bits(r));
-            c.b = PICK(r, c.b, MONITOR_GREATEST_DELAY, MONITOR_GREATEST_DELAY + 1, UINT64_MAX);
-        }
+        any_delays(r, w->span / 6 + 1, &c);
         any_message(r, w, state, &c);
         any_readings(r, state, &c);
         break;
@@ -496,7 +556,7 @@ static void any_state(struct source *r, uint8_t *state)
     uint64_t span = PICK(r, 10, 40, 1000, MONITOR_GREATEST_END), base = span < 1001 ? PICK(r, 0, 1 << 29, MONITOR_GREATEST_END - 1000) : 0;
     memset(state, 0, MONITOR_STATE_BYTES);
     put32(state, own);
-    put32(state + 4, (uint32_t)PICK(r, 0, 1, 100, 1000));
+    put32(state + 4, (uint32_t)PICK(r, 0, 1, 100, below(r, 1001), 999, 1000));
     put64(state + READING_AT, PICK(r, 0, 7, below(r, MONITOR_GREATEST_READING), MONITOR_GREATEST_READING - 5, MONITOR_GREATEST_READING));
     put32(state + HELD_AT, held);
     put32(state + KNOWN_AT, known);
@@ -607,8 +667,15 @@ static int report(void)
     printf("answers: contradicted %lu, open %lu, between %lu\n", answers[0], answers[1], answers[2]);
     printf("fewest: 0 %lu, 1 %lu, 2 %lu, 3 %lu, 4 %lu, over %lu\n", counts[0], counts[1], counts[2], counts[3], counts[4], counts[5]);
     printf("readings: first %lu, agreed %lu, violated %lu\n", met[FIRST], met[AGREED], met[VIOLATED]);
+    printf("after a sleep: at drift");
+    for (size_t i = 0; i < COUNT(drifts); i++)
+        printf(" %u %lu,", drifts[i], slept_at[i]);
+    printf(" delays alike %lu, the greatest %lu, up to the greatest end %lu, 30 at one past it %lu\n", slept[ALIKE], slept[LONGEST],
+           slept[AT_END], slept[PAST_END]);
     for (int i = 0; i < 6; i++)
         missing |= (i < 3 && answers[i] == 0) || counts[i] == 0 || (i < METS && met[i] == 0);
+    for (size_t i = 0; i < COUNT(drifts); i++)
+        missing |= slept_at[i] == 0 || (i < SLEPTS && slept[i] == 0);
     printf("%lu calls compared, %s\n", all, missing ? "but not all that was to be seen was" : "no difference");
     return missing;
 }

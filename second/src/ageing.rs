@@ -1,4 +1,4 @@
-//! Ageing (document 01, "Ageing").
+//! Ageing (document 01, "Ageing"), by whose rule delays count too (document 02, W-202).
 
 use crate::refusal;
 use crate::state::{self, Head, GREATEST_READING, STATE_BYTES};
@@ -40,11 +40,11 @@ fn advances(lent: &[u8], reading: u64) -> Result<(u64, u64), u32> {
 fn age(lent: &mut [u8], reading: u64, least: u64, greatest: u64) -> u32 {
     let bytes = lent.first_chunk_mut::<STATE_BYTES>().expect("a checked state");
     let rows = state::held_rows_mut(bytes);
-    if rows.iter().any(|row| state::ends(row).grown(least, greatest).is_none()) {
+    if rows.iter().any(|row| state::ends(row).advanced(least, greatest).is_none()) {
         return refusal::PASSES_END;
     }
     for row in rows {
-        let aged = state::ends(row).grown(least, greatest).expect("ends that can be stored");
+        let aged = state::ends(row).advanced(least, greatest).expect("ends that can be stored");
         state::put_ends(row, aged);
     }
     state::put_reading(bytes, reading);

@@ -1,5 +1,5 @@
-//! The book of a run (demand 3; document 01, "Asking"; document 02, W-201): what the calls were
-//! handed and which were taken, and from that alone the instants that are possible. No state is
+//! The book of a run (demand 3; document 01, "Asking"; document 02, W-201 and W-202): what the calls
+//! were handed and which were taken, and from that alone the instants that are possible. No state is
 //! looked at.
 
 use crate::ageing::advance;
@@ -8,7 +8,7 @@ use crate::clocks::{Readings, Saved, Triple};
 use crate::instants::Instants;
 use crate::message::{self, Message};
 use crate::predicates::{names_within, sets, Term, NAMES};
-use crate::receiving::formed;
+use crate::receiving::{formed, grown};
 use crate::refusal;
 use crate::state::Datum;
 
@@ -72,10 +72,9 @@ impl Book {
 
     /// What a taken message says to this receiver.
     fn heard(&self, least: u64, greatest: u64, message: &Message) -> Datum {
-        Datum {
-            interval: message.interval.grown(least, greatest).expect("a taken message"),
-            predicate: formed(self.own, message),
-        }
+        let interval = grown(message.interval, least, greatest, self.drift);
+        let predicate = formed(self.own, message);
+        Datum { interval: interval.expect("a taken message"), predicate }
     }
 
     /// Tests the sender's triple against the three of its history, and adds it there.

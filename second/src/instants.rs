@@ -23,7 +23,7 @@ impl Interval {
     }
 
     /// Left plus least and right plus greatest; none if an end would pass the greatest one.
-    pub fn grown(self, least: u64, greatest: u64) -> Option<Interval> {
+    pub fn advanced(self, least: u64, greatest: u64) -> Option<Interval> {
         Interval::of_ends(self.left.checked_add(least)?, self.right.checked_add(greatest)?)
     }
 

@@ -208,6 +208,21 @@ mod tests {
     }
 
     #[test]
+    fn delays_count_by_the_ageing_rule() {
+        let after = |least: u64, greatest: u64| {
+            let delays = format!("get {least} {greatest}");
+            let line = get(1, 1_000_000, 1_000_200, &[]).replacen("get 0 0", &delays, 1);
+            after_set(&format!("{line}\nask 0"))
+        };
+        assert_eq!(after(0, 50), ["ok", "between 1000000 1000251"]);
+        assert_eq!(after(50, 50), ["ok", "between 1000049 1000251"]);
+        assert_eq!(after(0, 50_000), ["ok", "between 1000000 1050205"]);
+        assert_eq!(after(0, 60_000_001), ["ok", "between 1000000 61006202"]);
+        assert_eq!(after(600_000_000, 600_000_000), ["ok", "between 600940000 601060200"]);
+        assert_eq!(after(0, 600_000_001), ["refused 21", "open"]);
+    }
+
+    #[test]
     fn answers_of_every_kind() {
         let apart = [get(1, 0, 10, &[]), get(2, 20, 30, &[])].join("\n");
         let lines = after_set(&format!("{apart}\nask 0\nask 1\nask 2\nfewest"));

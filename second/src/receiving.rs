@@ -1,13 +1,16 @@
-//! Receiving (document 01, "Receiving"; document 02, W-201): a function for each of its steps.
+//! Receiving (document 01, "Receiving"; document 02, W-201 and W-202): a function for each of its
+//! steps.
 
+use crate::ageing::advance;
 use crate::clocks::{Readings, Saved, Triple};
+use crate::instants::Interval;
 use crate::message::{self, Message};
 use crate::predicates::{holds, struck, Predicate};
 use crate::refusal;
 use crate::state::{Datum, State, DATUM_TERMS, MOST_DATA, MOST_ENTRIES};
 
-/// The greatest delay of a channel, in microseconds.
-pub const GREATEST_DELAY: u64 = 60_000_000;
+/// The greatest delay of a channel, in microseconds on the receiver's clock (document 02, W-202).
+pub const GREATEST_DELAY: u64 = 600_000_000;
 
 /// What a receipt came to do, so that a test can tell what it has met.
 #[derive(Clone, Copy, Debug, PartialEq, Eq)]
@@ -165,7 +168,8 @@ fn received(
     if message.sender == state.own {
         return Err(refusal::SENDER);
     }
-    let interval = message.interval.grown(least, greatest).ok_or(refusal::PASSES_END)?;
+    let interval = grown(message.interval, least, greatest, state.drift);
+    let interval = interval.ok_or(refusal::PASSES_END)?;
     let predicate = formed(state.own, &message);
     seen.enter(Branch::Struck, message.terms.iter().any(|t| t >> state.own & 1 != 0));
     if predicate.len() > DATUM_TERMS {
@@ -184,6 +188,15 @@ fn received(
     }
     counted(&state, seen)?;
     Ok(state)
+}
+
+/// The interval grown by delays, which count by the ageing rule on the receiver's clock: the least
+/// as a left end's advance, the greatest as a right end's (document 02, W-202). None if an end would
+/// pass the greatest one.
+pub fn grown(sent: Interval, least: u64, greatest: u64, drift: u32) -> Option<Interval> {
+    let (left_gains, _) = advance(least, drift);
+    let (_, right_gains) = advance(greatest, drift);
+    sent.advanced(left_gains, right_gains)
 }
 
 /// Sender + predicate with every term that names the receiver struck out, in normal form.

@@ -203,12 +203,32 @@ fn age_any_state_by_any_time_is_answered_alike() {
             let after = State::of(&bytes).expect("a state in form");
             assert_eq!(after.entries, before.entries, "seed {seed}");
             for (new, old) in after.held.iter().zip(&before.held) {
-                assert_eq!(Some(new.interval), old.interval.grown(least, greatest), "seed {seed}");
+                assert_eq!(
+                    Some(new.interval),
+                    old.interval.advanced(least, greatest),
+                    "seed {seed}"
+                );
             }
         }
         counts[usize::from(number == 0)] += 1;
     }
     assert!(counts.iter().all(|&count| count > 1_000), "{counts:?}");
+}
+
+#[test]
+fn advance_is_what_counting_finds() {
+    for r in 0..=GREATEST_DRIFT {
+        let (mut least, mut greatest) = (0, 0);
+        for d in 0..=2_500 {
+            while (least + 1) * 1_000_000 <= d * u64::from(1_000_000 - r) {
+                least += 1;
+            }
+            while greatest * 1_000_000 < d * u64::from(1_000_000 + r) {
+                greatest += 1;
+            }
+            assert_eq!(advance(d, r), (least, greatest), "{d} at drift {r}");
+        }
+    }
 }
 
 #[test]

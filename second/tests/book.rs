@@ -13,7 +13,7 @@ use second::message::Message;
 use second::predicates::{holds, Predicate, Term, GREATEST_NAME};
 use second::random::Random;
 use second::receiving::{Branch, Branches};
-use second::samples::runs::World;
+use second::samples::runs::{has_slept, World};
 use second::state::{Datum, State, GREATEST_DRIFT, STATE_BYTES};
 use std::collections::BTreeSet;
 use std::io::Write as _;
@@ -163,13 +163,35 @@ fn book_enters_advances_and_what_was_formed() {
     book.enter(&Call::Age { reading: 2_000_001 }, 0);
     book.enter(&received(2, 7, 7, &[0]), 0);
     let lines = [
-        Line::Received(Datum::of(1_000, 1_250, &[2, 12])),
+        Line::Received(Datum::of(1_000, 1_251, &[2, 12])),
         Line::Aged { least: 1_999_800, greatest: 2_000_200 },
         Line::Aged { least: 0, greatest: 0 },
         Line::Aged { least: 0, greatest: 2 },
-        Line::Received(Datum::of(7, 57, &[0])),
+        Line::Received(Datum::of(7, 58, &[0])),
     ];
     assert_eq!(book.lines(), lines);
+}
+
+#[test]
+fn book_enters_intervals_grown_by_the_own_drift() {
+    // Own drift, both delays, and what 10 to 10 grows to.
+    let grown = [
+        (0, 600_000_000, (600_000_010, 600_000_010)),
+        (100, 1, (10, 12)),
+        (100, 5, (14, 16)),
+        (100, 60_000_001, (59_994_010, 60_006_012)),
+        (1_000, 600_000_000, (599_400_010, 600_600_010)),
+    ];
+    for (drift, delay, (left, right)) in grown {
+        let interval = Interval { left: 10, right: 10 };
+        let message = Message { sender: 1, interval, terms: Predicate::of(&[]) }.bytes();
+        // The sender's drift is another.
+        let readings = Some(Readings::of(0, 0, 0, GREATEST_DRIFT - drift));
+        let mut book = Book::new(5, drift, 0);
+        book.enter(&Call::Receive { least: delay, greatest: delay, readings, message }, 0);
+        assert_eq!(book.lines(), [Line::Received(Datum::of(left, right, &[2]))]);
+        assert_eq!(book.possible(0), Instants::Between(left.into(), right.into()));
+    }
 }
 
 #[test]
@@ -233,9 +255,9 @@ fn book_enters_nothing_for_refused_calls_and_for_questions() {
 fn book_of_the_listing_gives_its_answers() {
     let mut book = Book::new(5, 100, 0);
     book.enter(&received(1, 1_000_000, 1_000_200, &[]), 0);
-    assert_eq!(book.possible(0), Instants::Between(1_000_000, 1_000_250));
+    assert_eq!(book.possible(0), Instants::Between(1_000_000, 1_000_251));
     book.enter(&Call::Age { reading: 2_000_000 }, 0);
-    assert_eq!(book.possible(0), Instants::Between(2_999_800, 3_000_450));
+    assert_eq!(book.possible(0), Instants::Between(2_999_800, 3_000_451));
     let message = Message {
         sender: 2,
         interval: Interval { left: 3_001_000, right: 3_001_000 },
@@ -416,7 +438,7 @@ fn drawn(random: &mut Random) -> (World, u64, u64) {
 #[test]
 fn book_of_a_run_gives_the_answers() {
     let (mut tally, mut watched) = (Tally::default(), Watched::default());
-    let (mut steps, mut refused) = (0, 0);
+    let (mut steps, mut refused, mut slept) = (0, 0, 0);
     for seed in 0..20_000 {
         let mut random = Random::new(seed);
         let (world, count, times) = drawn(&mut random);
@@ -428,6 +450,7 @@ fn book_of_a_run_gives_the_answers() {
             watched.count(&step, number, run.branches);
             steps += 1;
             refused += u64::from(number != 0);
+            slept += u64::from(number == 0 && has_slept(&step));
             if run.random.once_in(times) {
                 run.agrees(&mut tally);
             }
@@ -435,13 +458,14 @@ fn book_of_a_run_gives_the_answers() {
         run.agrees(&mut tally);
     }
     report(&format!(
-        "20,000 runs, {steps} steps of which {refused} were refused: possible is nothing, all, \
-         between by limit {:?}\n",
+        "20,000 runs, {steps} steps of which {refused} were refused, {slept} receipts after a \
+         sleep: possible is nothing, all, between by limit {:?}\n",
         tally.0
     ));
     watched.check(200);
     assert!(tally.least() >= 1_000, "too few of an answer");
     assert!(steps >= 300_000 && refused >= 50_000, "too few steps or refusals");
+    assert!(slept >= 10_000, "too few receipts after a sleep");
 }
 
 // ---- further receipts

@@ -11,7 +11,7 @@ use second::message::{self, Message, MESSAGE_BYTES};
 use second::predicates::{self, holds, struck, Predicate, Term, ALL_NAMES};
 use second::random::Random;
 use second::receiving::Branches;
-use second::samples::runs::World;
+use second::samples::runs::{has_slept, World};
 use second::samples::states;
 use second::state::{
     self, clock_at, datum_at, entry_at, Datum, State, DRIFT_AT, ENTRY_COUNT_AT, HELD_COUNT_AT,
@@ -97,16 +97,28 @@ fn case_advance_of_one_microsecond_is_0_and_2_and_of_none_0_and_0() {
 }
 
 #[test]
+fn case_delay_600_000_000_is_taken_and_600_000_001_is_21() {
+    let message =
+        Message { sender: 1, interval: Interval { left: 0, right: 0 }, terms: Predicate::of(&[]) };
+    let mut bytes = set_up(0, 100);
+    let before = bytes.clone();
+    assert_eq!(receiving::call(&mut bytes, 0, 600_000_001, None, &message.bytes()), 21);
+    assert_eq!(bytes, before);
+    assert_eq!(receiving::call(&mut bytes, 600_000_000, 600_000_000, None, &message.bytes()), 0);
+    assert_eq!(held(&bytes), (vec![Datum::of(599_940_000, 600_060_000, &[2])], vec![]));
+}
+
+#[test]
 fn case_listing_holds_what_its_answers_say() {
     let mut bytes = set_up(5, 100);
     let words = [536870913, 1073741824, 1074741824, 1610612736, 1611612936, 3760096585];
     assert_eq!(receiving::call(&mut bytes, 0, 50, None, &message::bytes_of(&words)), 0);
-    assert_eq!(held(&bytes), (vec![Datum::of(1_000_000, 1_000_250, &[2])], vec![]));
+    assert_eq!(held(&bytes), (vec![Datum::of(1_000_000, 1_000_251, &[2])], vec![]));
     assert_eq!(ageing::call(&mut bytes, 2_000_000), 0);
-    assert_eq!(held(&bytes), (vec![Datum::of(2_999_800, 3_000_450, &[2])], vec![]));
+    assert_eq!(held(&bytes), (vec![Datum::of(2_999_800, 3_000_451, &[2])], vec![]));
     let words = [536870914, 1073741824, 1076742824, 1610612736, 1613613736, 3764098386];
     assert_eq!(receiving::call(&mut bytes, 0, 0, None, &message::bytes_of(&words)), 0);
-    let data = vec![Datum::of(2_999_800, 3_000_450, &[2]), Datum::of(3_001_000, 3_001_000, &[4])];
+    let data = vec![Datum::of(2_999_800, 3_000_451, &[2]), Datum::of(3_001_000, 3_001_000, &[4])];
     assert_eq!(held(&bytes), (data, vec![Predicate::of(&[2, 4])]));
 }
 
@@ -186,12 +198,13 @@ fn bytes_in_form_come_back_after_decoding_and_encoding() {
 // ---- what a run leaves true
 
 /// The sender of a message, and the datum that it is to its receiver.
-fn received(own: u32, least: u64, greatest: u64, message: &[u8]) -> (u32, Datum) {
+fn received(before: &State, least: u64, greatest: u64, message: &[u8]) -> (u32, Datum) {
     let words = message::words_of(message).expect("whole words");
     let message = message::read(&words).expect("a sound message");
     let Interval { left, right } = message.interval;
-    let predicate = Predicate::sum(&[1 << message.sender], &struck(own, &message.terms));
-    let interval = Interval { left: left + least, right: right + greatest };
+    let predicate = Predicate::sum(&[1 << message.sender], &struck(before.own, &message.terms));
+    let (later, latest) = (advance(least, before.drift).0, advance(greatest, before.drift).1);
+    let interval = Interval { left: left + later, right: right + latest };
     (message.sender, Datum { interval, predicate })
 }
 
@@ -223,7 +236,7 @@ fn receipt_says_what_its_message_does(
     let Call::Receive { least, greatest, readings, message } = call else {
         return false;
     };
-    let (sender, new) = received(before.own, *least, *greatest, message);
+    let (sender, new) = received(before, *least, *greatest, message);
     let saved = before.clocks[sender as usize].zip(*readings);
     let violated = saved.is_some_and(|(saved, readings)| {
         saved.violated_by(readings.triple, before.drift + readings.drift)
@@ -242,7 +255,7 @@ fn receipt_says_what_its_message_does(
 
 #[test]
 fn receipts_in_runs_say_what_their_messages_do() {
-    let (mut taken, mut violated) = (0, 0);
+    let (mut taken, mut violated, mut slept) = (0, 0, 0);
     for seed in 0..20_000 {
         let mut random = Random::new(seed);
         let world = World::small(&mut random);
@@ -256,6 +269,7 @@ fn receipts_in_runs_say_what_their_messages_do() {
                 let blamed = receipt_says_what_its_message_does(seed, &call, &before, &after);
                 violated += u64::from(blamed);
                 taken += u64::from(matches!(call, Call::Receive { .. }));
+                slept += u64::from(has_slept(&call));
                 // What disjoint intervals taught is in the entries: the data left agree.
                 let learnt = |s| {
                     counting(s, &after) != Instants::Empty
@@ -266,11 +280,12 @@ fn receipts_in_runs_say_what_their_messages_do() {
         }
     }
     assert!(taken > 100_000 && violated > 3_000, "only {taken} receipts, {violated} violations");
+    assert!(slept > 5_000, "only {slept} receipts from radios that have slept");
 }
 
 #[test]
 fn receipts_in_any_state_in_form_say_what_their_messages_do() {
-    let (mut taken, mut violated) = (0, 0);
+    let (mut taken, mut violated, mut slept) = (0, 0, 0);
     for seed in 0..50_000 {
         let mut random = Random::new(seed);
         let before = states::in_form(&mut random);
@@ -281,9 +296,11 @@ fn receipts_in_any_state_in_form_say_what_their_messages_do() {
             let blamed = receipt_says_what_its_message_does(seed, &call, &before, &after);
             violated += u64::from(blamed);
             taken += u64::from(matches!(call, Call::Receive { .. }));
+            slept += u64::from(has_slept(&call));
         }
     }
     assert!(taken > 10_000 && violated > 300, "only {taken} receipts, {violated} violations");
+    assert!(slept > 500, "only {slept} receipts from radios that have slept");
 }
 
 // ---- asking, instant by instant

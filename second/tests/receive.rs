@@ -1,4 +1,5 @@
-//! Receiving, by both programs: edges by name. Seeded runs are in tests/runs.rs.
+//! Receiving, by both programs: edges by name. More on delays is in tests/delays.rs, and seeded runs
+//! are in tests/runs.rs.
 
 use second::engine;
 use second::instants::{Interval, GREATEST_END};
@@ -42,7 +43,7 @@ fn words(sent: Sent) -> Vec<u32> {
     write(&Message { sender, interval: Interval { left, right }, terms }).to_vec()
 }
 
-/// A state of own name 0 with these data and entries.
+/// A state of own name 0 and drift 100 with these data and entries.
 fn state(held: &[Held], entries: &[&[Term]]) -> State {
     State {
         held: held.iter().map(|&(left, right, p)| Datum::of(left, right, p)).collect(),
@@ -120,12 +121,12 @@ fn full() -> State {
 // ---- delays
 
 #[test]
-fn receive_delay_60_000_000_is_taken_and_one_more_is_21() {
+fn receive_delay_600_000_000_is_taken_and_one_more_is_21() {
     let message = bytes_of(&words((1, 10, 20, &[])));
-    for least in [0, 1, GREATEST_DELAY] {
-        let (after, _) = taken(&state(&[], &[]), (least, GREATEST_DELAY), &message);
-        assert_eq!(after, state(&[(10 + least, 20 + GREATEST_DELAY, &[2])], &[]));
-        refused_bytes(&state(&[], &[]), (least, GREATEST_DELAY + 1), &message, 21);
+    for (least, left) in [(0, 10), (1, 10), (600_000_000, 599_940_010)] {
+        let (after, _) = taken(&state(&[], &[]), (least, 600_000_000), &message);
+        assert_eq!(after, state(&[(left, 600_060_020, &[2])], &[]));
+        refused_bytes(&state(&[], &[]), (least, 600_000_001), &message, 21);
     }
 }
 
@@ -136,9 +137,10 @@ fn receive_least_delay_above_greatest_is_21_and_equal_is_taken() {
         refused(&state(&[], &[]), (least, greatest), (1, 10, 20, &[]), 21);
     }
     let message = bytes_of(&words((1, 10, 20, &[])));
-    for delay in [0, 1, 7, most] {
+    let grown = [(0, 10, 20), (1, 10, 22), (7, 16, 28), (most, 599_940_010, 600_060_020)];
+    for (delay, left, right) in grown {
         let (after, _) = taken(&state(&[], &[]), (delay, delay), &message);
-        assert_eq!(after, state(&[(10 + delay, 20 + delay, &[2])], &[]));
+        assert_eq!(after, state(&[(left, right, &[2])], &[]));
     }
 }
 
@@ -155,7 +157,7 @@ fn receive_delays_of_many_bits_are_21() {
 fn receive_left_gains_the_least_delay_and_right_the_greatest() {
     let message = bytes_of(&words((1, 10, 20, &[])));
     let (after, _) = taken(&state(&[], &[]), (3, 50), &message);
-    assert_eq!(after, state(&[(13, 70, &[2])], &[]));
+    assert_eq!(after, state(&[(12, 71, &[2])], &[]));
 }
 
 // ---- the message
@@ -284,11 +286,11 @@ fn receive_several_late_flaws_is_the_first_of_18_30_31_32() {
 fn receive_right_end_at_the_greatest_is_taken_and_past_it_is_30() {
     let top = GREATEST_END;
     let none = state(&[], &[]);
-    let sent: Sent = (1, top - 60, top - 50, &[]);
+    let sent: Sent = (1, top - 60, top - 51, &[]);
     let message = bytes_of(&words(sent));
-    for least in [0, 50] {
+    for (least, left) in [(0, top - 60), (50, top - 11)] {
         let (after, _) = taken(&none, (least, 50), &message);
-        assert_eq!(after, state(&[(top - 60 + least, top, &[2])], &[]));
+        assert_eq!(after, state(&[(left, top, &[2])], &[]));
         refused(&none, (least, 51), sent, 30);
         refused(&none, (least, GREATEST_DELAY), sent, 30);
     }
@@ -401,7 +403,8 @@ fn receive_disjoint_intervals_give_the_sum_as_an_entry() {
 #[test]
 fn receive_delays_can_make_intervals_touch() {
     let before = state(&[(11, 20, &[2])], &[]);
-    let message = bytes_of(&words((2, 0, 10, &[])));
+    // One microsecond can be two.
+    let message = bytes_of(&words((2, 0, 9, &[])));
     let (after, branches) = taken(&before, (0, 1), &message);
     assert_eq!(after, state(&[(11, 20, &[2]), (0, 11, &[4])], &[]));
     assert!(!branches.has(Branch::Disjoint));

@@ -7,7 +7,7 @@ use second::lent::Lent;
 use second::message::{ends_form_bytes, MESSAGE_BYTES};
 use second::random::Random;
 use second::receiving::{Branch, Branches};
-use second::samples::runs::World;
+use second::samples::runs::{has_slept, World};
 use second::samples::states;
 use second::state::{State, ENTRY_COUNT_AT, HELD_COUNT_AT, MOST_DATA, MOST_ENTRIES, STATE_BYTES};
 use std::collections::BTreeMap;
@@ -47,6 +47,9 @@ struct Seen {
     /// Taken receipts that left all places for data, or for entries, in use.
     all_data: u64,
     all_entries: u64,
+    /// Receipts from radios that have slept: taken, and refused 30.
+    slept: u64,
+    slept_past_the_end: u64,
 }
 
 impl Seen {
@@ -62,6 +65,8 @@ impl Seen {
             self.crowded_at_step_2 += u64::from(branches.has(Branch::NewExplained));
             self.crowded_by_violation += u64::from(branches.has(Branch::NameAdded));
         }
+        self.slept += u64::from(number == 0 && has_slept(call));
+        self.slept_past_the_end += u64::from(number == 30 && has_slept(call));
         if number == 0 && matches!(call, Call::Receive { .. }) {
             self.all_data += u64::from(usize::from(state[HELD_COUNT_AT]) == MOST_DATA);
             self.all_entries += u64::from(usize::from(state[ENTRY_COUNT_AT]) == MOST_ENTRIES);
@@ -85,6 +90,8 @@ impl Seen {
             ("32 by a violation", self.crowded_by_violation),
             ("left with the most data", self.all_data),
             ("with the most entries", self.all_entries),
+            ("after a sleep", self.slept),
+            ("30 after a sleep", self.slept_past_the_end),
         ];
         let more = more.map(|(what, count)| format!("{what} {count}"));
         text + &format!("  {}, {}\n", counts.join(", "), more.join(", "))
@@ -106,6 +113,7 @@ impl Seen {
             let count = self.branches[branch as usize];
             assert!(count >= ENOUGH, "{title}: {branch:?} came {count} times");
         }
+        assert!(self.slept >= ENOUGH, "{title}: too seldom after a sleep");
     }
 }
 
@@ -228,6 +236,7 @@ fn runs_of_few_names_and_small_numbers_are_answered_alike() {
     }
     seen.check("few names and small numbers", &CROWDED);
     assert!(seen.runs >= 20_000, "only {} runs", seen.runs);
+    assert!(seen.slept_past_the_end >= ENOUGH, "too seldom 30 after a sleep");
 }
 
 #[test]

@@ -56,7 +56,7 @@ static void writing(const uint8_t *state)
     check(monitor_write(state, MONITOR_STATE_BYTES, 0, out, o.n) == MONITOR_TAKEN && untouched(&o, 28), "the oldest is written as 7 words");
     check(monitor_message_read(out, 28, reading, sizeof reading) == MONITOR_TAKEN, "what is written is read");
     check(monitor_number(reading) == 5 && monitor_number(reading + 24) == 1, "own name and one term");
-    check(monitor_number(reading + 8) == 2999800 && monitor_number(reading + 16) == 3000450, "and the interval");
+    check(monitor_number(reading + 8) == 2999800 && monitor_number(reading + 16) == 3000451, "and the interval");
 }
 
 static void questions_refuse(const uint8_t *state)
@@ -100,11 +100,11 @@ static void listing(void)
 
     size_t len = monitor_put_words(message, first, 6);
     check(monitor_receive(state, s.n, 0, 50, message, len) == MONITOR_TAKEN, "get 0 50 of the first message");
-    check(monitor_number(state + OLDEST_LEFT) == 1000000 && monitor_number(state + OLDEST_RIGHT) == 1000250, "its interval has grown by the delays");
-    check(answers(state, 0, MONITOR_BETWEEN, 1000000, 1000250), "ask 0 is that interval");
+    check(monitor_number(state + OLDEST_LEFT) == 1000000 && monitor_number(state + OLDEST_RIGHT) == 1000251, "its interval has grown by the delays");
+    check(answers(state, 0, MONITOR_BETWEEN, 1000000, 1000251), "ask 0 is that interval");
     check(monitor_age(state, s.n, 2000000) == MONITOR_TAKEN, "age 2000000");
-    check(monitor_number(state + OLDEST_LEFT) == 2999800 && monitor_number(state + OLDEST_RIGHT) == 3000450, "it has widened by the drift");
-    check(answers(state, 0, MONITOR_BETWEEN, 2999800, 3000450), "and so has the answer");
+    check(monitor_number(state + OLDEST_LEFT) == 2999800 && monitor_number(state + OLDEST_RIGHT) == 3000451, "it has widened by the drift");
+    check(answers(state, 0, MONITOR_BETWEEN, 2999800, 3000451), "and so has the answer");
     refusals_leave(state, message, len);
 
     len = monitor_put_words(message, second, 6);
@@ -117,6 +117,28 @@ static void listing(void)
     writing(state);
     questions_refuse(state);
     check(untouched(&s, MONITOR_STATE_BYTES), "nothing beside the state is written");
+}
+
+/* A message of the instant 0 over a channel with these delays; what it then says, or the number that it is refused with. */
+static int arrives(uint32_t drift, uint64_t least, uint64_t greatest, uint32_t number, uint64_t left, uint64_t right)
+{
+    static const uint32_t words[] = {1u << 29 | 1, 2u << 29, 2u << 29, 3u << 29, 3u << 29, 7u << 29 | 1};
+    struct lent s;
+    uint8_t *state = lend(&s, MONITOR_STATE_BYTES), message[sizeof words];
+    size_t len = monitor_put_words(message, words, 6);
+    if (monitor_set_up(state, s.n, 5, drift, 0) != MONITOR_TAKEN || monitor_receive(state, s.n, least, greatest, message, len) != number)
+        return 0;
+    return answers(state, 0, number == MONITOR_TAKEN ? MONITOR_BETWEEN : MONITOR_OPEN, left, right) && untouched(&s, MONITOR_STATE_BYTES);
+}
+
+/* Radios that sleep: delays up to ten minutes, counted on the own clock. */
+static void delays(void)
+{
+    const uint64_t most = MONITOR_GREATEST_DELAY;
+    check(arrives(0, 3, most, MONITOR_TAKEN, 3, 600000000), "without drift a delay is true time");
+    check(arrives(100, 1, 1, MONITOR_TAKEN, 0, 2), "with it the least is rounded down and the greatest up");
+    check(arrives(1000, most, most, MONITOR_TAKEN, 599400000, 600600000), "the greatest drift and delay");
+    check(arrives(100, 0, most + 1, MONITOR_DELAY, 0, 0) && arrives(100, UINT64_MAX, UINT64_MAX, MONITOR_DELAY, 0, 0), "a longer delay is 21");
 }
 
 /* Sender n at its own place, so that no two of them agree. */
@@ -211,6 +233,7 @@ int main(void)
 {
     set_up_refuses();
     listing();
+    delays();
     over_limit();
     clock_is_watched();
     readings_refuse();

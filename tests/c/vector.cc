@@ -66,7 +66,7 @@ static void filled()
     check(set_up(state) == MONITOR_TAKEN && receive(state, message) == MONITOR_TAKEN, "document 01's first message is received");
     check(age(state, 2000000) == MONITOR_TAKEN, "age 2000000");
     check(ask(state, answer) == MONITOR_TAKEN && monitor_number(answer.data()) == MONITOR_BETWEEN, "ask 0 is between");
-    check(monitor_number(answer.data() + 8) == 2999800 && monitor_number(answer.data() + 16) == 3000450, "2999800 and 3000450");
+    check(monitor_number(answer.data() + 8) == 2999800 && monitor_number(answer.data() + 16) == 3000451, "2999800 and 3000451");
     check(fewest(state, answer) == MONITOR_TAKEN && monitor_number(answer.data()) == 0, "nobody need have failed");
     bytes out(message.size());
     check(rewrite(message, out) == MONITOR_TAKEN && out == message, "an ends form message is rewritten as it was");

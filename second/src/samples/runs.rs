@@ -1,5 +1,6 @@
 //! Seeded runs: worlds in which data often meet, contradict, explain and better each other.
 
+use crate::ageing::advance;
 use crate::asking::GREATEST_LIMIT;
 use crate::calls::Call;
 use crate::clocks::{Readings, Triple, GREATEST_CLOCK};
@@ -9,6 +10,15 @@ use crate::predicates::{normal, Term, GREATEST_NAME, NAMES};
 use crate::random::Random;
 use crate::receiving::GREATEST_DELAY;
 use crate::state::{State, GREATEST_DRIFT, GREATEST_READING, MOST_ENTRIES};
+use std::ops::RangeInclusive;
+
+/// Delays above document 01's greatest: a radio that takes so long has slept (document 02, W-202).
+pub const SLEPT: RangeInclusive<u64> = 60_000_001..=GREATEST_DELAY;
+
+/// Whether it is a receipt from a radio that has slept.
+pub fn has_slept(call: &Call) -> bool {
+    matches!(call, Call::Receive { greatest, .. } if SLEPT.contains(greatest))
+}
 
 /// What the calls of a run are drawn from.
 pub struct World {
@@ -103,7 +113,7 @@ impl World {
         let message = if random.once_in(12) {
             super::message(random).message().to_vec()
         } else {
-            self.message(random, state)
+            self.message(random, state, greatest)
         };
         let readings = random.once_in(2).then(|| self.readings(random, state, &message));
         Call::Receive { least, greatest, readings, message }
@@ -123,7 +133,7 @@ impl World {
         }
         let (sender, Triple { a, b, w }) = random.pick(&saved);
         let readings = Some(Readings::of(a, (b + 3 * w + 1_000).min(GREATEST_CLOCK), w, 0));
-        let interval = self.interval(random, state);
+        let interval = self.interval(random, state, 0);
         let terms: &[Term] = random.pick(&[&[][..], &[0]]);
         let words = super::sealed(sender, &in_any_form(random, interval), terms);
         Some(Call::Receive { least: 0, greatest: 0, readings, message: bytes_of(&words) })
@@ -136,7 +146,7 @@ impl World {
         super::clocks::readings(random, saved, state.drift)
     }
 
-    /// Small delays; flawed or at the edge now and then.
+    /// Small delays; flawed or at the edge now and then, and those of a radio that has slept.
     fn delays(&self, random: &mut Random) -> (u64, u64) {
         let most = self.span / 6;
         let (least, more) = (random.below(most + 1), random.below(most + 1));
@@ -145,15 +155,16 @@ impl World {
             0 => (least + 1, least),
             1 => (any, random.pick(&[least, any, u64::MAX])),
             2 => (least, random.pick(&[GREATEST_DELAY, GREATEST_DELAY + 1, 1 << 32, u64::MAX])),
-            3..=20 => (0, 0),
+            3 | 4 => slept(random, more),
+            5..=20 => (0, 0),
             _ => (least, least + more),
         }
     }
 
     /// The bytes of a message whose parts are small, damaged now and then.
-    fn message(&self, random: &mut Random, state: &State) -> Vec<u8> {
+    fn message(&self, random: &mut Random, state: &State, delay: u64) -> Vec<u8> {
         let (sender, terms) = self.predicate(random, state);
-        let interval = self.interval(random, state);
+        let interval = self.interval(random, state, delay);
         let mut words = super::sealed(sender, &in_any_form(random, interval), &terms);
         if random.once_in(16) {
             super::damage(random, &mut words);
@@ -200,7 +211,8 @@ impl World {
         terms
     }
 
-    fn interval(&self, random: &mut Random, state: &State) -> Interval {
+    /// An interval as it is sent, so long before.
+    fn interval(&self, random: &mut Random, state: &State, delay: u64) -> Interval {
         let from = self.base + state.reading.saturating_sub(self.reading);
         let Interval { left, right } = if !state.held.is_empty() && random.once_in(4) {
             near(random, state)
@@ -211,7 +223,11 @@ impl World {
             Interval { left: from + left, right: from + left + random.below(width) }
         };
         let right = right.min(GREATEST_END);
-        Interval { left: left.min(right), right }
+        let here = Interval { left: left.min(right), right };
+        if SLEPT.contains(&delay) && !random.once_in(4) {
+            return before(random, here, delay, state.drift);
+        }
+        here
     }
 
     /// One place, or several beside each other, or far from all.
@@ -236,6 +252,25 @@ impl World {
             3 => last,
             _ => last + random.below(self.span),
         }
+    }
+}
+
+/// Delays of a radio that has slept, which differ by a little or by far.
+fn slept(random: &mut Random, more: u64) -> (u64, u64) {
+    let (first, last) = SLEPT.into_inner();
+    let any = first + random.below(last - first + 1);
+    let greatest = random.pick(&[first, any, any, any, last]);
+    let least = random.below(greatest);
+    (random.pick(&[greatest, greatest - more, greatest - more, least]), greatest)
+}
+
+/// The interval that grows to this right end in a delay, or to one past it, if there is room below.
+fn before(random: &mut Random, here: Interval, delay: u64, drift: u32) -> Interval {
+    let (_, greatest) = advance(delay, drift);
+    let gained = greatest - u64::from(random.once_in(3));
+    match here.right.checked_sub(gained) {
+        Some(right) => Interval { left: here.left.saturating_sub(gained), right },
+        None => here,
     }
 }
 

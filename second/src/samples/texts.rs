@@ -23,13 +23,13 @@ ask 2
 fewest
 ";
 
-/// And what it prints.
+/// And what it prints, delays counting by the ageing rule (document 02, W-202).
 pub const PRINTED: &str = "\
 ok
 ok
-between 1000000 1000250
+between 1000000 1000251
 ok
-between 2999800 3000450
+between 2999800 3000451
 ok
 contradicted
 between 2999800 3001000
