@@ -5,6 +5,7 @@ use crate::instants::GREATEST_END;
 use crate::message::{bytes_of, check_word, kind, split, word, MOST_TERMS, MOST_WORDS, PAYLOAD};
 use crate::predicates::{normal, Term, GREATEST_NAME, NAMES};
 use crate::random::Random;
+use std::io::{self, Write as _};
 
 pub mod climbing;
 pub mod clocks;
@@ -12,6 +13,11 @@ pub mod loads;
 pub mod runs;
 pub mod states;
 pub mod texts;
+
+/// Says what samples reached, past the capture of a passing test's output: each run shows it.
+pub fn report(text: &str) {
+    io::stderr().write_all(text.as_bytes()).expect("standard error");
+}
 
 /// A message lent from within a longer buffer, at any alignment. Where it was cut short, its last
 /// words still lie behind it, so that reading past its length shows.

@@ -12,6 +12,7 @@ use second::message::{bytes_of, Message};
 use second::predicates::{Predicate, Term, GREATEST_NAME, NAMES};
 use second::random::Random;
 use second::receiving::Branches;
+use second::samples::report;
 use second::samples::runs::World;
 use second::samples::states;
 use second::samples::texts::{DOCUMENT_01, PRINTED};
@@ -20,7 +21,6 @@ use second::state::{
     STATE_BYTES,
 };
 use std::collections::BTreeMap;
-use std::io::Write as _;
 
 // ---- what is compared
 
@@ -674,11 +674,6 @@ impl Tally {
         let answers = self.kinds.as_flattened().iter().chain(&self.fewest);
         assert!(answers.min() >= Some(&enough), "{title}: too few of an answer");
     }
-}
-
-/// Written past the capture of a passing test's output: each run shows what it reached.
-fn report(text: &str) {
-    std::io::stderr().write_all(text.as_bytes()).expect("standard error");
 }
 
 /// A state that is lent to both programs, to be asked.

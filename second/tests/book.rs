@@ -13,10 +13,10 @@ use second::message::Message;
 use second::predicates::{holds, Predicate, Term, GREATEST_NAME};
 use second::random::Random;
 use second::receiving::{Branch, Branches};
+use second::samples::report;
 use second::samples::runs::{has_slept, World};
 use second::state::{Datum, State, GREATEST_DRIFT, STATE_BYTES};
 use std::collections::BTreeSet;
-use std::io::Write as _;
 use std::ops::RangeInclusive;
 
 const LIMITS: RangeInclusive<u32> = 0..=GREATEST_LIMIT;
@@ -131,11 +131,6 @@ impl Tally {
     fn least(&self) -> u64 {
         self.0.into_iter().flatten().min().expect("some counts")
     }
-}
-
-/// Written past the capture of a passing test's output: each run shows what it reached.
-fn report(text: &str) {
-    std::io::stderr().write_all(text.as_bytes()).expect("standard error");
 }
 
 // ---- what is entered

@@ -10,9 +10,8 @@ use second::message::Message;
 use second::predicates::{Predicate, Term, NAMES};
 use second::random::Random;
 use second::receiving::{self, Branch, Branches};
-use second::samples::states;
+use second::samples::{report, states};
 use second::state::{Datum, State};
-use std::io::Write as _;
 
 // ---- what is compared
 
@@ -397,9 +396,7 @@ impl Tally {
     /// Prints the counts, and checks that each is enough.
     fn check(&self, title: &str, enough: u64) {
         let counts = self.0.iter().map(|(what, count)| format!("{what} {count}"));
-        let report = format!("{title}: {}\n", counts.collect::<Vec<String>>().join(", "));
-        // Written past the capture of a passing test's output: each run shows what it reached.
-        std::io::stderr().write_all(report.as_bytes()).expect("standard error");
+        report(&format!("{title}: {}\n", counts.collect::<Vec<String>>().join(", ")));
         for (what, count) in &self.0 {
             assert!(*count >= enough, "{what} came {count} times");
         }

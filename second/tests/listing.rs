@@ -7,6 +7,7 @@
 use second::asking::GREATEST_LIMIT;
 use second::listing::listing;
 use second::random::Random;
+use second::samples::report;
 use second::samples::texts::{self, DOCUMENT_01, PRINTED};
 use std::collections::BTreeMap;
 use std::io::{Read, Write};
@@ -65,11 +66,6 @@ fn compare(program: &PathBuf, title: &str, input: &[u8]) -> String {
         panic!("{title}: line {place}, {line:?}: engine {engine:?}, second {second:?}");
     }
     second
-}
-
-/// Written past the capture of a passing test's output: each run shows what it reached.
-fn report(text: &str) {
-    std::io::stderr().write_all(text.as_bytes()).expect("standard error");
 }
 
 // ---- what was printed

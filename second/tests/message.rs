@@ -10,7 +10,6 @@ use second::predicates::{Predicate, ALL_NAMES, GREATEST_NAME};
 use second::random::Random;
 use second::{engine, samples};
 use std::collections::BTreeMap;
-use std::io::Write;
 
 // ---- what is compared
 
@@ -666,8 +665,7 @@ fn seeded_messages_are_answered_alike() {
     }
     let lines: String = CALLS.iter().zip(&seen).map(|(call, seen)| seen.line(call)).collect();
     let report = format!("{compared} messages, each with a short output and a long one\n{lines}");
-    // Written past the capture of a passing test's output: each run shows what it reached.
-    std::io::stderr().write_all(report.as_bytes()).expect("standard error");
+    samples::report(&report);
     assert!(compared >= 200_000, "only {compared} messages");
     CALLS.iter().zip(&seen).for_each(|(call, seen)| seen.check(call));
 }

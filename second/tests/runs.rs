@@ -8,11 +8,10 @@ use second::message::{ends_form_bytes, MESSAGE_BYTES};
 use second::random::Random;
 use second::receiving::{Branch, Branches};
 use second::samples::runs::{has_slept, World};
-use second::samples::states;
+use second::samples::{report, states};
 use second::state::{State, ENTRY_COUNT_AT, HELD_COUNT_AT, MOST_DATA, MOST_ENTRIES, STATE_BYTES};
 use std::collections::BTreeMap;
 use std::fmt::Write as _;
-use std::io::Write as _;
 
 // ---- what was reached
 
@@ -100,8 +99,7 @@ impl Seen {
     /// Prints the report, and checks that each call met all of its numbers and no others, and that
     /// receipts met all branches but the exempt ones, as often as is enough.
     fn check(&self, title: &str, exempt: &[Branch]) {
-        // Written past the capture of a passing test's output: each run shows what it reached.
-        std::io::stderr().write_all(self.report(title).as_bytes()).expect("standard error");
+        report(&self.report(title));
         for (name, (met, wanted)) in Call::NAMES.iter().zip(self.numbers.iter().zip(NUMBERS)) {
             for number in wanted {
                 let count = met.get(number).copied().unwrap_or(0);

@@ -10,7 +10,7 @@ use second::message::{Message, MESSAGE_BYTES};
 use second::predicates::{Predicate, Term, ALL_NAMES, GREATEST_NAME, NAMES};
 use second::random::Random;
 use second::receiving::Branches;
-use second::samples::{clocks, states};
+use second::samples::{clocks, report, states};
 use second::state::{
     clock_at, datum_at, entry_at, Datum, State, CLOCK_BYTES, DATUM_BYTES, DATUM_TERMS, DRIFT_AT,
     ENTRY_BYTES, ENTRY_COUNT_AT, ENTRY_TERMS, GREATEST_DRIFT, GREATEST_READING, HELD_COUNT_AT,
@@ -18,7 +18,6 @@ use second::state::{
     TERM_COUNT_AT, TRIPLES_AT,
 };
 use std::collections::BTreeMap;
-use std::io::Write as _;
 
 // ---- what is compared
 
@@ -650,7 +649,7 @@ impl Damaged {
             "200,000 states with damaged places: one out of form {wrong:?}, all in form {right:?}, \
              own name's in use {own}, numbers {numbers:?}\n"
         );
-        std::io::stderr().write_all(text.as_bytes()).expect("standard error");
+        report(&text);
         for place in [Place::Flag, Place::Unsaved, Place::AtBound, Place::Past] {
             assert!(wrong.get(&place) >= Some(&enough), "{place:?}: {wrong:?}");
         }

@@ -2,7 +2,7 @@
 -- Assumes nothing: these are definitions.
 use Prim.Native.Nat.{ℕ}
 use mathlib.Core.Bool.{Bool}
-use mathlib.Core.List.{List, []}
+use mathlib.Core.List.{[]}
 use lib.ListN.{getD, replicate}
 use Rattle.clocks.specs.Clocks.{Saved, nothing, violatedBy, watched}
 use Rattle.state.specs.Model.{Head, Store, State, withClocks}

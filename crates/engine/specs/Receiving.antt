@@ -7,7 +7,7 @@ use Rattle.clocks.specs.declared.Readings.{Readings}
 use Rattle.state.specs.Model.{Datum, Head}
 use Rattle.engine.specs.Ageing.{leastAdvance, greatestAdvance}
 
--- what a receipt is given: the channel's least and greatest delay, clock readings or none, and what the message says
+-- what a receipt is given: the channel's least and greatest delay on the receiver's clock, clock readings or none, and what the message says
 pub record Delivery : Type 0 where
   pub least : ℕ
   pub greatest : ℕ

@@ -1,5 +1,4 @@
 -- `engine::receipt::grow` meets its contract: each delay less and plus what the drift adds to it is its advance (`least-drift`, `greatest-drift`).
-use mathlib.Core.Path.{sym, ap, _∙_}
 use native.Mathlib.Omega.{arith}
 use Rattle.state.specs.Layout.{headOf}
 use Rattle.engine.proofs.AgeLaws.{drift-held, least-drift, greatest-drift}
