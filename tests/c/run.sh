@@ -114,6 +114,37 @@ exports_only() {
     diff <(printf '%s\n' $calls | sort) <(nm -g --defined-only "$archive" | awk 'NF == 3 { print $3 }' | sort)
 }
 
+# calling_themselves ARCHIVE CALL..: of the functions that the calls reach, those that call themselves, directly or through others
+calling_themselves() {
+    objdump -dr --no-show-raw-insn "$1" | awk -v calls="${*:2}" -f tests/c/calls.awk
+}
+
+# of receiving none: a tracer shows no ladder of calls (document 02, W-203)
+no_ladder() {
+    local found
+    found=$(calling_themselves "$archive" monitor_receive monitor_receive_with_readings) && diff <(printf '') <(printf '%s' "$found")
+}
+
+# of asking the search's steps and no others, as document 01 wants them
+search_calls_itself() {
+    local found
+    found=$(calling_themselves "$archive" monitor_ask monitor_fewest) && [ -n "$found" ] && ! grep -v '^search::search::' <<<"$found"
+}
+
+# of a program in which two functions call each other, those two
+ladder_seen() {
+    local found
+    cat >"$scratch/turns.c" <<'END'
+int begin(int n);
+static int there(int n);
+static int back(int n) { return n < 1 ? 0 : there(n - 1); }
+static int there(int n) { return n < 1 ? 1 : back(n - 1); }
+int begin(int n) { return there(n); }
+END
+    "$1" -O0 -ffunction-sections -c "$scratch/turns.c" -o "$scratch/turns.o" &&
+        found=$(calling_themselves "$scratch/turns.o" begin) && diff <(printf '%s\n' back there) <(sort <<<"$found")
+}
+
 # linked in other ways, document 01's listing passes as well
 linked() {
     build "$1" tests/c/monitor.c "$scratch/linked" "${@:2}" && "$scratch/linked"
@@ -235,6 +266,10 @@ marks
 try 'the archive keeps nothing' no_data
 try 'the archive needs memcpy and memset alone' needs_only
 try 'the archive has the calls alone' exports_only
+try 'the archive, receiving: no function calls itself' no_ladder
+try 'the archive, asking: the search alone calls itself' search_calls_itself
+try 'functions that call each other are seen, by gcc' ladder_seen gcc
+try 'functions that call each other are seen, by clang' ladder_seen clang
 links
 examples
 words

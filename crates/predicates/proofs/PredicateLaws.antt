@@ -310,6 +310,10 @@ normal-only p q n f =
     (implies-in p (normal q) (λ s h. subst (λ (b : Bool). T b) (f s ∙ sym (holds-normal s q)) h))
     (implies-in (normal q) p (λ s h. subst (λ (b : Bool). T b) (holds-normal s q ∙ sym (f s)) h))
 
+-- "the same sums have the same normal forms" (document 02, W-203): sums with the same meaning have one
+pub normal-same : (p q : List ℕ) → ((s : ℕ) → holds s p ≡ holds s q) → normal p ≡ normal q
+normal-same p q f = normal-only (normal p) q (normal-normal p) (λ s. holds-normal s p ∙ f s)
+
 -- ---- striking a name, and adding the sender
 
 pub struck-free : (n : ℕ) (p : List ℕ) (t : ℕ) → In t (struck n p) → In t p × T (not (has n t))

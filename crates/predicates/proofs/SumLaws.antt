@@ -2,18 +2,17 @@
 use Prim.Native.Nat.{ℕ, suc, _+_, _-_, _^_, _≤_, _<_}
 use mathlib.Core.Path.{_≡_, refl, sym, ap, _∙_}
 use mathlib.Core.Bool.{true, false, or-comm}
-use mathlib.Core.List.{List, [], _∷_, _++_, append-assoc, append-nil}
+use mathlib.Core.List.{List, [], _∷_, _++_, append-assoc}
 use native.Mathlib.Nat.{zero-add}
 use native.Mathlib.Numerals.{add-one}
 use native.Mathlib.Omega.{arith}
-use lib.ListN.{length, getD, take, drop, set, replicate, length-append, length-replicate, length-set, replicate-append-replicate}
-use lib.Seq.{sets, sets-eq, length-sets, slice, slice-cons, slice-empty, length-take-le, take-at, drop-at, set-at, drop-drop, drop-append-add, take-set-le, drop-set-lt, getD-set-same}
+use lib.ListN.{length, getD, take, drop, set, replicate, length-append, length-set, replicate-append-replicate}
+use lib.Seq.{sets, sets-eq, length-sets, take-at, drop-at, set-at, drop-drop, drop-append-add, take-set-le, drop-set-lt, getD-set-same}
 use Rattle.names.specs.Sets.{has}
 use Rattle.predicates.specs.Lists.{padded}
 use Rattle.predicates.specs.Predicates.{holds, struck, normal, formed}
 use Rattle.predicates.proofs.LoopLaws.{drop-next}
-use Rattle.predicates.proofs.PlaceLaws.{moved-front, moved-rest, moved-behind, padded-more}
-use Rattle.predicates.proofs.PredicateLaws.{holds-sum, holds-normal, normal-normal, normal-only}
+use Rattle.predicates.proofs.PredicateLaws.{holds-sum, normal-same}
 
 -- ---- a run that is stored place by place
 
@@ -26,49 +25,23 @@ zeros-end s i n h = let e : n - i ≡ 0 = omega arith in rw e
 pub copy-turn : (s p : List ℕ) (at i : ℕ) → i < length p → sets (set s (at + i) (getD p i 0)) (at + (i + 1)) (drop (i + 1) p) ≡ sets s (at + i) (drop i p)
 copy-turn s p at i h = let e : at + (i + 1) ≡ suc (at + i) = omega arith in rw (e, drop-next p i h)
 
--- ---- striking a name
+-- ---- striking a name: a sifting in which what has been kept plays no part
 
--- of the first n terms of l those up to i have been tested: those that stay are the first k of s, and the rest is as it was
-abbrev pub Striking : ℕ → ℕ → List ℕ → List ℕ → ℕ → ℕ → Type 0
-Striking name n l s k i =
-    (k ≤ i) × (i ≤ n) × (length s ≡ length l) × (take k s ++ struck name (slice i n s) ≡ struck name (take n l)) × (drop n s ≡ drop n l)
+abbrev pub striking : ℕ → List ℕ → List ℕ → List ℕ
+striking name kept p = struck name p
 
-module _ (name n : ℕ) (l s : List ℕ) (k i : ℕ) (j : i < n) (m : n ≤ length l) (inv : Striking name n l s k i) where
-  first : slice i n s ≡ getD s i 0 ∷ slice (i + 1) n s
-  first = let o : n ≤ length s = omega arith in rw (add-one, slice-cons i n s 0)
-
-  pub strike-pass : (t : List ℕ) (k′ : ℕ) → has name (getD s i 0) ≡ true → t ≡ s → k′ ≡ k → Striking name n l t k′ (i + 1)
+module _ (name : ℕ) (kept : List ℕ) (t : ℕ) where
+  pub struck-gone : has name t ≡ true → (p : List ℕ) → striking name kept (t ∷ p) ≡ striking name kept p
   unfolding struck
-  strike-pass t k′ e p q = rw (p, q) (omega arith, omega arith, inv .2, rw (first, e) at (inv .3), inv .4)
+  struck-gone e p = rw e
 
-  pub strike-keep : (t : List ℕ) (k′ : ℕ) → has name (getD s i 0) ≡ false → t ≡ set s k (getD s i 0) → k′ ≡ k + 1 → Striking name n l t k′ (i + 1)
+  pub struck-stays : has name t ≡ false → (p : List ℕ) → striking name kept (t ∷ p) ≡ t ∷ striking name (kept ++ (t ∷ [])) p
   unfolding struck
-  strike-keep t k′ e p q =
-      let o : n ≤ length s = omega arith in
-      rw (p, q) (
-        omega arith,
-        omega arith,
-        length-set s k (getD s i 0) ∙ inv .2,
-        rw (moved-front s k i n _ (inv .0) j o, moved-rest s k i n [] (inv .0) j o) (rw (first, e) at (inv .3)),
-        moved-behind s k i n [] (inv .0) j o ∙ inv .4,
-      )
+  struck-stays e p = rw e
 
--- the terms kept, zeros, and what is behind n
-pub strike-done : (name n : ℕ) (l s e : List ℕ) (k i : ℕ) → n ≤ i → n ≤ length l → Striking name n l s k i → e ≡ sets s k (replicate (n - k) 0)
-    → (k ≡ length (struck name (take n l))) × (e ≡ padded n (struck name (take n l)) ++ drop n l)
-unfolding padded struck
-strike-done name n l s e k i h j inv r =
-    let kept = struck name (take n l) in
-    let last : i ≡ n = omega arith in
-    let front : take k s ≡ kept = sym (append-nil (take k s)) ∙ rw (last, slice-empty n s) at (inv .3) in
-    let count : k ≡ length kept = sym (length-take-le k s (omega arith)) ∙ ap length front in
-    let w : length (replicate {A = ℕ} (n - k) 0) ≡ n - k = length-replicate {A = ℕ} (n - k) 0 in
-    let end : k + length (replicate {A = ℕ} (n - k) 0) ≡ n = omega arith in
-    let behind : drop (k + length (replicate {A = ℕ} (n - k) 0)) s ≡ drop n l = ap (λ (x : ℕ). drop x s) end ∙ inv .4 in (
-      count,
-      r ∙ sets-eq (replicate (n - k) 0) s k (omega arith)
-          ∙ rw (front, behind) (ap (λ (x : ℕ). (kept ++ replicate (n - x) 0) ++ drop n l) count),
-    )
+pub struck-none : (name : ℕ) → struck name [] ≡ []
+unfolding struck
+struck-none name = refl
 
 -- ---- two predicates, one behind the other
 
@@ -87,13 +60,12 @@ both-calls l p q s t h a b =
 -- the sender's term may stand last
 formed-last : (own sender : ℕ) (p : List ℕ) → normal (struck own p ++ (2 ^ sender ∷ [])) ≡ formed own sender p
 unfolding formed
-formed-last own sender p =
-    normal-only (normal (struck own p ++ (2 ^ sender ∷ []))) (2 ^ sender ∷ struck own p) (normal-normal (struck own p ++ (2 ^ sender ∷ []))) same
+formed-last own sender p = normal-same (struck own p ++ (2 ^ sender ∷ [])) (2 ^ sender ∷ struck own p) same
   where
-    same : (s : ℕ) → holds s (normal (struck own p ++ (2 ^ sender ∷ []))) ≡ holds s (2 ^ sender ∷ struck own p)
+    same : (s : ℕ) → holds s (struck own p ++ (2 ^ sender ∷ [])) ≡ holds s (2 ^ sender ∷ struck own p)
     same s =
-        holds-normal s (struck own p ++ (2 ^ sender ∷ [])) ∙ holds-sum s (struck own p) (2 ^ sender ∷ [])
-        ∙ or-comm (holds s (struck own p)) (holds s (2 ^ sender ∷ [])) ∙ sym (holds-sum s (2 ^ sender ∷ []) (struck own p))
+        holds-sum s (struck own p) (2 ^ sender ∷ []) ∙ or-comm (holds s (struck own p)) (holds s (2 ^ sender ∷ []))
+        ∙ sym (holds-sum s (2 ^ sender ∷ []) (struck own p))
 
 padded-zeros : (m j : ℕ) (x y : List ℕ) → length x ≤ m → padded m x ++ (replicate j 0 ++ y) ≡ padded (m + j) x ++ y
 unfolding padded
@@ -125,7 +97,7 @@ module _ (l s t u : List ℕ) (own sender n k : ℕ) (h : n < length l) (a : s �
       let e : n + 1 - length kept ≡ suc (n - k) = omega (arith, count) in
       let small : length kept ≤ n = omega (arith, count) in
       let long : t ≡ kept ++ (0 ∷ (replicate (n - k) 0 ++ drop (n + 1) l)) =
-      c ∙ rw (used, behind) (padded-more n kept (drop (n + 1) l) small ∙ rw (e, append-assoc kept (0 ∷ replicate (n - k) 0) (drop (n + 1) l))) in
+      c ∙ rw (used, behind) (padded-zeros n 1 kept (drop (n + 1) l) small ∙ rw (e, append-assoc kept (0 ∷ replicate (n - k) 0) (drop (n + 1) l))) in
       d ∙ ap (λ (x : List ℕ). set x k (2 ^ sender)) long ∙ set-at kept 0 (replicate (n - k) 0 ++ drop (n + 1) l) (2 ^ sender) k (sym count)
 
   pub form-calls : (e : List ℕ) (r : ℕ) → (r ≡ length (normal (take (k + 1) u))) × (r ≤ k + 1) → e ≡ padded (k + 1) (normal (take (k + 1) u)) ++ drop (k + 1) u

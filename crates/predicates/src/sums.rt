@@ -8,7 +8,7 @@ ghost use Rattle.predicates.specs.Lists.{padded};
 ghost use Rattle.predicates.specs.Predicates.{formed as Predicates·formed, struck};
 
 // Puts zeros into the places from `from` up to n.
-fn clear(terms: &mut [u32], from: usize, n: usize)
+pub(crate) fn clear(terms: &mut [u32], from: usize, n: usize)
     requires { ⌜ (from ≤ n) × (n ≤ length (now terms)) ⌝ }
     ensures { λ _. ⌜ now (terms .exit) ≡ sets (now (terms .entry)) from (replicate (n - from) 0) ⌝ }
 {

@@ -5,35 +5,42 @@ use Prim.Native.Nat.{_-_}
 use mathlib.Core.Path.{refl, sym, _∙_}
 use mathlib.Core.Logic.{⊎-elim}
 use borrow.Author.Tests.{not-true, not-false}
-use Rattle.predicates.proofs.SumLaws.{Striking, strike-pass, strike-keep, strike-done}
+use lib.ListN.{take}
+use Rattle.predicates.proofs.PlaceLaws.{Sifting, sift-begin, sift-pass, sift-keep, sift-done}
+use Rattle.predicates.proofs.SumLaws.{striking, struck-gone, struck-stays, struck-none}
 use borrow.Author.Needs.{needs}
 use Rattle.predicates.proofs.sums.strike.Statement.{statement}
 use Rattle.predicates.proofs.sums.strike.Tie as tie
 
 abbrev Inv-loop : tie.InvT-loop
-Inv-loop terms₀ n name kept₀ i₀ terms kept i = Striking name n terms₀ terms kept i
+Inv-loop terms₀ n name kept₀ i₀ terms kept i = Sifting (striking name) n terms₀ terms kept i
 
 abbrev μ-loop : tie.MeasureT-loop
 μ-loop terms₀ n name kept₀ i₀ terms kept i = n - i
 
 loop-holds : tie.Need-loop-holds Inv-loop μ-loop
-loop-holds c = (search needs, search needs, refl, refl, refl)
+loop-holds c = let a = c .before in sift-begin (striking (a .args .name)) (a .args .n) (a .args .terms .now) _ _ _ (a .pre .0) refl refl refl
 
 loop-again : tie.Need-loop-again Inv-loop μ-loop
 loop-again c =
     let head = c .before .before .before .before in
     let a = head .before .before in
+    let at = head .loop in
+    let more = c .before .before .before .loop-test .taken in
     let has = sym (c .before .has .ensures) in
+    let f = striking (a .args .name) in
     ⊎-elim
-    (λ w. strike-keep (a .args .name) (a .args .n) (a .args .terms .now) (head .loop .terms) (head .loop .kept) (head .loop .i) (c .before .before .before .loop-test .taken) (a .pre .0) (head .loop .inv) _ _ (has ∙ not-true _ (w .0 .taken)) (w .1) (w .2))
-    (λ w. strike-pass (a .args .name) (a .args .n) (a .args .terms .now) (head .loop .terms) (head .loop .kept) (head .loop .i) (c .before .before .before .loop-test .taken) (a .pre .0) (head .loop .inv) _ _ (has ∙ not-false _ (w .0 .left)) (w .1) (w .2))
+    (λ w. sift-keep f (a .args .n) (a .args .terms .now) (at .terms) (at .kept) (at .i) more (a .pre .0) (at .inv) _ _ (struck-stays (a .args .name) (take (at .kept) (at .terms)) _ (has ∙ not-true _ (w .0 .taken))) (w .1) (w .2))
+    (λ w. sift-pass f (a .args .n) (a .args .terms .now) (at .terms) (at .kept) (at .i) more (a .pre .0) (at .inv) _ _ (struck-gone (a .args .name) (take (at .kept) (at .terms)) _ (has ∙ not-false _ (w .0 .left))) (w .1) (w .2))
     (c .if1 .came)
 
 returns : tie.Need-returns Inv-loop μ-loop
 returns c =
     let head = c .before .before .before .before .before in
     let a = head .before .before in
-    let done = strike-done (a .args .name) (a .args .n) (a .args .terms .now) (head .loop .terms) _ (head .loop .kept) (head .loop .i) (c .before .before .before .before .loop-test .left) (a .pre .0) (head .loop .inv) (c .before .before .clear .ensures) in
+    let at = head .loop in
+    let end = c .before .before .before .before .loop-test .left in
+    let done = sift-done (striking (a .args .name)) (a .args .n) (a .args .terms .now) (at .terms) (at .kept) (at .i) _ end (a .pre .0) (at .inv) (struck-none (a .args .name)) (c .before .before .clear .ensures) in
     ((done .0, search needs), done .1)
 
 pub strike-spec : {M : Type 1} → statement M
