@@ -20,7 +20,7 @@
 #include <stdint.h>
 
 /** Rises by one with each change that a C program can see; CHANGELOG.md says what it was. */
-#define MONITOR_VERSION 4
+#define MONITOR_VERSION 5
 
 /** The mark of a result that must be looked at, where the compiler knows one: a refusal that nobody sees leaves a state that nobody expects. */
 #if (defined(__cplusplus) && __cplusplus >= 201703L) || (defined(__STDC_VERSION__) && __STDC_VERSION__ >= 202311L)
@@ -76,8 +76,8 @@ extern "C" {
  *  looks memcpy or memset up at the first call (link with -z now, or statically, and it does not). */
 #define MONITOR_STACK_SET_UP 64
 #define MONITOR_STACK_AGE 256
-#define MONITOR_STACK_RECEIVE 3968
-#define MONITOR_STACK_RECEIVE_WITH_READINGS 3968
+#define MONITOR_STACK_RECEIVE 3456
+#define MONITOR_STACK_RECEIVE_WITH_READINGS 3456
 #define MONITOR_STACK_WRITE 320
 #define MONITOR_STACK_ASK 7552
 #define MONITOR_STACK_FEWEST 6144

@@ -12,11 +12,35 @@ pub mod clocks;
 pub mod loads;
 pub mod runs;
 pub mod states;
+pub mod sums;
 pub mod texts;
 
 /// Says what samples reached, past the capture of a passing test's output: each run shows it.
 pub fn report(text: &str) {
     io::stderr().write_all(text.as_bytes()).expect("standard error");
+}
+
+/// How often samples met each of the things that they should meet.
+#[derive(Default)]
+pub struct Tally(Vec<(&'static str, u64)>);
+
+impl Tally {
+    /// Counts the thing if it was met, and lists it if it was not.
+    pub fn count(&mut self, what: &'static str, met: bool) {
+        match self.0.iter_mut().find(|(name, _)| *name == what) {
+            Some((_, count)) => *count += u64::from(met),
+            None => self.0.push((what, met.into())),
+        }
+    }
+
+    /// Prints the counts, and checks that each is enough.
+    pub fn check(&self, title: &str, enough: u64) {
+        let counts = self.0.iter().map(|(what, count)| format!("{what} {count}"));
+        report(&format!("{title}: {}\n", counts.collect::<Vec<String>>().join(", ")));
+        for (what, count) in &self.0 {
+            assert!(*count >= enough, "{what} came {count} times");
+        }
+    }
 }
 
 /// A message lent from within a longer buffer, at any alignment. Where it was cut short, its last

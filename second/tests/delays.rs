@@ -10,7 +10,7 @@ use second::message::Message;
 use second::predicates::{Predicate, Term, NAMES};
 use second::random::Random;
 use second::receiving::{self, Branch, Branches};
-use second::samples::{report, states};
+use second::samples::{states, Tally};
 use second::state::{Datum, State};
 
 // ---- what is compared
@@ -379,28 +379,6 @@ fn refused(sleeper: &Sleeper, number: u32) -> [(&'static str, bool); 8] {
         ("30 of a true predicate", number == 30 && always),
         ("32", number == 32),
     ]
-}
-
-/// How often each came.
-#[derive(Default)]
-struct Tally(Vec<(&'static str, u64)>);
-
-impl Tally {
-    fn count(&mut self, what: &'static str, met: bool) {
-        match self.0.iter_mut().find(|(name, _)| *name == what) {
-            Some((_, count)) => *count += u64::from(met),
-            None => self.0.push((what, met.into())),
-        }
-    }
-
-    /// Prints the counts, and checks that each is enough.
-    fn check(&self, title: &str, enough: u64) {
-        let counts = self.0.iter().map(|(what, count)| format!("{what} {count}"));
-        report(&format!("{title}: {}\n", counts.collect::<Vec<String>>().join(", ")));
-        for (what, count) in &self.0 {
-            assert!(*count >= enough, "{what} came {count} times");
-        }
-    }
 }
 
 /// Number and bytes are those that the gains by halves give, and other rules often give others.

@@ -6,12 +6,13 @@ use mathlib.Core.List.{List, [], _∷_, _++_, append-assoc}
 use native.Mathlib.Nat.{zero-add}
 use native.Mathlib.Numerals.{add-one}
 use native.Mathlib.Omega.{arith}
-use lib.ListN.{length, getD, take, drop, set, replicate, length-append, length-set, replicate-append-replicate}
+use lib.ListN.{length, getD, take, drop, set, replicate, length-append, length-set}
 use lib.Seq.{sets, sets-eq, length-sets, take-at, drop-at, set-at, drop-drop, drop-append-add, take-set-le, drop-set-lt, getD-set-same}
 use Rattle.names.specs.Sets.{has}
 use Rattle.predicates.specs.Lists.{padded}
 use Rattle.predicates.specs.Predicates.{holds, struck, normal, formed}
 use Rattle.predicates.proofs.LoopLaws.{drop-next}
+use Rattle.predicates.proofs.PlaceLaws.{padded-zeros}
 use Rattle.predicates.proofs.PredicateLaws.{holds-sum, normal-same}
 
 -- ---- a run that is stored place by place
@@ -66,12 +67,6 @@ formed-last own sender p = normal-same (struck own p ++ (2 ^ sender ∷ [])) (2 
     same s =
         holds-sum s (struck own p) (2 ^ sender ∷ []) ∙ or-comm (holds s (struck own p)) (holds s (2 ^ sender ∷ []))
         ∙ sym (holds-sum s (2 ^ sender ∷ []) (struck own p))
-
-padded-zeros : (m j : ℕ) (x y : List ℕ) → length x ≤ m → padded m x ++ (replicate j 0 ++ y) ≡ padded (m + j) x ++ y
-unfolding padded
-padded-zeros m j x y h =
-    let e : m + j - length x ≡ m - length x + j = omega arith in
-    rw (e, ← replicate-append-replicate {A = ℕ} (m - length x) j 0, ← append-assoc x (replicate (m - length x) 0) (replicate j 0), append-assoc (x ++ replicate (m - length x) 0) (replicate j 0) y)
 
 -- the place behind n is cleared, the own name struck, and the sender's term put behind what is left
 module _ (l s t u : List ℕ) (own sender n k : ℕ) (h : n < length l) (a : s ≡ set l n 0)

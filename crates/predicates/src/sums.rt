@@ -1,23 +1,11 @@
 // Predicates made from others, in a lent array: struck, two together, and what a receiver forms.
 ghost use mathlib.Core.Path.{_≡_};
 ghost use mathlib.Core.List.{List, _++_};
-ghost use Prim.Native.Nat.{ℕ, _+_, _-_, _<_, _≤_};
-ghost use lib.ListN.{length, take, drop, replicate};
+ghost use Prim.Native.Nat.{ℕ, _+_, _<_, _≤_};
+ghost use lib.ListN.{length, take, drop};
 ghost use lib.Seq.{sets};
 ghost use Rattle.predicates.specs.Lists.{padded};
 ghost use Rattle.predicates.specs.Predicates.{formed as Predicates·formed, struck};
-
-// Puts zeros into the places from `from` up to n.
-pub(crate) fn clear(terms: &mut [u32], from: usize, n: usize)
-    requires { ⌜ (from ≤ n) × (n ≤ length (now terms)) ⌝ }
-    ensures { λ _. ⌜ now (terms .exit) ≡ sets (now (terms .entry)) from (replicate (n - from) 0) ⌝ }
-{
-    let mut i = from;
-    while i < n {
-        terms[i] = 0;
-        i += 1;
-    }
-}
 
 // Strikes out, of the first n terms, those that name `name`, with zeros in the places given up. Answers how many are left.
 fn strike(terms: &mut [u32], n: usize, name: u32) -> usize
@@ -29,13 +17,13 @@ fn strike(terms: &mut [u32], n: usize, name: u32) -> usize
     let mut i: usize = 0;
     while i < n {
         let t = terms[i];
+        terms[i] = 0;
         if !names::has(name, t) {
             terms[kept] = t;
             kept += 1;
         }
         i += 1;
     }
-    clear(terms, kept, n);
     kept
 }
 
