@@ -2,10 +2,23 @@
 ghost use mathlib.Core.Path.{_≡_};
 ghost use mathlib.Core.List.{List, _++_};
 ghost use Prim.Native.Nat.{ℕ, _+_, _<_, _≤_};
-ghost use lib.ListN.{length, take, drop};
+ghost use lib.ListN.{length, take, drop, set, getD};
 ghost use lib.Seq.{sets};
 ghost use Rattle.predicates.specs.Lists.{padded};
 ghost use Rattle.predicates.specs.Predicates.{formed as Predicates·formed, struck};
+
+// Moves the term at i up to the place `to`, and leaves a zero. Where it stands there already, which is the usual case, nothing is written: what is
+// written is read again at once, and would have to be waited for.
+pub(crate) fn move_up(terms: &mut [u32], to: usize, i: usize)
+    requires { ⌜ (to ≤ i) × (i < length (now terms)) ⌝ }
+    ensures { λ _. ⌜ now (terms .exit) ≡ set (set (now (terms .entry)) i 0) to (getD (now (terms .entry)) i 0) ⌝ }
+{
+    if to < i {
+        let t = terms[i];
+        terms[i] = 0;
+        terms[to] = t;
+    }
+}
 
 // Strikes out, of the first n terms, those that name `name`, with zeros in the places given up. Answers how many are left.
 fn strike(terms: &mut [u32], n: usize, name: u32) -> usize
@@ -17,9 +30,10 @@ fn strike(terms: &mut [u32], n: usize, name: u32) -> usize
     let mut i: usize = 0;
     while i < n {
         let t = terms[i];
-        terms[i] = 0;
-        if !names::has(name, t) {
-            terms[kept] = t;
+        if names::has(name, t) {
+            terms[i] = 0;
+        } else {
+            move_up(terms, kept, i);
             kept += 1;
         }
         i += 1;

@@ -1,12 +1,10 @@
--- `predicates::sums::strike` meets its contract: each term leaves a zero, and one that does not name `name` goes behind those kept.
+-- `predicates::sums::strike` meets its contract: a term that does not name `name` goes behind those kept, and zeros stand where others stood.
 -- Invariant: the terms kept so far and those of the terms from i on that stay are all that stay; zeros follow up to i, and the rest is as it was.
 -- Measure: the terms still to test.
 use Prim.Native.Nat.{_-_}
 use mathlib.Core.Path.{refl, sym, _∙_}
 use mathlib.Core.Logic.{⊎-elim}
-use borrow.Author.Tests.{not-true, not-false}
-use native.Mathlib.Omega.{arith}
-use lib.ListN.{take, set, length-set}
+use lib.ListN.{take}
 use Rattle.predicates.proofs.PlaceLaws.{Sifting, sift-begin, sift-pass, sift-keep, sift-done}
 use Rattle.predicates.proofs.SumLaws.{striking, struck-gone, struck-stays, struck-none}
 use borrow.Author.Needs.{needs}
@@ -22,9 +20,6 @@ abbrev μ-loop : tie.MeasureT-loop
 loop-holds : tie.Need-loop-holds Inv-loop μ-loop
 loop-holds c = let a = c .before in sift-begin (striking (a .args .name)) (a .args .n) (a .args .terms .now) _ _ _ (a .pre .0) refl refl refl
 
-slice-write-terms-2 : tie.Need-slice-write-terms-2 Inv-loop μ-loop
-slice-write-terms-2 c = let at = c .before .before .before .before .loop in omega (arith, length-set (at .terms) (at .i) 0)
-
 loop-again : tie.Need-loop-again Inv-loop μ-loop
 loop-again c =
     let head = c .before .before .before .before in
@@ -32,11 +27,11 @@ loop-again c =
     let at = head .loop in
     let more = c .before .before .before .loop-test .taken in
     let f = striking (a .args .name) in
-    let kept = take (at .kept) (set (at .terms) (at .i) 0) in
+    let kept = take (at .kept) (at .terms) in
     let has = sym (c .before .has .ensures) in
     ⊎-elim
-    (λ w. sift-keep f (a .args .n) (a .args .terms .now) (at .terms) (at .kept) (at .i) more (a .pre .0) (at .inv) _ _ (struck-stays (a .args .name) kept _ (has ∙ not-true _ (w .0 .taken))) (w .1) (w .2))
-    (λ w. sift-pass f (a .args .n) (a .args .terms .now) (at .terms) (at .kept) (at .i) more (a .pre .0) (at .inv) _ _ (struck-gone (a .args .name) kept _ (has ∙ not-false _ (w .0 .left))) (w .1) (w .2))
+    (λ w. sift-pass f (a .args .n) (a .args .terms .now) (at .terms) (at .kept) (at .i) more (a .pre .0) (at .inv) _ _ (struck-gone (a .args .name) kept _ (has ∙ w .0 .taken)) (w .1) (w .2))
+    (λ w. sift-keep f (a .args .n) (a .args .terms .now) (at .terms) (at .kept) (at .i) more (a .pre .0) (at .inv) _ _ (struck-stays (a .args .name) kept _ (has ∙ w .0 .left)) (w .5 ∙ w .2 .ensures) (w .6))
     (c .if1 .came)
 
 returns : tie.Need-returns Inv-loop μ-loop
@@ -55,11 +50,10 @@ strike-spec =
     loop-holds
     (λ c. search needs)
     (λ c. search needs)
+    (λ c κs. search needs)
     (λ c. search needs)
     (λ c. search needs)
     (λ c κs. search needs)
-    (λ c. search needs)
-    slice-write-terms-2
     (λ c. search needs)
     (λ c. search needs)
     (λ c. search needs)
