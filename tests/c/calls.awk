@@ -13,12 +13,13 @@ function name_in(text) {
 }
 
 function not_seen(what) {
-    print "not seen: " what
+    print "not seen: " what >"/dev/stderr"
     unseen = 1
 }
 
 /^[0-9a-f]+ <.*>:$/ {
-    caller = substr($2, 2, length($2) - 3)
+    caller = substr($0, index($0, "<") + 1)
+    sub(/>:$/, "", caller)
     functions[caller]
     next
 }
