@@ -14,8 +14,8 @@ use lib.Count.{ones}
 use lib.Dec.{T, T-not, not-T, leb, ltb}
 use lib.IntN.{ℤ, pos}
 use lib.ListN.{length}
-use Rattle.names.specs.Sets.{subset, union}
-use Rattle.names.specs.code.Parts.{shared, minus, leastName}
+use Rattle.names.specs.Sets.{subset, union, minus}
+use Rattle.names.specs.code.Parts.{shared, leastName}
 use Rattle.names.proofs.SetLaws.{subset-refl, subset-empty, subset-trans, subset-out, digits-ext, digit-empty, digit-union, digit-lt, union-left, union-right, ones-mono, ones-none, ones-empty}
 use Rattle.names.proofs.PartLaws.{shared-left, shared-right, shared-greatest, subset-same, single-part, digit-minus, minus-add, minus-subset, least-name-in, least-name-one, least-name-least}
 use Rattle.predicates.specs.Lists.{In}

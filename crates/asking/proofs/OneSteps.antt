@@ -17,8 +17,8 @@ use lib.ListN.{length, getD, take, drop, length-map, drop-of-length-le}
 use lib.Seq.{take-at}
 use Rattle.numbers.specs.Numbers.{num, tab}
 use Rattle.numbers.proofs.NumberLaws.{getD-tab, length-tab, tab-ext, above-zero}
-use Rattle.names.specs.Sets.{noSet, subset, union, has}
-use Rattle.names.specs.code.Parts.{shared, minus, others, leastName}
+use Rattle.names.specs.Sets.{noSet, subset, union, has, minus}
+use Rattle.names.specs.code.Parts.{shared, others, leastName}
 use Rattle.names.proofs.SetLaws.{ones-none, ones-empty, has-empty, has-single, subset-le, subset-empty, subset-trans, subset-out, digits-ext, digit-empty, digit-union, digit-lt}
 use Rattle.names.proofs.PartLaws.{others-in, others-lt, others-out, shared-greatest, shared-right, shared-left, digit-shared, digit-minus, minus-subset, single-part, least-name-in, least-name-one}
 use Rattle.predicates.specs.Lists.{all, In}

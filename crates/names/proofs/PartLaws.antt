@@ -12,8 +12,8 @@ use borrow.Author.Tests.{eq-eqb}
 use lib.Arith.{bin-ind}
 use lib.Bits.{bitAnd, and-step, and-comm, and-self, and-le-l, and-mask, or-add-and}
 use lib.Count.{ones, ones-step}
-use Rattle.names.specs.Sets.{noSet, subset, union, has, digit}
-use Rattle.names.specs.code.Parts.{shared, minus, others, leastName}
+use Rattle.names.specs.Sets.{noSet, subset, union, has, digit, minus}
+use Rattle.names.specs.code.Parts.{shared, others, leastName}
 use Rattle.names.proofs.SetLaws.{test-ext, digit-lt, digit-single-same, digit-single-other, digit-zero, digit-suc, digit-and, digit-union, digit-empty, subset-and, and-subset, subset-out, subset-in, digits-ext, subset-trans, subset-antisym, subset-empty, subset-le, union-left, union-right, union-least, ones-empty, ones-none, ones-mono, ones-union, halves, has-in, has-out}
 
 -- ---- what both hold
@@ -50,6 +50,20 @@ minus-subset s t = subset-in (minus s t) s (λ n. omega (arith, digit-minus s t 
 
 pub minus-mono : (u m s : ℕ) → T (subset u m) → T (subset (minus u s) (minus m s))
 minus-mono u m s h = subset-in (minus u s) (minus m s) (λ n. omega (arith, digit-minus u s n, digit-minus m s n, subset-out u m h n))
+
+-- without the names of r it lies in s exactly if it lies in both together
+pub minus-in : (t r s : ℕ) → subset (minus t r) s ≡ subset t (union s r)
+minus-in t r s =
+    test-ext
+    (subset (minus t r) s)
+    (subset t (union s r))
+    (λ h. subset-in t (union s r) (λ n. omega (arith, digit-minus t r n, digit-union s r n, digit-lt t n, subset-out (minus t r) s h n)))
+    (λ h. subset-in (minus t r) s (λ n. omega (arith, digit-minus t r n, digit-union s r n, digit-lt t n, subset-out t (union s r) h n)))
+
+-- nothing is taken out where they share no name
+pub minus-none : (t r : ℕ) → shared t r ≡ 0 → minus t r ≡ t
+unfolding minus shared
+minus-none t r h = omega (arith, h)
 
 -- the names taken out, put back
 pub minus-add : (s u : ℕ) → T (subset s u) → s + minus u s ≡ u

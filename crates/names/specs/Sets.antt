@@ -1,6 +1,6 @@
 -- Sets of names (document 01, "Instants, names, predicates"): a mask in which the name n is the bit of value 2 ^ n.
 -- How many names a set holds is `lib.Count.ones`. Assumes nothing: these are definitions.
-use Prim.Native.Nat.{ℕ, _^_, _/_, _%_}
+use Prim.Native.Nat.{ℕ, _-_, _^_, _/_, _%_}
 use mathlib.Core.Bool.{Bool, not}
 use lib.Dec.{eqb}
 use lib.Bits.{bitAnd, bitOr}
@@ -16,6 +16,10 @@ subset t s = eqb (bitAnd t s) t
 -- the names of s and those of t
 unfoldable pub union : ℕ → ℕ → ℕ
 union s t = bitOr s t
+
+-- the names of s that are not in t
+unfoldable pub minus : ℕ → ℕ → ℕ
+minus s t = s - bitAnd s t
 
 -- the name n is in s
 unfoldable pub has : ℕ → ℕ → Bool

@@ -4,8 +4,8 @@ ghost use mathlib.Core.Path.{_≡_};
 ghost use Prim.Native.Nat.{_<_, _≤_, _^_};
 ghost use lib.Count.{ones};
 ghost use lib.Dec.{leb};
-ghost use Rattle.names.specs.Sets.{subset as Sets·subset, union as Sets·union, has as Sets·has};
-ghost use Rattle.names.specs.code.Parts.{shared as Parts·shared, minus as Parts·minus, others as Parts·others, leastName};
+ghost use Rattle.names.specs.Sets.{subset as Sets·subset, union as Sets·union, has as Sets·has, minus as Sets·minus};
+ghost use Rattle.names.specs.code.Parts.{shared as Parts·shared, others as Parts·others, leastName};
 
 // The mask of no set: more than every set of names.
 pub const NO_SET: u32 = 536_870_912;
@@ -33,7 +33,7 @@ pub fn shared(s: u32, t: u32) -> u32
 
 // The names of s that are not in t.
 pub fn minus(s: u32, t: u32) -> u32
-    ensures { λ r. ⌜ r ≡ Parts·minus s t ⌝ }
+    ensures { λ r. ⌜ r ≡ Sets·minus s t ⌝ }
 {
     s - (s & t)
 }

@@ -11,8 +11,7 @@ use borrow.Author.Tests.{le-leb, lt-leb, le-ltb, lt-ltb}
 use lib.Dec.{T, eqb, leb, ltb, leb→le, ltb→lt, nltb→le}
 use lib.ListN.{length, getD, take, drop, set, length-append, length-set, length-map, List·getD-append}
 use lib.Count.{ones}
-use Rattle.names.specs.Sets.{subset, union, noSet}
-use Rattle.names.specs.code.Parts.{minus}
+use Rattle.names.specs.Sets.{subset, union, noSet, minus}
 use Rattle.names.proofs.SetLaws.{ones-empty}
 use Rattle.numbers.specs.Numbers.{put, tab}
 use Rattle.numbers.proofs.NumberLaws.{put-then, put-front, tab-ext}

@@ -11,8 +11,8 @@ use native.Mathlib.Omega.{arith}
 use lib.Dec.{T, T-not, eqb, leb, leb→le, le→leb}
 use borrow.Author.Tests.{eq-eqb, ne-eqb}
 use lib.Count.{ones}
-use Rattle.names.specs.Sets.{subset, union}
-use Rattle.names.specs.code.Parts.{shared, minus, leastName}
+use Rattle.names.specs.Sets.{subset, union, minus}
+use Rattle.names.specs.code.Parts.{shared, leastName}
 use Rattle.names.proofs.SetLaws.{subset-refl, subset-trans, subset-antisym, union-left, union-right, union-least, ones-mono, ones-union}
 use Rattle.numbers.proofs.NumberLaws.{above-zero}
 use Rattle.names.proofs.PartLaws.{without-one, adds-none, adds-some, adds-one, one-added, shared-left, shared-right, shared-greatest, minus-subset, minus-mono, minus-add, minus-apart, union-add, subset-same, ones-more, single-part, least-name-least, least-name-in, least-name-one}

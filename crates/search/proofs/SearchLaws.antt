@@ -12,8 +12,7 @@ use native.Mathlib.Omega.{arith}
 use lib.Dec.{T, T-not}
 use lib.Count.{ones}
 use lib.ListN.{length}
-use Rattle.names.specs.Sets.{subset, union}
-use Rattle.names.specs.code.Parts.{minus}
+use Rattle.names.specs.Sets.{subset, union, minus}
 use Rattle.names.proofs.SetLaws.{subset-refl, subset-trans, subset-le, union-left, union-right, union-least}
 use Rattle.names.proofs.PartLaws.{minus-subset, subset-same, one-more, minus-free}
 use Rattle.predicates.specs.Lists.{all}

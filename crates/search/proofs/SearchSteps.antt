@@ -16,8 +16,8 @@ use lib.ListN.{length, getD, take, drop, drop-of-length-le}
 use lib.Seq.{drop-cons}
 use Rattle.numbers.specs.Numbers.{tab}
 use Rattle.numbers.proofs.NumberLaws.{above-zero, length-tab, getD-tab}
-use Rattle.names.specs.Sets.{subset, union}
-use Rattle.names.specs.code.Parts.{shared, minus, leastName}
+use Rattle.names.specs.Sets.{subset, union, minus}
+use Rattle.names.specs.code.Parts.{shared, leastName}
 use Rattle.names.proofs.SetLaws.{subset-le, subset-refl, subset-trans, subset-antisym, union-right, union-least, ones-none, ones-mono}
 use Rattle.names.proofs.PartLaws.{shared-greatest, minus-add, minus-apart, subset-same, least-name-in, least-name-one, added, adds-none, adds-some, adds-one, one-added}
 use Rattle.predicates.specs.Predicates.{holds}

@@ -1,6 +1,6 @@
 -- `names::minus` meets its contract: the code is the definition, and what both hold is at most what one holds.
 use mathlib.Core.Path.{refl}
-use Rattle.names.specs.code.Parts.{minus}
+use Rattle.names.specs.Sets.{minus}
 use lib.Bits.{and-le-l}
 use Rattle.names.proofs.minus.Statement.{statement}
 use Rattle.names.proofs.minus.Tie as tie

@@ -2,8 +2,8 @@
 use Prim.Native.Nat.{_-_}
 use mathlib.Core.Path.{ap, _∙_}
 use borrow.Author.Needs.{needs}
-use Rattle.names.specs.Sets.{noSet}
-use Rattle.names.specs.code.Parts.{minus, others}
+use Rattle.names.specs.Sets.{noSet, minus}
+use Rattle.names.specs.code.Parts.{others}
 use Rattle.names.proofs.others.Statement.{statement}
 use Rattle.names.proofs.others.Tie as tie
 

@@ -2,15 +2,11 @@
 -- Parts of a set of names, as masks. Assumes nothing: these are definitions.
 use Prim.Native.Nat.{ℕ, _-_, _^_}
 use lib.Bits.{bitAnd}
-use Rattle.names.specs.Sets.{noSet}
+use Rattle.names.specs.Sets.{noSet, minus}
 
 -- the names of s that are in t
 unfoldable pub shared : ℕ → ℕ → ℕ
 shared s t = bitAnd s t
-
--- the names of s that are not in t
-unfoldable pub minus : ℕ → ℕ → ℕ
-minus s t = s - bitAnd s t
 
 -- all names but n
 unfoldable pub others : ℕ → ℕ

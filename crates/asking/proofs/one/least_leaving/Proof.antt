@@ -4,8 +4,7 @@ use mathlib.Core.Path.{refl}
 use native.Mathlib.Omega.{arith}
 use lib.Dec.{T}
 use Rattle.numbers.proofs.NumberLaws.{above-zero}
-use Rattle.names.specs.Sets.{subset}
-use Rattle.names.specs.code.Parts.{minus}
+use Rattle.names.specs.Sets.{subset, minus}
 use Rattle.names.proofs.SetLaws.{subset-refl}
 use Rattle.asking.proofs.OneLaws.{one-none, walk-start, walk-name, walk-less, walk-within}
 use Rattle.asking.proofs.OneSteps.{NoneOf, least-found, least-next, least-none}

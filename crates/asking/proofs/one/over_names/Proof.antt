@@ -5,8 +5,7 @@ use mathlib.Core.Bool.{Bool}
 use native.Mathlib.Omega.{arith}
 use lib.Dec.{T}
 use Rattle.numbers.proofs.NumberLaws.{above-zero}
-use Rattle.names.specs.Sets.{subset}
-use Rattle.names.specs.code.Parts.{minus}
+use Rattle.names.specs.Sets.{subset, minus}
 use Rattle.names.proofs.SetLaws.{subset-refl}
 use Rattle.state.specs.Layout.{storeOf}
 use Rattle.asking.specs.code.One.{AtMostOne, Hull}

@@ -1,0 +1,2 @@
+-- The laws of names that count as failed and of epochs heard.
+pub mod WithdrawLaws

@@ -1,0 +1,65 @@
+-- Epochs (document 02, W-204): "A mended monitor comes back with a higher epoch, 0 to 15. Two names are equal only if identifier and epoch are
+-- equal." What is known is a list, each identifier's epoch at its place. Assumes nothing: these are definitions.
+use Prim.Native.Nat.{ℕ, _+_, _*_, _/_, _%_, _≤_, max}
+use mathlib.Core.Bool.{Bool, true, false, cond}
+use mathlib.Core.List.{List, [], _∷_, map}
+use lib.Dec.{eqb, ltb}
+use lib.ListN.{getD, set}
+use Rattle.names.specs.Sets.{minus}
+use Rattle.predicates.specs.Predicates.{normal}
+
+-- the greatest epoch, and how many identifiers have one
+abbrev pub epochMost : ℕ
+epochMost = 15
+
+abbrev pub epochsMost : ℕ
+epochsMost = 29
+
+-- ---- names: one number, as an epoch word carries it, "identifier in bits 0–4, epoch in bits 5–8, the rest zero"
+
+abbrev pub identifierOf : ℕ → ℕ
+identifierOf name = name % 32
+
+abbrev pub epochOf : ℕ → ℕ
+epochOf name = name / 32
+
+abbrev pub name : ℕ → ℕ → ℕ
+name identifier epoch = identifier + 32 * epoch
+
+-- the first number that is none: "the rest zero"
+abbrev pub nameLimit : ℕ
+nameLimit = 512
+
+-- ---- a predicate with names that count as failed
+
+-- the names of r count as failed in p, and what is left is "put in normal form"
+unfoldable pub withdraw : ℕ → List ℕ → List ℕ
+withdraw r p = normal (map (λ t. minus t r) p)
+
+-- ---- epochs by identifier
+
+abbrev pub digitOf : Bool → ℕ
+digitOf true = 1
+digitOf false = 0
+
+-- the identifiers whose epoch in es is below the one in ks, as a mask: "an older one counts as failed"
+unfoldable pub older : List ℕ → List ℕ → ℕ
+older es [] = 0
+older [] (k ∷ ks) = digitOf (ltb 0 k) + 2 * older [] ks
+older (e ∷ es) (k ∷ ks) = digitOf (ltb e k) + 2 * older es ks
+
+-- the known epochs ks once es are heard: the greater of both
+unfoldable pub raised : List ℕ → List ℕ → List ℕ
+raised [] es = []
+raised (k ∷ ks) [] = k ∷ ks
+raised (k ∷ ks) (e ∷ es) = max k e ∷ raised ks es
+
+-- no epoch of es is above the one in ks
+abbrev pub NotAbove : List ℕ → List ℕ → Type 0
+NotAbove es ks = (n : ℕ) → getD es n 0 ≤ getD ks n 0
+
+-- The epochs that names speak of. Of an identifier that none names, and of the own one, it is the known epoch: "a message never changes the own
+-- epoch".
+unfoldable pub spoken : ℕ → List ℕ → List ℕ → List ℕ
+spoken own [] ks = ks
+spoken own (w ∷ ws) ks = spoken own ws (cond (eqb (identifierOf w) own) ks (set ks (identifierOf w) (epochOf w)))
