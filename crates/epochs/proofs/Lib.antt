@@ -1,2 +1,3 @@
 -- The laws of names that count as failed and of epochs heard.
 pub mod WithdrawLaws
+pub mod EpochLaws

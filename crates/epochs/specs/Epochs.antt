@@ -58,8 +58,11 @@ raised (k ∷ ks) (e ∷ es) = max k e ∷ raised ks es
 abbrev pub NotAbove : List ℕ → List ℕ → Type 0
 NotAbove es ks = (n : ℕ) → getD es n 0 ≤ getD ks n 0
 
--- The epochs that names speak of. Of an identifier that none names, and of the own one, it is the known epoch: "a message never changes the own
--- epoch".
+-- es where a name is heard; the own epoch stays: "a message never changes the own epoch"
+unfoldable pub told : ℕ → List ℕ → ℕ → List ℕ
+told own es w = cond (eqb (identifierOf w) own) es (set es (identifierOf w) (epochOf w))
+
+-- the epochs that names speak of; of an identifier that none names, and of the own one, it is the known one
 unfoldable pub spoken : ℕ → List ℕ → List ℕ → List ℕ
 spoken own [] ks = ks
-spoken own (w ∷ ws) ks = spoken own ws (cond (eqb (identifierOf w) own) ks (set ks (identifierOf w) (epochOf w)))
+spoken own (w ∷ ws) ks = spoken own ws (told own ks w)

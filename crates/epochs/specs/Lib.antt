@@ -1,1 +1,2 @@
 pub mod Epochs
+pub mod code

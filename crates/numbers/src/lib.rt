@@ -7,7 +7,7 @@ ghost use lib.ListN.{length, take, drop};
 ghost use Rattle.numbers.specs.Numbers.{num, bytes, put, tab, bytesOf};
 
 // The byte b as a number.
-fn byte(b: u8) -> u32
+pub fn byte(b: u8) -> u32
     ensures { λ r. ⌜ (r ≡ b) × (r < 256) ⌝ }
 {
     b as u32

@@ -1,0 +1,68 @@
+// The epochs known of each identifier, a byte for each from index `at` on, and the names that a message brings.
+ghost use mathlib.Core.Path.{_≡_};
+ghost use Prim.Native.Nat.{_+_, _≤_, _<_};
+ghost use lib.Dec.{leb};
+ghost use lib.ListN.{length, getD};
+ghost use lib.Seq.{sets};
+ghost use Rattle.predicates.specs.Lists.{all};
+ghost use Rattle.epochs.specs.Epochs.{epochMost, epochsMost, older, raised, spoken};
+ghost use Rattle.epochs.specs.code.Known.{knownAt, bitWhere, Named};
+
+// The identifiers whose old names a message withdraws, and those that it names under an older epoch, as masks.
+pub struct Heard {
+    pub risen: u32,
+    pub late: u32,
+}
+
+// Whether each epoch is one.
+pub fn fits(s: &[u8], at: usize) -> bool
+    requires { ⌜ at + epochsMost ≤ length (now s) ⌝ }
+    ensures { λ r. ⌜ r ≡ all (λ e. leb e epochMost) (knownAt at (now (s .entry))) ⌝ }
+{
+    let mut ok = true;
+    let mut i: usize = 0;
+    while i < super::EPOCHS_MOST {
+        ok = ok & (s[at + i] <= super::EPOCH_MOST);
+        i += 1;
+    }
+    ok
+}
+
+// The identifier n as a mask where the test passes; else nobody.
+fn bit_where(test: bool, n: u32) -> u32
+    requires { ⌜ n < 32 ⌝ }
+    ensures { λ r. ⌜ r ≡ bitWhere test n ⌝ }
+{
+    if test {
+        return names::single(n);
+    }
+    0
+}
+
+// The epoch of identifier n.
+pub fn epoch_of(s: &[u8], at: usize, n: u32) -> u32
+    requires { ⌜ (at + epochsMost ≤ length (now s)) × (n < epochsMost) ⌝ }
+    ensures { λ r. ⌜ (r ≡ getD (knownAt at (now (s .entry))) n 0) × (r < 256) ⌝ }
+{
+    numbers::byte(s[at + n as usize])
+}
+
+// What a message's names withdraw, and which of them are old. The own identifier's is passed over.
+pub fn hear(s: &[u8], at: usize, own: u32, words: &[u32]) -> Heard
+    requires { ⌜ (at + epochsMost ≤ length (now s)) × Named (now words) ⌝ }
+    ensures { λ r. ⌜ r .risen ≡ older (knownAt at (now (s .entry))) (spoken own (now (words .entry)) (knownAt at (now (s .entry)))) ⌝ }
+    ensures { λ r. ⌜ r .late ≡ older (spoken own (now (words .entry)) (knownAt at (now (s .entry)))) (knownAt at (now (s .entry))) ⌝ }
+{
+    let mut risen: u32 = 0;
+    let mut late: u32 = 0;
+    let mut i: usize = 0;
+    while i < words.len() {
+        let n = words[i] % 32;
+        let e = words[i] / 32;
+        let known = epoch_of(s, at, n);
+        risen = names::union(risen, bit_where((n != own) & (known < e), n));
+        late = names::union(late, bit_where((n != own) & (e < known), n));
+        i += 1;
+    }
+    Heard { risen, late }
+}
