@@ -8,8 +8,10 @@ use mathlib.Core.List.{List, [], _∷_, _++_}
 use native.Mathlib.Omega.{arith}
 use native.Mathlib.Decide.{ℕ-discrete}
 use lib.Dec.{T, T-not, eqb, eqb-refl, ltb, ltb→lt, nltb→le, eqb→eq}
-use lib.ListN.{length, getD, set, take, length-set, List·getD-eq-default}
-use lib.Seq.{getD-set-same, getD-set-other, take-suc, length-slice, getD-drop, getD-take}
+use lib.ListN.{length, getD, set, take, drop, length-set, length-append, take-append-drop, List·getD-eq-default}
+use lib.Seq.{sets, take-take, set-getD, sets-eq, getD-set-same, getD-set-other, take-suc, length-slice, length-take-le, take-at, drop-at, getD-drop, getD-take}
+use Rattle.numbers.specs.Numbers.{put}
+use Rattle.numbers.proofs.NumberLaws.{put-set}
 use Rattle.names.specs.Sets.{union, digit}
 use Rattle.names.proofs.SetLaws.{digit-zero, digit-suc, digit-empty, digit-union, digits-ext, digit-single-same, digit-single-other, union-none}
 use Rattle.predicates.proofs.ListLaws.{split, cond-ind}
@@ -57,6 +59,20 @@ getD-raised [] (e ∷ es) n h = absurd (omega (arith, h))
 getD-raised (k ∷ ks) [] n h = omega arith
 getD-raised (k ∷ ks) (e ∷ es) zero h = refl
 getD-raised (k ∷ ks) (e ∷ es) (suc n) h = getD-raised ks es n (omega (arith, h))
+
+-- what is known says nothing new
+raised-none : (ks : List ℕ) → raised ks ks ≡ ks
+unfolding raised
+raised-none [] = refl
+raised-none (k ∷ ks) = rw (raised-none ks) (ap {B = List ℕ} (λ x. x ∷ ks) (omega arith))
+
+-- one epoch more is heard
+raised-set : (ks es : List ℕ) (n e : ℕ) → length es ≡ length ks → raised ks (set es n e) ≡ set (raised ks es) n (max (getD ks n 0) e)
+unfolding raised
+raised-set [] es n e h = refl
+raised-set (k ∷ ks) [] n e h = absurd (omega (arith, h))
+raised-set (k ∷ ks) (x ∷ es) zero e h = refl
+raised-set (k ∷ ks) (x ∷ es) (suc n) e h = ap {B = List ℕ} (λ l. max k x ∷ l) (raised-set ks es n e (omega (arith, h)))
 
 -- the same identifiers are older where the same epochs are below the others
 digit-same : (a b c d : ℕ) → (a < b → c < d) → (c < d → a < b) → digitOf (ltb a b) ≡ digitOf (ltb c d)
@@ -262,6 +278,33 @@ module _ (own : ℕ) (ws ks : List ℕ) (named : Named ws) (long : length ks ≡
       go true = sym (union-none (older now-heard ks))
       go false = late-set ks now-heard at (epochOf (getD ws i 0)) within known
 
+  -- what is known once it is heard
+  pub raised-turn : raised ks (spoken own (take (i + 1) ws) ks)
+      ≡ cond (not (eqb at own) && ltb (getD ks at 0) (epochOf (getD ws i 0))) (set (raised ks now-heard) at (epochOf (getD ws i 0))) (raised ks now-heard)
+  unfolding told
+  raised-turn = ap (λ (l : List ℕ). raised ks l) (spoken-next own ws ks i more) ∙ go (eqb at own)
+    where
+      e : ℕ
+      e = epochOf (getD ws i 0)
+
+      heard : raised ks (set now-heard at e) ≡ set (raised ks now-heard) at (max (getD ks at 0) e)
+      heard = raised-set ks now-heard at e (omega (arith, length-spoken own (take i ws) ks))
+
+      there : getD (raised ks now-heard) at 0 ≡ getD ks at 0
+      there = getD-raised ks now-heard at (omega (arith, length-spoken own (take i ws) ks)) ∙ omega (arith, known)
+
+      pick : (b : Bool) → b ≡ ltb (getD ks at 0) e → set (raised ks now-heard) at (max (getD ks at 0) e) ≡ cond b (set (raised ks now-heard) at e) (raised ks now-heard)
+      pick true q =
+          let above : max (getD ks at 0) e ≡ e = omega (arith, ltb→lt (getD ks at 0) e (subst (λ (b : Bool). T b) q tt)) in
+          ap (λ (x : ℕ). set (raised ks now-heard) at x) above
+      pick false q =
+          let under : max (getD ks at 0) e ≡ getD (raised ks now-heard) at 0 = omega (arith, there, nltb→le (getD ks at 0) e (subst (λ (b : Bool). T (not b)) q tt)) in
+          ap (λ (x : ℕ). set (raised ks now-heard) at x) under ∙ set-getD (raised ks now-heard) at 0
+
+      go : (b : Bool) → raised ks (cond b now-heard (set now-heard at e)) ≡ cond (not b && ltb (getD ks at 0) e) (set (raised ks now-heard) at e) (raised ks now-heard)
+      go true = refl
+      go false = heard ∙ pick (ltb (getD ks at 0) e) refl
+
 -- ---- in bytes
 
 pub length-known : (at : ℕ) (s : List ℕ) → at + epochsMost ≤ length s → length (knownAt at s) ≡ epochsMost
@@ -269,3 +312,64 @@ length-known at s h = omega (arith, length-slice at (at + epochsMost) s h)
 
 pub getD-known : (at n : ℕ) (s : List ℕ) → n < epochsMost → getD s (at + n) 0 ≡ getD (knownAt at s) n 0
 getD-known at n s h = sym (getD-drop at (take (at + epochsMost) s) n 0 ∙ getD-take (at + epochsMost) s (at + n) 0 (omega (arith, h)))
+
+-- the epochs as they are stored are those read
+pub known-put : (at : ℕ) (vs s : List ℕ) → length vs ≡ epochsMost → at + epochsMost ≤ length s → knownAt at (put at vs s) ≡ vs
+unfolding put
+known-put at vs s v h =
+    let front = length-take-le at s (omega (arith, h)) in
+    let both : length (take at s ++ vs) ≡ at + epochsMost = length-append (take at s) vs ∙ omega (arith, front, v) in
+    ap (λ (l : List ℕ). knownAt at l) (sets-eq vs s at (omega (arith, h, v)))
+    ∙ ap (λ (l : List ℕ). drop at l) (take-at (take at s ++ vs) (drop (at + length vs) s) (at + epochsMost) both)
+    ∙ drop-at (take at s) vs at front
+
+pub put-known : (at : ℕ) (s : List ℕ) → at + epochsMost ≤ length s → s ≡ put at (raised (knownAt at s) (knownAt at s)) s
+unfolding put
+put-known at s h =
+    let end : at + length (knownAt at s) ≡ at + epochsMost = omega (arith, length-known at s h) in
+    let front : take at s ≡ take at (take (at + epochsMost) s) = sym (take-take at (at + epochsMost) s (omega arith)) in
+    sym (
+    ap (λ (l : List ℕ). sets s at l) (raised-none (knownAt at s))
+    ∙ sets-eq (knownAt at s) s at (omega (arith, end, h))
+    ∙ ap₂ (λ (l : List ℕ) (k : ℕ). (l ++ knownAt at s) ++ drop k s) front end
+    ∙ ap (λ (l : List ℕ). l ++ drop (at + epochsMost) s) (take-append-drop at (take (at + epochsMost) s))
+    ∙ take-append-drop (at + epochsMost) s
+    )
+
+-- one name more, in bytes: the epoch that is read is the one known before, and the one that passes it is stored
+module _ (own p : ℕ) (ws s₀ s : List ℕ) (named : Named ws) (fits : p + epochsMost ≤ length s₀) (i : ℕ) (more : i < length ws)
+    (stored : s ≡ put p (raised (knownAt p s₀) (spoken own (take i ws) (knownAt p s₀))) s₀) where
+  abbrev w : ℕ
+  w = getD ws i 0
+
+  abbrev ks : List ℕ
+  ks = knownAt p s₀
+
+  long : length ks ≡ epochsMost
+  long = length-known p s₀ fits
+
+  heard-long : length (raised ks (spoken own (take i ws) ks)) ≡ epochsMost
+  heard-long = length-raised ks (spoken own (take i ws) ks) ∙ long
+
+  pub raise-read : getD (knownAt p s) (identifierOf w) 0 ≡ getD ks (identifierOf w) 0
+  raise-read =
+      ap (λ (l : List ℕ). getD (knownAt p l) (identifierOf w) 0) stored
+      ∙ ap (λ (l : List ℕ). getD l (identifierOf w) 0) (known-put p (raised ks (spoken own (take i ws) ks)) s₀ heard-long fits)
+      ∙ getD-raised ks (spoken own (take i ws) ks) (identifierOf w) (omega (arith, length-spoken own (take i ws) ks))
+      ∙ omega (arith, spoken-ahead own ws ks named i i (omega arith) more)
+
+  pub raise-write : (t : List ℕ) (b : Bool) → b ≡ not (eqb (identifierOf w) own) && ltb (getD (knownAt p s) (identifierOf w) 0) (epochOf w)
+      → t ≡ cond b (set s (p + identifierOf w) (epochOf w)) s → t ≡ put p (raised ks (spoken own (take (i + 1) ws) ks)) s₀
+  raise-write t b q e =
+      e
+      ∙ go b
+      ∙ ap (λ (x : Bool). put p (cond x (set (raised ks (spoken own (take i ws) ks)) (identifierOf w) (epochOf w)) (raised ks (spoken own (take i ws) ks))) s₀)
+      (q ∙ ap (λ (k : ℕ). not (eqb (identifierOf w) own) && ltb k (epochOf w)) raise-read)
+      ∙ ap (λ (l : List ℕ). put p l s₀) (sym (raised-turn own ws ks named long i more))
+    where
+      go : (b : Bool) → cond b (set s (p + identifierOf w) (epochOf w)) s
+          ≡ put p (cond b (set (raised ks (spoken own (take i ws) ks)) (identifierOf w) (epochOf w)) (raised ks (spoken own (take i ws) ks))) s₀
+      go true =
+          ap (λ (l : List ℕ). set l (p + identifierOf w) (epochOf w)) stored
+          ∙ put-set p (identifierOf w) (epochOf w) (raised ks (spoken own (take i ws) ks)) s₀ (omega (arith, heard-long, named .few i more))
+      go false = stored

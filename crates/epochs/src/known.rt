@@ -1,9 +1,10 @@
 // The epochs known of each identifier, a byte for each from index `at` on, and the names that a message brings.
 ghost use mathlib.Core.Path.{_≡_};
-ghost use Prim.Native.Nat.{_+_, _≤_, _<_};
+ghost use mathlib.Core.List.{List};
+ghost use Prim.Native.Nat.{ℕ, _+_, _≤_, _<_};
 ghost use lib.Dec.{leb};
 ghost use lib.ListN.{length, getD};
-ghost use lib.Seq.{sets};
+ghost use Rattle.numbers.specs.Numbers.{put};
 ghost use Rattle.predicates.specs.Lists.{all};
 ghost use Rattle.epochs.specs.Epochs.{epochMost, epochsMost, older, raised, spoken};
 ghost use Rattle.epochs.specs.code.Known.{knownAt, bitWhere, Named};
@@ -65,4 +66,22 @@ pub fn hear(s: &[u8], at: usize, own: u32, words: &[u32]) -> Heard
         i += 1;
     }
     Heard { risen, late }
+}
+
+// Puts the epochs that pass the known ones in their places.
+pub fn raise(s: &mut [u8], at: usize, own: u32, words: &[u32])
+    requires { ⌜ (at + epochsMost ≤ length (now s)) × Named (now words) ⌝ }
+    ensures { λ _. ⌜ (let ks : List ℕ = knownAt at (now (s .entry)) in
+        now (s .exit) ≡ put at (raised ks (spoken own (now (words .entry)) ks)) (now (s .entry))) ⌝ }
+{
+    let mut i: usize = 0;
+    while i < words.len() {
+        let n = words[i] % 32;
+        let e = words[i] / 32;
+        let known = epoch_of(s, at, n);
+        if (n != own) & (known < e) {
+            s[at + n as usize] = e as u8;
+        }
+        i += 1;
+    }
 }

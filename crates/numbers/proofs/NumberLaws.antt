@@ -11,7 +11,7 @@ use native.Mathlib.Numerals.{add-one}
 use native.Mathlib.Omega.{arith}
 use lib.Dec.{lit<}
 use lib.ListN.{length, getD, take, drop, set, length-append, List·getD-append}
-use lib.Seq.{sets-eq, take-at, take-all, take-add, take-suc, drop-cons, length-take-le, length-sets, getD-at, getD-take, getD-set-other, set-getD, ext-getD}
+use lib.Seq.{sets, sets-eq, set-set, set-comm, take-at, take-all, take-add, take-suc, drop-cons, length-take-le, length-sets, getD-at, getD-take, getD-set-other, set-getD, ext-getD}
 use Rattle.numbers.specs.Numbers.{num, bytes, put, tab, Bytes, Words, wordsOf, bytesOf}
 
 -- ---- counting
@@ -128,6 +128,25 @@ put-append n at (v ∷ a) b s e =
 pub put-then : (n at next : ℕ) (a b s t u : List ℕ) →
     length a ≡ n → next ≡ at + n → t ≡ put at a s → u ≡ put next b t → u ≡ put at (a ++ b) s
 put-then n at next a b s t u e f p q = rw (put-append n at a b s e, ← p, ← f, ← q)
+
+-- an element before what is stored
+pub set-put : (at b x : ℕ) (vs s : List ℕ) → at < b → set (put b vs s) at x ≡ put b vs (set s at x)
+unfolding put
+set-put at b x [] s h = refl
+set-put at b x (v ∷ vs) s h =
+    rw (set-put at (suc b) x vs (set s b v) (omega arith), set-comm s b at v x (λ e. omega arith))
+
+-- an element of what is stored
+pub put-set : (at n x : ℕ) (vs s : List ℕ) → n < length vs → set (put at vs s) (at + n) x ≡ put at (set vs n x) s
+unfolding put
+put-set at n x [] s h = absurd (omega (arith, h))
+put-set at zero x (v ∷ vs) s h =
+    ap (λ (k : ℕ). set (sets (set s at v) (suc at) vs) k x) (add-zero at)
+    ∙ set-put at (suc at) x vs (set s at v) (omega arith)
+    ∙ ap (λ (u : List ℕ). sets u (suc at) vs) (set-set s at v x)
+put-set at (suc n) x (v ∷ vs) s h =
+    let next : at + suc n ≡ suc at + n = omega arith in
+    ap (λ (k : ℕ). set (sets (set s at v) (suc at) vs) k x) next ∙ put-set (suc at) n x vs (set s at v) (omega (arith, h))
 
 -- n elements stored from the start: they, and then what was there
 pub put-front : (n : ℕ) (vs s : List ℕ) → length vs ≡ n → n ≤ length s → put 0 vs s ≡ vs ++ drop n s

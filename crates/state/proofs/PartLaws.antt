@@ -11,11 +11,11 @@ use native.Mathlib.Omega.{arith}
 use lib.ListN.{length, getD, set}
 use lib.Seq.{set-set}
 use Rattle.numbers.specs.Numbers.{put}
-use Rattle.numbers.proofs.NumberLaws.{put-append}
+use Rattle.numbers.proofs.NumberLaws.{put-append, set-put}
 use Rattle.clocks.specs.Places.{placeSize}
 use Rattle.state.specs.Layout.{joined, dataMost, datumSize, entriesMost, entrySize, clocksMost, stateSize}
 use Rattle.state.proofs.LayoutLaws.{part, length-part, part-add, At, at-first, at-then}
-use Rattle.state.proofs.PutLaws.{set-put, put-swap, part-stands, put-stands}
+use Rattle.state.proofs.PutLaws.{put-swap, part-stands, put-stands}
 
 -- ---- parts of given sizes
 

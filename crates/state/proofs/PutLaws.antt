@@ -9,9 +9,9 @@ use native.Mathlib.Numerals.{add-one}
 use native.Mathlib.Omega.{arith}
 use lib.Dec.{T}
 use lib.ListN.{length, getD, drop, set, length-append, length-replicate, replicate-append-replicate, take-append-drop}
-use lib.Seq.{getD-drop, set-getD, set-comm, drop-set-lt, slice-empty}
+use lib.Seq.{getD-drop, set-getD, drop-set-lt, slice-empty}
 use Rattle.numbers.specs.Numbers.{put, tab}
-use Rattle.numbers.proofs.NumberLaws.{put-then, put-append}
+use Rattle.numbers.proofs.NumberLaws.{put-then, put-append, set-put}
 use Rattle.state.specs.Model.{Datum}
 use Rattle.state.specs.Layout.{stateSize, dataAt, dataMost, datumSize, entriesAt, entriesMost, entrySize, datumPlace, entryPlace, zeros, joined, datumBytes, entryBytes, dataBytes, entriesBytes}
 use Rattle.state.specs.Form.{isZero}
@@ -40,12 +40,6 @@ drop-put at b [] s h = refl
 drop-put at b (v ∷ vs) s h = drop-put at (suc b) vs (set s b v) (omega arith) ∙ drop-set-lt at s b v (omega arith)
 
 -- two stores, the first one in front
-pub set-put : (at b x : ℕ) (vs s : List ℕ) → at < b → set (put b vs s) at x ≡ put b vs (set s at x)
-unfolding put
-set-put at b x [] s h = refl
-set-put at b x (v ∷ vs) s h =
-    rw (set-put at (suc b) x vs (set s b v) (omega arith), set-comm s b at v x (λ e. omega arith))
-
 pub put-swap : (at b : ℕ) (a vs s : List ℕ) → at + length a ≤ b → put at a (put b vs s) ≡ put b vs (put at a s)
 unfolding put
 put-swap at b [] vs s h = refl
