@@ -9,25 +9,32 @@ use mathlib.Core.Bool.{Bool, true, false, not}
 use mathlib.Core.List.{List, [], _∷_, map}
 use native.Mathlib.Nat.{le-refl, mul-le-mul-left, mul-le-mul-right}
 use native.Mathlib.Omega.{arith}
-use lib.Dec.{T, T-not, eqb, eqb-refl, leb, le→leb, nleb→lt, ltb, lt→ltb, nltb→le}
-use lib.ListN.{length, length-map}
+use lib.Dec.{T, T-not, not-T, eqb, eqb→eq, eqb-refl, leb, le→leb, nleb→lt, ltb, lt→ltb, nltb→le}
+use lib.ListN.{length, set, replicate, length-set, length-map}
 use Rattle.clocks.specs.Clocks.{savedOk, readingsFail, watched}
-use Rattle.state.specs.Layout.{clocksMost}
-use Rattle.state.proofs.StateLaws.{state-out}
+use Rattle.state.specs.Layout.{datumTerms, clocksMost}
 use Rattle.predicates.specs.Lists.{any, all, In}
-use Rattle.predicates.specs.Predicates.{implies, isTrue}
+use Rattle.predicates.specs.Predicates.{implies, isTrue, isNormal, formed}
 use Rattle.predicates.proofs.ListLaws.{both, both-l, both-r, neither}
-use Rattle.state.specs.Model.{Datum, Head, Store, State, endLimit, readingLimit, nameMost}
+use Rattle.epochs.specs.Epochs.{epochMost, epochsMost, withdraw}
+use Rattle.epochs.specs.code.Known.{Named}
+use Rattle.epochs.proofs.WithdrawLaws.{withdraw-normal, withdraw-some, withdraw-true, withdraw-implies}
+use Rattle.predicates.proofs.PredicateLaws.{formed-some}
+use Rattle.state.specs.Model.{Datum, Head, Store, State, withClocks, endLimit, readingLimit, nameMost}
 use Rattle.state.specs.Form.{headOk, datumOk, storeOk, countsOk, stateOk}
 use Rattle.engine.specs.Ageing.{leastAdvance, greatestAdvance, slow, fast, widened, aged}
 use Rattle.engine.specs.Receiving.{Delivery, grown}
+use Rattle.engine.specs.Hearing.{risen, late, hearing, heeded, arrived}
 use Rattle.engine.specs.Calls.{Setup, begun, setUp, age, receive, violated, moved, made, done}
 use Rattle.engine.specs.Refusals.{setUpRefusal, passesEnd, ageRefusal, receiptRefusal}
 use Rattle.steps.specs.Steps.{judged, tooMany}
+use Rattle.steps.specs.Withdrawn.{withdrawnDatum, withdrawn}
 use Rattle.state.proofs.OkLaws.{ok-datum-out, ok-datum-in}
 use Rattle.steps.proofs.ReceiveLaws.{formed-fit, received-ok}
+use Rattle.steps.proofs.WithdrawnLaws.{withdraw-fit, withdrawn-ok}
 use Rattle.steps.proofs.BlameLaws.{formed-single, judged-violated, swept-blamed-ok}
-use Rattle.engine.proofs.WatchLaws.{watched-ok, length-watched}
+use Rattle.engine.proofs.WatchLaws.{all-set, watched-ok, length-watched}
+use Rattle.engine.proofs.HearingLaws.{hearing-ok, heeded-fits}
 use Rattle.state.proofs.LentLaws.{refuse-none}
 use Rattle.names.specs.Sets.{noSet}
 
@@ -37,12 +44,17 @@ pub set-up-ok : (u : Setup) → setUpRefusal u ≡ 0 → T (stateOk (setUp u))
 unfolding setUpRefusal setUp begun stateOk headOk storeOk countsOk savedOk
 set-up-ok u e =
     let a = refuse-none (ltb 28 (u .own)) 1 _ (omega arith) e in
-    let b = refuse-none (ltb 1_000 (u .drift)) 2 _ (omega arith) (a .1) in
+    let d = refuse-none (ltb 15 (u .epoch)) 41 _ (omega arith) (a .1) in
+    let b = refuse-none (ltb 1_000 (u .drift)) 2 _ (omega arith) (d .1) in
     let c = refuse-none (leb readingLimit (u .reading)) 3 _ (omega arith) (b .1) in
+    let epoch = le→leb (u .epoch) 15 (nltb→le 15 (u .epoch) (d .0)) in
+    let epochs : T (all (λ e. leb e epochMost) (set (replicate epochsMost 0) (u .own) (u .epoch))) =
+    all-set (λ e. leb e epochMost) (replicate epochsMost 0) (u .own) (u .epoch) tt epoch in
+    let known : T (eqb (length (set (replicate epochsMost 0) (u .own) (u .epoch))) epochsMost) = rw length-set tt in
     let own = le→leb (u .own) 28 (nltb→le 28 (u .own) (a .0)) in
     let drift = le→leb (u .drift) 1_000 (nltb→le 1_000 (u .drift) (b .0)) in
     let reading = lt→ltb (u .reading) readingLimit (nleb→lt readingLimit (u .reading) (c .0)) in
-    search both depth 9
+    search both depth 12
 
 -- ---- ageing
 
@@ -102,13 +114,14 @@ pub record Heard (g : Delivery) : Type 0 where
   pub sender-le : g .sender ≤ nameMost
   pub ends : g .left ≤ g .right
   pub small : (t : ℕ) → In t (g .terms) → t < noSet
+  pub names : Named (g .names)
   pub readings : T (not (readingsFail (g .readings)))
 
 -- the new datum has passed 18, 30 and 31
 pub record Passed (h : Head) (g : Delivery) : Type 0 where
   pub other : g .sender ≡ h .own → ⊥
   pub below : grown h g .right < endLimit
-  pub few : length (grown h g .terms) ≤ 8
+  pub few : length (arrived h g .terms) ≤ 8
 
 pub receipt-passed : (st : State) (g : Delivery) → receiptRefusal st g ≡ 0
     → Passed (st .head) g × T (countsOk (made (st .head) (st .store) (receive g)))
@@ -116,16 +129,17 @@ unfolding receiptRefusal tooMany countsOk
 receipt-passed st g e =
     let own = st .head .own in
     let n = grown (st .head) g in
+    let p = arrived (st .head) g .terms in
     let k = made (st .head) (st .store) (receive g) in
     let a = refuse-none (eqb (g .sender) own) 18 _ (omega arith) e in
     let b = refuse-none (leb endLimit (n .right)) 30 _ (omega arith) (a .1) in
-    let c = refuse-none (ltb 8 (length (n .terms))) 31 _ (omega arith) (b .1) in
+    let c = refuse-none (ltb 8 (length p)) 31 _ (omega arith) (b .1) in
     let d = refuse-none (tooMany k) 32 _ (omega arith) (c .1) in
     let few = neither (ltb 16 (length (k .held))) (ltb 32 (length (k .entries))) (d .0) in (
       record {
         other = λ s. T-not (eqb (g .sender) own) (a .0) (rw s (eqb-refl own));
         below = nleb→lt endLimit (n .right) (b .0);
-        few = nltb→le 8 (length (n .terms)) (c .0);
+        few = nltb→le 8 (length p) (c .0);
       },
       both (leb (length (k .held)) 16) (leb (length (k .entries)) 32) (le→leb (length (k .held)) 16 (nltb→le 16 (length (k .held)) (few .0)))
           (le→leb (length (k .entries)) 32 (nltb→le 32 (length (k .entries)) (few .1))),
@@ -137,15 +151,33 @@ unfolding grown
 grown-ends h g e = omega (arith, least-greatest (h .drift) (g .least) (g .greatest) (e .delays), e .ends)
 
 -- a new datum that is not true is right
-pub grown-ok : (h : Head) (g : Delivery) → Heard g → Passed h g → T (not (isTrue (grown h g .terms))) → T (datumOk (h .own) (grown h g))
-unfolding grown
-grown-ok h g e p n =
-    ok-datum-in (h .own) (grown h g)
+pub arrived-ok : (h : Head) (g : Delivery) → Heard g → Passed h g → T (not (isTrue (arrived h g .terms))) → T (datumOk (h .own) (arrived h g))
+unfolding arrived grown
+arrived-ok h g e p n =
+    let terms = formed (h .own) (g .sender) (g .terms) in
+    let before : T (not (isTrue terms)) = not-T (isTrue terms) (λ t. T-not (isTrue (withdraw (late h g) terms)) n (withdraw-true (late h g) terms t)) in
+    ok-datum-in (h .own) (arrived h g)
     record {
       ends = grown-ends h g e;
       below = p .below;
-      fit = formed-fit (h .own) (g .sender) (g .terms) (e .sender-le) (p .other) (e .small) n (p .few);
+      fit = withdraw-fit (h .own) (length terms) datumTerms (late h g) terms
+          (formed-fit (h .own) (g .sender) (g .terms) (e .sender-le) (p .other) (e .small) before) n (p .few);
     }
+
+-- it has terms, in normal form
+pub arrived-some : (h : Head) (g : Delivery) → 0 < length (arrived h g .terms)
+unfolding arrived grown
+arrived-some h g = withdraw-some (late h g) (formed (h .own) (g .sender) (g .terms)) (formed-some (h .own) (g .sender) (g .terms))
+
+pub arrived-normal : (h : Head) (g : Delivery) → T (isNormal (arrived h g .terms))
+unfolding arrived
+arrived-normal h g = withdraw-normal (late h g) (grown h g .terms)
+
+-- the sender's name implies its predicate
+pub arrived-single : (h : Head) (g : Delivery) → T (implies (2 ^ g .sender ∷ []) (arrived h g .terms))
+unfolding arrived grown
+arrived-single h g =
+    withdraw-implies (late h g) (2 ^ g .sender ∷ []) (formed (h .own) (g .sender) (g .terms)) (formed-single (h .own) (g .sender) (g .terms))
 
 -- what a receipt leaves is right, violated or not
 judged-ok : (own : ℕ) (violation : Bool) (sender : ℕ) (n : Datum) (k : Store) → sender ≤ nameMost → (sender ≡ own → ⊥)
@@ -158,12 +190,12 @@ judged-ok own false sender n k s f i h d = received-ok own n k h d
 
 pub made-ok : (st : State) (g : Delivery) → T (stateOk st) → Heard g → Passed (st .head) g
     → T (storeOk (st .head .own) (made (st .head) (st .store) (receive g)))
-unfolding made stateOk grown
+unfolding made stateOk
 made-ok st g t h p =
     let own = st .head .own in
     let old : T (storeOk own (st .store)) = search (both-l, both-r) depth 9 in
-    judged-ok own (violated (st .head) g) (g .sender) (grown (st .head) g) (st .store) (h .sender-le) (p .other) (formed-single own (g .sender) (g .terms))
-    old (grown-ok (st .head) g h p)
+    judged-ok own (violated (st .head) g) (g .sender) (arrived (st .head) g) (withdrawn (risen (st .head) g) (st .store)) (h .sender-le) (p .other)
+    (arrived-single (st .head) g) (withdrawn-ok own (risen (st .head) g) (st .store) old) (arrived-ok (st .head) g h p)
 
 -- the same, before the readings are saved
 pub unsaved-ok : (st : State) (g : Delivery) → T (stateOk st) → Heard g → receiptRefusal st g ≡ 0
@@ -175,14 +207,24 @@ unsaved-ok st g t h e =
     let counts = p .1 in
     search (both, both-l) depth 9
 
+-- the head of a taken receipt
+moved-ok : (h : Head) (g : Delivery) → T (headOk h) → Heard g
+    → T (headOk (withClocks (hearing h g) (watched (heeded h g) (g .sender) (hearing h g .clocks))))
+unfolding headOk
+moved-ok h g t e =
+    let k = hearing-ok h g t (e .names) in
+    let cs = hearing h g .clocks in
+    let right : T (all savedOk cs) = search (both-l, both-r) depth 9 in
+    let there : length cs ≡ clocksMost = eqb→eq (length cs) clocksMost (search (both-l, both-r) depth 9) in
+    let clocks-there : T (eqb (length (watched (heeded h g) (g .sender) cs)) clocksMost) = rw (length-watched (heeded h g) (g .sender) cs, there) tt in
+    let clocks = watched-ok (heeded h g) (g .sender) cs (heeded-fits h g (e .readings)) (omega (arith, there, e .sender-le)) right in
+    search (both, both-l, both-r) depth 14
+
 pub receive-ok : (st : State) (g : Delivery) → T (stateOk st) → Heard g → receiptRefusal st g ≡ 0 → T (stateOk (done st (receive g)))
-unfolding done moved stateOk headOk
+unfolding done moved stateOk headOk hearing
 receive-ok st g t h e =
     let p = receipt-passed st g e in
     let new = made-ok st g t h (p .0) in
     let counts = p .1 in
-    let o = state-out st t in
-    let long = length-watched (g .readings) (g .sender) (st .head .clocks) in
-    let all-there : T (eqb (length (watched (g .readings) (g .sender) (st .head .clocks))) clocksMost) = rw (long, o .clocks-all) tt in
-    let clocks = watched-ok (g .readings) (g .sender) (st .head .clocks) (h .readings) (omega (arith, o .clocks-all, h .sender-le)) (o .clocks) in
+    let head = moved-ok (st .head) g (both-l (headOk (st .head)) _ t) h in
     search (both, both-l, both-r) depth 12

@@ -14,21 +14,26 @@ use lib.ListN.{length}
 use Rattle.names.specs.Sets.{subset}
 use Rattle.names.proofs.SetLaws.{empty-subset}
 use Rattle.predicates.specs.Lists.{any, all}
-use Rattle.predicates.specs.Predicates.{isTrue, isNormal, formed, precedes}
+use Rattle.predicates.specs.Predicates.{isTrue, isNormal, precedes}
 use Rattle.predicates.proofs.ListLaws.{both-l, both-r, or-cases, any-out, all-out, T-true, T-false}
-use Rattle.predicates.proofs.PredicateLaws.{formed-normal}
+use Rattle.epochs.specs.Epochs.{NotAbove, withdraw}
+use Rattle.epochs.proofs.WithdrawLaws.{withdraw-normal}
 use Rattle.state.specs.Model.{Datum, Head, Store, State, endLimit, readingLimit}
 use Rattle.state.specs.Layout.{datumTerms, dataMost, entriesMost}
-use Rattle.state.specs.Form.{datumOk, stateOk}
+use Rattle.state.specs.Form.{datumOk, storeOk, stateOk}
 use Rattle.state.proofs.OkLaws.{ok-datum-out}
 use Rattle.state.proofs.StateLaws.{state-out}
 use Rattle.clocks.specs.declared.Readings.the-variants.{Without}
 use Rattle.steps.specs.Steps.{judged, received, tooMany}
+use Rattle.steps.specs.Withdrawn.{withdrawnDatum, withdrawn}
+use Rattle.steps.proofs.WithdrawnLaws.{withdrawn-none}
 use Rattle.engine.specs.Ageing.{leastAdvance, greatestAdvance, slow, fast, widened, aged}
-use Rattle.engine.specs.Receiving.{Delivery, grown}
+use Rattle.engine.specs.Receiving.{Delivery}
+use Rattle.engine.specs.Hearing.{spokenBy, risen, late, hearing, heeded, arrived}
 use Rattle.engine.specs.Calls.{age, receive, clockOf, violated, moved, made, done}
 use Rattle.engine.specs.Refusals.{passesEnd, ageRefusal, fromSelf, growsPast, receiptRefusal}
 use Rattle.engine.proofs.WatchLaws.{watched-none, violated-none}
+use Rattle.engine.proofs.HearingLaws.{heeded-none, quiet-risen, quiet-hearing}
 
 -- ---- an ageing to the last reading: "An equal reading is fine and changes nothing."
 
@@ -72,7 +77,11 @@ module _ (st : State) (t : T (stateOk st)) where
         rw (slow-none (st .head), fast-none (st .head), aged-none (st .store)),
       )
 
--- ---- a receipt without readings whose predicate is true: "the receipt is taken and changes nothing"
+-- ---- a receipt without readings and without a rise, whose predicate is true: "the receipt is taken and changes nothing"
+
+store-ok : (st : State) → T (stateOk st) → T (storeOk (st .head .own) (st .store))
+unfolding stateOk
+store-ok st t = search (both-l, both-r) depth 9
 
 -- in normal form the empty term stands alone
 empty-alone : (p : List ℕ) → T (all (λ u. precedes 0 u) p) → length p ≤ 0
@@ -90,27 +99,36 @@ true-alone (t ∷ p) n h =
     let less = ltb→lt t (k .0) (both-l (ltb t (k .0)) _ (all-out (λ u. precedes t u) p first (k .0) (k .1))) in
     absurd (omega (arith, eqb→eq (k .0) 0 (k .2)))) (or-cases (eqb t 0) (any (λ u. eqb u 0) p) h)
 
-module _ (st : State) (t : T (stateOk st)) (g : Delivery) (w : g .readings ≡ Without) (h : T (isTrue (grown (st .head) g .terms))) where
-  pub receive-same : done st (receive g) ≡ st
-  unfolding done moved made violated judged received
-  receive-same =
-      rw (watched-none (g .readings) (g .sender) (st .head .clocks) w, violated-none (st .head .drift) (clockOf (st .head) (g .sender)) (g .readings) w, T-true (isTrue (grown (st .head) g .terms)) h)
+module _ (st : State) (t : T (stateOk st)) (g : Delivery) (w : g .readings ≡ Without) (q : NotAbove (spokenBy (st .head) g) (st .head .epochs))
+    (h : T (isTrue (arrived (st .head) g .terms))) where
+  quiet : violated (st .head) g ≡ false
+  unfolding violated
+  quiet = violated-none (st .head .drift) (clockOf (hearing (st .head) g) (g .sender)) (heeded (st .head) g) (heeded-none (st .head) g w)
 
-  few-terms : length (grown (st .head) g .terms) ≤ 1
-  unfolding grown
-  few-terms = true-alone (formed (st .head .own) (g .sender) (g .terms)) (formed-normal (st .head .own) (g .sender) (g .terms)) h
+  stays : withdrawn (risen (st .head) g) (st .store) ≡ st .store
+  stays = rw (quiet-risen (st .head) g q) (withdrawn-none (st .head .own) (st .store) (store-ok st t))
+
+  pub receive-same : done st (receive g) ≡ st
+  unfolding done moved made judged received
+  receive-same =
+      rw (quiet, stays, quiet-hearing (st .head) g q, watched-none (heeded (st .head) g) (g .sender) (st .head .clocks) (heeded-none (st .head) g w), T-true (isTrue (arrived (st .head) g .terms)) h)
+
+  few-terms : length (arrived (st .head) g .terms) ≤ 1
+  unfolding arrived
+  few-terms = true-alone (withdraw (late (st .head) g) _) (withdraw-normal (late (st .head) g) _) h
 
   -- 18 and 30 may come; nothing else does
   pub receive-true : T (not (fromSelf st g)) → T (not (growsPast st g)) → receiptRefusal st g ≡ 0
-  unfolding receiptRefusal made violated judged received tooMany
+  unfolding receiptRefusal made judged received tooMany
   receive-true other below =
       let o = state-out st t in
       rw (
-        violated-none (st .head .drift) (clockOf (st .head) (g .sender)) (g .readings) w,
+        quiet,
+        stays,
         T-false (fromSelf st g) other,
         T-false (growsPast st g) below,
-        le-ltb datumTerms (length (grown (st .head) g .terms)) (omega (arith, few-terms)),
-        T-true (isTrue (grown (st .head) g .terms)) h,
+        le-ltb datumTerms (length (arrived (st .head) g .terms)) (omega (arith, few-terms)),
+        T-true (isTrue (arrived (st .head) g .terms)) h,
         le-ltb dataMost (length (st .store .held)) (o .held-le),
         le-ltb entriesMost (length (st .store .entries)) (o .entries-le),
       )

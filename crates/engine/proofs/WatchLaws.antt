@@ -22,7 +22,7 @@ use Rattle.state.specs.Form.{inForm}
 use Rattle.state.proofs.StateLaws.{form-ok, put-state-same, place-put, clock-read}
 use Rattle.engine.specs.Calls.{clockOf}
 
-all-set : {A : Type 0} (f : A → Bool) (l : List A) (i : ℕ) (v : A) → T (all f l) → T (f v) → T (all f (set l i v))
+pub all-set : {A : Type 0} (f : A → Bool) (l : List A) (i : ℕ) (v : A) → T (all f l) → T (f v) → T (all f (set l i v))
 all-set f [] i v t h = tt
 all-set f (x ∷ l) zero v t h = both (f v) (all f l) h (both-r (f x) (all f l) t)
 all-set f (x ∷ l) (suc i) v t h = both (f x) (all f (set l i v)) (both-l (f x) (all f l) t) (all-set f l i v (both-r (f x) (all f l) t) h)
@@ -47,6 +47,12 @@ watched-none r sender cs e = subst (λ (x : Readings). watched x sender cs ≡ c
 pub violated-none : (own : ℕ) (v : Saved) (r : Readings) → r ≡ Without → violatedBy own v r ≡ false
 unfolding violatedBy
 violated-none own v r e = subst (λ (x : Readings). violatedBy own v x ≡ false) (sym e) refl
+
+-- of a clock of which nothing is saved
+pub none-saved : (own : ℕ) (r : Readings) → violatedBy own nothing r ≡ false
+unfolding violatedBy violates
+none-saved own Without = refl
+none-saved own (With t drift) = refl
 
 -- one place, stored in a state in form
 pub place-saved : (s : List ℕ) → T (inForm s) → Bytes s → stateSize ≤ length s → (i : ℕ) (v : Saved) → i < clocksMost

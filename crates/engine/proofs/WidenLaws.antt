@@ -2,16 +2,16 @@
 -- The idea: the loop stores datum after datum. Of a datum only the ends are stored, but its row stands behind them already, so the whole datum
 -- might have been; and the same with the zeros behind the data. So the data and the reading are parts that are stored, and exchanged (`part-stored`).
 -- No contract cites this file. Assumes nothing.
-use Prim.Native.Nat.{ℕ, zero, suc, _+_, _*_, _-_, _≤_, _<_}
-use mathlib.Core.Path.{_≡_, refl, sym, _∙_}
-use mathlib.Core.List.{List, [], _∷_, _++_, map}
+use Prim.Native.Nat.{ℕ, _+_, _*_, _-_, _≤_, _<_}
+use mathlib.Core.Path.{_≡_, sym, _∙_}
+use mathlib.Core.List.{List}
 use mathlib.Core.Logic.{inr}
 use native.Mathlib.Omega.{arith}
 use lib.Dec.{T, leb→le, ltb→lt}
 use lib.ListN.{length, drop, length-append, length-replicate}
 use Rattle.predicates.proofs.ListLaws.{both-l, both-r}
 use Rattle.numbers.specs.Numbers.{num, bytes, put, tab, Bytes}
-use Rattle.numbers.proofs.NumberLaws.{length-bytes, num-put-apart, put-append, put-num-same, length-tab}
+use Rattle.numbers.proofs.NumberLaws.{length-bytes, num-put-apart, put-append, put-num-same, length-tab, map-tab}
 use Rattle.state.specs.Model.{Datum, endLimit}
 use Rattle.state.specs.Layout.{stateSize, readingAt, heldAt, dataAt, dataMost, datumSize, zeros, joined, rowBytes, datumBytes, dataBytes, parts, stateBytes, rightIn, rowIn, datumTerms, ownAt}
 use Rattle.state.specs.Layout.{datumPlace, datumAt, heldCount, headOf, storeOf, stateOf}
@@ -112,15 +112,6 @@ module _ (s : List ℕ) (t : T (inForm s)) (lo hi : ℕ) where
         (datum-put at (d .left + lo) (d .right + hi) (d .terms) u v w w a c stored)
 
 -- all data, as the definition has them
-map-last : {A B : Type 0} (f : A → B) (l : List A) (x : A) → map f (l ++ (x ∷ [])) ≡ map f l ++ (f x ∷ [])
-map-last f [] x = refl
-map-last f (y ∷ l) x = rw (map-last f l x)
-
-map-tab : {A B : Type 0} (f : A → B) (n : ℕ) (g : ℕ → A) → map f (tab n g) ≡ tab n (λ i. f (g i))
-unfolding tab
-map-tab f zero g = refl
-map-tab f (suc n) g = map-last f (tab n g) (g n) ∙ rw (map-tab f n g)
-
 pub held-tab : (lo hi : ℕ) (s : List ℕ) → aged lo hi (storeOf s) .held ≡ tab (heldCount s) (wide s lo hi)
 unfolding aged storeOf
 held-tab lo hi s = map-tab (widened lo hi) (heldCount s) (datumAt s)

@@ -13,13 +13,15 @@ pub record Delivery : Type 0 where
   pub greatest : ℕ
   pub readings : Readings
   pub sender : ℕ
+  -- the names that the message gives: the sender's and that of each identifier in its terms (document 02, W-204)
+  pub names : List ℕ
   pub left : ℕ
   pub right : ℕ
   pub terms : List ℕ
 
-abbrev pub delivery : ℕ → ℕ → Readings → ℕ → ℕ → ℕ → List ℕ → Delivery
-delivery least greatest readings sender left right terms =
-    record { least = least; greatest = greatest; readings = readings; sender = sender; left = left; right = right; terms = terms }
+abbrev pub delivery : ℕ → ℕ → Readings → ℕ → List ℕ → ℕ → ℕ → List ℕ → Delivery
+delivery least greatest readings sender names left right terms =
+    record { least = least; greatest = greatest; readings = readings; sender = sender; names = names; left = left; right = right; terms = terms }
 
 -- The grown interval: it "grows by the channel's least and greatest delay", and by document 02 "delays are counted on the receiver's clock": "a delay
 -- now counts by the ageing rule, the least as a left end's advance, the greatest as a right end's", with the own drift.

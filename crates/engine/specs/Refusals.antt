@@ -6,11 +6,13 @@ use mathlib.Core.Bool.{Bool, _||_}
 use lib.Dec.{eqb, leb, ltb}
 use lib.ListN.{length}
 use Rattle.predicates.specs.Lists.{any}
+use Rattle.epochs.specs.Epochs.{epochMost}
 use Rattle.state.specs.Model.{Datum, Head, Store, State, nameMost, driftMost, endLimit, readingLimit}
 use Rattle.state.specs.Layout.{datumTerms}
 use Rattle.state.specs.Refusal.{refuse}
 use Rattle.engine.specs.Ageing.{slow, fast, aged}
 use Rattle.engine.specs.Receiving.{Delivery, grown}
+use Rattle.engine.specs.Hearing.{arrived}
 use Rattle.steps.specs.Steps.{tooMany}
 use Rattle.engine.specs.Calls.{Setup, receive, made}
 
@@ -26,12 +28,17 @@ driftFails drift = ltb driftMost drift
 abbrev pub readingFails : ℕ → Bool
 readingFails reading = leb readingLimit reading
 
--- "setting up 24, 1, 2, 3"
+-- "41 own epoch above 15, after 1" (document 02, W-204)
+abbrev pub epochFails : ℕ → Bool
+epochFails epoch = ltb epochMost epoch
+
+-- "setting up 24, 1, 2, 3", with 41 after 1
 unfoldable pub setUpRefusal : Setup → ℕ
 setUpRefusal u =
     refuse (ownFails (u .own)) 1
+    (refuse (epochFails (u .epoch)) 41
     (refuse (driftFails (u .drift)) 2
-    (refuse (readingFails (u .reading)) 3 0))
+    (refuse (readingFails (u .reading)) 3 0)))
 
 -- ---- ageing
 
@@ -76,9 +83,9 @@ fromSelf st g = eqb (g .sender) (st .head .own)
 abbrev pub growsPast : State → Delivery → Bool
 growsPast st g = leb endLimit (grown (st .head) g .right)
 
--- "31 more than 8 terms in the new predicate's normal form, stored or not"
+-- "31 more than 8 terms in the new predicate's normal form, stored or not", once old names count as failed
 abbrev pub termsFail : State → Delivery → Bool
-termsFail st g = ltb datumTerms (length (grown (st .head) g .terms))
+termsFail st g = ltb datumTerms (length (arrived (st .head) g .terms))
 
 -- "32 too many data or entries"
 abbrev pub overfills : State → Delivery → Bool

@@ -14,7 +14,7 @@ ghost use Rattle.engine.specs.Calls.{age as Calls·age, done};
 ghost use Rattle.engine.specs.code.Ageing.{driftOver, staysBelow};
 
 // What the drift adds to d microseconds, rounded up. Split at the million, since d * r can pass 64 bits.
-pub(crate) fn drift_over(d: u64, r: u64) -> u64
+pub fn drift_over(d: u64, r: u64) -> u64
     requires { ⌜ (d < readingLimit) × (r ≤ driftMost) ⌝ }
     ensures { λ n. ⌜ (n ≡ driftOver r d) × (n ≤ d) ⌝ }
 {

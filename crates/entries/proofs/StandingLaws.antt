@@ -18,7 +18,7 @@ use Rattle.predicates.specs.code.Marks.{singles, markOf}
 use Rattle.predicates.proofs.ListLaws.{both-l, both-r, all-out}
 use Rattle.predicates.proofs.MarkLaws.{singles-zeros, mark-singles}
 use Rattle.state.specs.Layout.{ownAt, entryPlace, entryCount, masksAt, rowAt, entryAt}
-use Rattle.state.specs.Form.{termFits, rowFits, inForm}
+use Rattle.state.specs.Form.{termFits, rowFits, inForm, entryFits}
 use Rattle.state.specs.code.Tables.{table, TableFits, rowOf, hasTerms, entryMasks, tableFrom}
 use Rattle.state.proofs.LayoutLaws.{all-tab, At, at-joined, at-part}
 use Rattle.state.proofs.RowLaws.{table-room, row-length, row-full}
@@ -105,7 +105,7 @@ module _ (i : ℕ) (counts masks row : List ℕ) (t : TableFits 16 (i + 1) (tabl
 module _ (s : List ℕ) (t : T (inForm s)) (i : ℕ) (h : i < entryCount s) where
   -- no term in use is empty, and those behind them count for nothing: the whole row gives the mark
   pub mark-read : (row : List ℕ) → length row ≡ 16 → singles (tab 16 (λ k. num (entryPlace i + 4 + k * 4) 4 s) ++ drop 16 row) ≡ markOf (entryAt s i)
-  unfolding rowFits termFits entryAt rowAt masksAt
+  unfolding entryFits rowFits termFits entryAt rowAt masksAt
   mark-read row e =
       let own = num ownAt 4 s in
       let masks = masksAt 16 (entryPlace i) s in

@@ -9,14 +9,14 @@ use native.Mathlib.Omega.{arith}
 use native.Mathlib.Decide.{ℕ-discrete}
 use lib.Dec.{T, T-not, eqb, eqb-refl, ltb, ltb→lt, nltb→le, eqb→eq}
 use lib.ListN.{length, getD, set, take, drop, length-set, length-append, take-append-drop, List·getD-eq-default}
-use lib.Seq.{sets, take-take, set-getD, sets-eq, getD-set-same, getD-set-other, take-suc, length-slice, length-take-le, take-at, drop-at, getD-drop, getD-take}
+use lib.Seq.{slice, sets, length-sets, take-take, set-getD, sets-eq, getD-set-same, getD-set-other, take-suc, length-slice, length-take-le, take-at, drop-at, getD-drop, getD-take}
 use Rattle.numbers.specs.Numbers.{put}
-use Rattle.numbers.proofs.NumberLaws.{put-set}
+use Rattle.numbers.proofs.NumberLaws.{put-set, length-tab, getD-tab, tab-ext}
 use Rattle.names.specs.Sets.{union, digit}
 use Rattle.names.proofs.SetLaws.{digit-zero, digit-suc, digit-empty, digit-union, digits-ext, digit-single-same, digit-single-other, union-none}
 use Rattle.predicates.proofs.ListLaws.{split, cond-ind}
-use Rattle.epochs.specs.Epochs.{epochsMost, identifierOf, epochOf, digitOf, older, raised, NotAbove, told, spoken}
-use Rattle.epochs.specs.code.Known.{knownAt, bitWhere, Named}
+use Rattle.epochs.specs.Epochs.{epochsMost, epochsIn, identifierOf, epochOf, digitOf, older, raised, NotAbove, told, spoken}
+use Rattle.epochs.specs.code.Known.{bitWhere, Named}
 
 -- a test and its digit
 pub below : (a b : ℕ) → ((a < b) × (digitOf (ltb a b) ≡ 1)) ⊎ ((b ≤ a) × (digitOf (ltb a b) ≡ 0))
@@ -307,58 +307,70 @@ module _ (own : ℕ) (ws ks : List ℕ) (named : Named ws) (long : length ks ≡
 
 -- ---- in bytes
 
-pub length-known : (at : ℕ) (s : List ℕ) → at + epochsMost ≤ length s → length (knownAt at s) ≡ epochsMost
-length-known at s h = omega (arith, length-slice at (at + epochsMost) s h)
+pub length-known : (at : ℕ) (s : List ℕ) → length (epochsIn at s) ≡ epochsMost
+unfolding epochsIn
+length-known at s = length-tab epochsMost (λ n. getD s (at + n) 0)
 
-pub getD-known : (at n : ℕ) (s : List ℕ) → n < epochsMost → getD s (at + n) 0 ≡ getD (knownAt at s) n 0
-getD-known at n s h = sym (getD-drop at (take (at + epochsMost) s) n 0 ∙ getD-take (at + epochsMost) s (at + n) 0 (omega (arith, h)))
+pub getD-known : (at n : ℕ) (s : List ℕ) → n < epochsMost → getD s (at + n) 0 ≡ getD (epochsIn at s) n 0
+unfolding epochsIn
+getD-known at n s h = sym (getD-tab epochsMost n (λ n. getD s (at + n) 0) 0 h)
+
+-- they are the bytes that stand there
+pub known-slice : (at : ℕ) (s : List ℕ) → at + epochsMost ≤ length s → epochsIn at s ≡ slice at (at + epochsMost) s
+unfolding epochsIn
+known-slice at s h =
+    tab-ext 0 epochsMost (λ n. getD s (at + n) 0) (slice at (at + epochsMost) s) (omega (arith, length-slice at (at + epochsMost) s h))
+    (λ n k. sym (getD-drop at (take (at + epochsMost) s) n 0 ∙ getD-take (at + epochsMost) s (at + n) 0 (omega (arith, k))))
 
 -- the epochs as they are stored are those read
-pub known-put : (at : ℕ) (vs s : List ℕ) → length vs ≡ epochsMost → at + epochsMost ≤ length s → knownAt at (put at vs s) ≡ vs
+pub known-put : (at : ℕ) (vs s : List ℕ) → length vs ≡ epochsMost → at + epochsMost ≤ length s → epochsIn at (put at vs s) ≡ vs
 unfolding put
 known-put at vs s v h =
     let front = length-take-le at s (omega (arith, h)) in
     let both : length (take at s ++ vs) ≡ at + epochsMost = length-append (take at s) vs ∙ omega (arith, front, v) in
-    ap (λ (l : List ℕ). knownAt at l) (sets-eq vs s at (omega (arith, h, v)))
+    known-slice at (sets s at vs) (omega (arith, h, length-sets s at vs))
+    ∙ ap (λ (l : List ℕ). slice at (at + epochsMost) l) (sets-eq vs s at (omega (arith, h, v)))
     ∙ ap (λ (l : List ℕ). drop at l) (take-at (take at s ++ vs) (drop (at + length vs) s) (at + epochsMost) both)
     ∙ drop-at (take at s) vs at front
 
-pub put-known : (at : ℕ) (s : List ℕ) → at + epochsMost ≤ length s → s ≡ put at (raised (knownAt at s) (knownAt at s)) s
+pub put-known : (at : ℕ) (s : List ℕ) → at + epochsMost ≤ length s → s ≡ put at (raised (epochsIn at s) (epochsIn at s)) s
 unfolding put
 put-known at s h =
-    let end : at + length (knownAt at s) ≡ at + epochsMost = omega (arith, length-known at s h) in
+    let part = known-slice at s h in
+    let end : at + length (epochsIn at s) ≡ at + epochsMost = omega (arith, length-known at s) in
     let front : take at s ≡ take at (take (at + epochsMost) s) = sym (take-take at (at + epochsMost) s (omega arith)) in
     sym (
-    ap (λ (l : List ℕ). sets s at l) (raised-none (knownAt at s))
-    ∙ sets-eq (knownAt at s) s at (omega (arith, end, h))
-    ∙ ap₂ (λ (l : List ℕ) (k : ℕ). (l ++ knownAt at s) ++ drop k s) front end
+    ap (λ (l : List ℕ). sets s at l) (raised-none (epochsIn at s))
+    ∙ sets-eq (epochsIn at s) s at (omega (arith, end, h))
+    ∙ ap₂ (λ (l : List ℕ) (k : ℕ). (l ++ epochsIn at s) ++ drop k s) front end
+    ∙ ap (λ (l : List ℕ). (take at (take (at + epochsMost) s) ++ l) ++ drop (at + epochsMost) s) part
     ∙ ap (λ (l : List ℕ). l ++ drop (at + epochsMost) s) (take-append-drop at (take (at + epochsMost) s))
     ∙ take-append-drop (at + epochsMost) s
     )
 
 -- one name more, in bytes: the epoch that is read is the one known before, and the one that passes it is stored
 module _ (own p : ℕ) (ws s₀ s : List ℕ) (named : Named ws) (fits : p + epochsMost ≤ length s₀) (i : ℕ) (more : i < length ws)
-    (stored : s ≡ put p (raised (knownAt p s₀) (spoken own (take i ws) (knownAt p s₀))) s₀) where
+    (stored : s ≡ put p (raised (epochsIn p s₀) (spoken own (take i ws) (epochsIn p s₀))) s₀) where
   abbrev w : ℕ
   w = getD ws i 0
 
   abbrev ks : List ℕ
-  ks = knownAt p s₀
+  ks = epochsIn p s₀
 
   long : length ks ≡ epochsMost
-  long = length-known p s₀ fits
+  long = length-known p s₀
 
   heard-long : length (raised ks (spoken own (take i ws) ks)) ≡ epochsMost
   heard-long = length-raised ks (spoken own (take i ws) ks) ∙ long
 
-  pub raise-read : getD (knownAt p s) (identifierOf w) 0 ≡ getD ks (identifierOf w) 0
+  pub raise-read : getD (epochsIn p s) (identifierOf w) 0 ≡ getD ks (identifierOf w) 0
   raise-read =
-      ap (λ (l : List ℕ). getD (knownAt p l) (identifierOf w) 0) stored
+      ap (λ (l : List ℕ). getD (epochsIn p l) (identifierOf w) 0) stored
       ∙ ap (λ (l : List ℕ). getD l (identifierOf w) 0) (known-put p (raised ks (spoken own (take i ws) ks)) s₀ heard-long fits)
       ∙ getD-raised ks (spoken own (take i ws) ks) (identifierOf w) (omega (arith, length-spoken own (take i ws) ks))
       ∙ omega (arith, spoken-ahead own ws ks named i i (omega arith) more)
 
-  pub raise-write : (t : List ℕ) (b : Bool) → b ≡ not (eqb (identifierOf w) own) && ltb (getD (knownAt p s) (identifierOf w) 0) (epochOf w)
+  pub raise-write : (t : List ℕ) (b : Bool) → b ≡ not (eqb (identifierOf w) own) && ltb (getD (epochsIn p s) (identifierOf w) 0) (epochOf w)
       → t ≡ cond b (set s (p + identifierOf w) (epochOf w)) s → t ≡ put p (raised ks (spoken own (take (i + 1) ws) ks)) s₀
   raise-write t b q e =
       e
@@ -373,3 +385,35 @@ module _ (own p : ℕ) (ws s₀ s : List ℕ) (named : Named ws) (fits : p + epo
           ap (λ (l : List ℕ). set l (p + identifierOf w) (epochOf w)) stored
           ∙ put-set p (identifierOf w) (epochOf w) (raised ks (spoken own (take i ws) ks)) s₀ (omega (arith, heard-long, named .few i more))
       go false = stored
+
+-- ---- epochs stay epochs
+
+told-le : (own m : ℕ) (es : List ℕ) (w : ℕ) → ((n : ℕ) → getD es n 0 ≤ m) → epochOf w ≤ m → (n : ℕ) → getD (told own es w) n 0 ≤ m
+unfolding told
+told-le own m es w h k n =
+    cond-ind (λ (l : List ℕ). getD l n 0 ≤ m) (eqb (identifierOf w) own) es (set es (identifierOf w) (epochOf w)) (λ t. h n) (λ t. at-set es (identifierOf w) n h)
+  where
+    at-set : (es : List ℕ) (i n : ℕ) → ((n : ℕ) → getD es n 0 ≤ m) → getD (set es i (epochOf w)) n 0 ≤ m
+    at-set [] i n g = g n
+    at-set (e ∷ es) zero zero g = k
+    at-set (e ∷ es) zero (suc n) g = g (suc n)
+    at-set (e ∷ es) (suc i) zero g = g 0
+    at-set (e ∷ es) (suc i) (suc n) g = at-set es i n (λ j. g (suc j))
+
+pub spoken-le : (own m : ℕ) (ws ks : List ℕ) → ((n : ℕ) → getD ks n 0 ≤ m) → ((i : ℕ) → i < length ws → epochOf (getD ws i 0) ≤ m)
+    → (n : ℕ) → getD (spoken own ws ks) n 0 ≤ m
+unfolding spoken
+spoken-le own m [] ks h k n = h n
+spoken-le own m (w ∷ ws) ks h k n = spoken-le own m ws (told own ks w) (told-le own m ks w h (k 0 (omega arith))) (λ i l. k (suc i) (omega (arith, l))) n
+
+-- of epochs that the known ones are not below
+pub raised-same : (ks es : List ℕ) → NotAbove es ks → raised ks es ≡ ks
+unfolding raised
+raised-same [] es h = refl
+raised-same (k ∷ ks) [] h = refl
+raised-same (k ∷ ks) (e ∷ es) h = ap₂ {A = ℕ} {B = List ℕ} {C = List ℕ} (λ x l. x ∷ l) (omega (arith, h 0)) (raised-same ks es (λ n. h (suc n)))
+
+pub risen-none : (ks es : List ℕ) → NotAbove es ks → older ks es ≡ 0
+risen-none ks es h =
+    digits-ext (older ks es) 0 (λ n.
+    digit-older ks es n ∙ ⊎-elim (λ b. absurd (omega (arith, b .0, h n))) (λ b. b .1) (below (getD ks n 0) (getD es n 0)) ∙ sym (digit-empty n))

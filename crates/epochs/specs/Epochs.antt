@@ -5,6 +5,7 @@ use mathlib.Core.Bool.{Bool, true, false, cond}
 use mathlib.Core.List.{List, [], _∷_, map}
 use lib.Dec.{eqb, ltb}
 use lib.ListN.{getD, set}
+use Rattle.numbers.specs.Numbers.{tab}
 use Rattle.names.specs.Sets.{minus}
 use Rattle.predicates.specs.Predicates.{normal}
 
@@ -37,6 +38,10 @@ unfoldable pub withdraw : ℕ → List ℕ → List ℕ
 withdraw r p = normal (map (λ t. minus t r) p)
 
 -- ---- epochs by identifier
+
+-- the epochs in the bytes s, one for each identifier from index at on
+unfoldable pub epochsIn : ℕ → List ℕ → List ℕ
+epochsIn at s = tab epochsMost (λ n. getD s (at + n) 0)
 
 abbrev pub digitOf : Bool → ℕ
 digitOf true = 1

@@ -6,8 +6,8 @@ ghost use lib.Dec.{leb};
 ghost use lib.ListN.{length, getD};
 ghost use Rattle.numbers.specs.Numbers.{put};
 ghost use Rattle.predicates.specs.Lists.{all};
-ghost use Rattle.epochs.specs.Epochs.{epochMost, epochsMost, older, raised, spoken};
-ghost use Rattle.epochs.specs.code.Known.{knownAt, bitWhere, Named};
+ghost use Rattle.epochs.specs.Epochs.{epochMost, epochsMost, epochsIn, older, raised, spoken};
+ghost use Rattle.epochs.specs.code.Known.{bitWhere, Named};
 
 // The identifiers whose old names a message withdraws, and those that it names under an older epoch, as masks.
 pub struct Heard {
@@ -18,7 +18,7 @@ pub struct Heard {
 // Whether each epoch is one.
 pub fn fits(s: &[u8], at: usize) -> bool
     requires { ⌜ at + epochsMost ≤ length (now s) ⌝ }
-    ensures { λ r. ⌜ r ≡ all (λ e. leb e epochMost) (knownAt at (now (s .entry))) ⌝ }
+    ensures { λ r. ⌜ r ≡ all (λ e. leb e epochMost) (epochsIn at (now (s .entry))) ⌝ }
 {
     let mut ok = true;
     let mut i: usize = 0;
@@ -43,7 +43,7 @@ fn bit_where(test: bool, n: u32) -> u32
 // The epoch of identifier n.
 pub fn epoch_of(s: &[u8], at: usize, n: u32) -> u32
     requires { ⌜ (at + epochsMost ≤ length (now s)) × (n < epochsMost) ⌝ }
-    ensures { λ r. ⌜ (r ≡ getD (knownAt at (now (s .entry))) n 0) × (r < 256) ⌝ }
+    ensures { λ r. ⌜ (r ≡ getD (epochsIn at (now (s .entry))) n 0) × (r < 256) ⌝ }
 {
     numbers::byte(s[at + n as usize])
 }
@@ -51,8 +51,8 @@ pub fn epoch_of(s: &[u8], at: usize, n: u32) -> u32
 // What a message's names withdraw, and which of them are old. The own identifier's is passed over.
 pub fn hear(s: &[u8], at: usize, own: u32, words: &[u32]) -> Heard
     requires { ⌜ (at + epochsMost ≤ length (now s)) × Named (now words) ⌝ }
-    ensures { λ r. ⌜ r .risen ≡ older (knownAt at (now (s .entry))) (spoken own (now (words .entry)) (knownAt at (now (s .entry)))) ⌝ }
-    ensures { λ r. ⌜ r .late ≡ older (spoken own (now (words .entry)) (knownAt at (now (s .entry)))) (knownAt at (now (s .entry))) ⌝ }
+    ensures { λ r. ⌜ r .risen ≡ older (epochsIn at (now (s .entry))) (spoken own (now (words .entry)) (epochsIn at (now (s .entry)))) ⌝ }
+    ensures { λ r. ⌜ r .late ≡ older (spoken own (now (words .entry)) (epochsIn at (now (s .entry)))) (epochsIn at (now (s .entry))) ⌝ }
 {
     let mut risen: u32 = 0;
     let mut late: u32 = 0;
@@ -71,7 +71,7 @@ pub fn hear(s: &[u8], at: usize, own: u32, words: &[u32]) -> Heard
 // Puts the epochs that pass the known ones in their places.
 pub fn raise(s: &mut [u8], at: usize, own: u32, words: &[u32])
     requires { ⌜ (at + epochsMost ≤ length (now s)) × Named (now words) ⌝ }
-    ensures { λ _. ⌜ (let ks : List ℕ = knownAt at (now (s .entry)) in
+    ensures { λ _. ⌜ (let ks : List ℕ = epochsIn at (now (s .entry)) in
         now (s .exit) ≡ put at (raised ks (spoken own (now (words .entry)) ks)) (now (s .entry))) ⌝ }
 {
     let mut i: usize = 0;

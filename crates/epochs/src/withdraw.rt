@@ -3,7 +3,8 @@ ghost use mathlib.Core.Path.{_≡_};
 ghost use mathlib.Core.List.{_++_, map};
 ghost use Prim.Native.Nat.{_≤_};
 ghost use lib.Dec.{T, eqb};
-ghost use lib.ListN.{length, take, drop};
+ghost use lib.ListN.{length, take, drop, replicate};
+ghost use lib.Seq.{sets};
 ghost use Rattle.names.specs.Sets.{minus};
 ghost use Rattle.names.specs.code.Parts.{shared};
 ghost use Rattle.predicates.specs.Lists.{all, padded};
@@ -36,8 +37,21 @@ fn take_out(terms: &mut [u32], n: usize, r: u32)
     }
 }
 
+// Puts zeros in the first n places.
+fn clear(terms: &mut [u32], n: usize)
+    requires { ⌜ n ≤ length (now terms) ⌝ }
+    ensures { λ _. ⌜ now (terms .exit) ≡ sets (now (terms .entry)) 0 (replicate n 0) ⌝ }
+{
+    let mut i: usize = 0;
+    while i < n {
+        terms[i] = 0;
+        i += 1;
+    }
+}
+
 // Counts the names of r as failed in the first n terms, which are in normal form, and makes what is left their normal form, with zeros in the
-// places given up. Answers how many terms there are. A predicate that names none of them stays as it is.
+// places given up. Answers how many terms there are. A predicate that names none of them stays as it is; one of which a term is left empty is true, and that
+// term alone is its normal form.
 pub fn withdraw(terms: &mut [u32], n: usize, r: u32) -> usize
     requires { ⌜ (n ≤ length (now terms)) × T (isNormal (take n (now terms))) ⌝ }
     ensures { λ k. ⌜ (k ≡ length (Epochs·withdraw r (take n (now (terms .entry))))) × (k ≤ n) ⌝ }
@@ -47,5 +61,9 @@ pub fn withdraw(terms: &mut [u32], n: usize, r: u32) -> usize
         return n;
     }
     take_out(terms, n, r);
+    if predicates::holds(&terms[..n], 0) {
+        clear(terms, n);
+        return 1;
+    }
     predicates::normal::normal_form(terms, n)
 }

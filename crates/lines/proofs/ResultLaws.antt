@@ -29,7 +29,7 @@ answered-short number text h = cond-ind (λ (l : List ℕ). length l ≤ answerM
 
 set-short : (ns : List ℕ) (begun : Bool) (s : List ℕ) → Short (setLine ns begun s)
 unfolding setLine
-set-short ns begun s = cond-ind Short (eqb (length ns) 3 && (isWord (getD ns 0 0) && isWord (getD ns 1 0))) _ _ (λ _. number-length _) (λ _. bad-short begun s)
+set-short ns begun s = cond-ind Short (eqb (length ns) 4 && (isWord (getD ns 0 0) && isWord (getD ns 1 0))) _ _ (λ _. number-length _) (λ _. bad-short begun s)
 
 later-short : (word ns s : List ℕ) → Short (laterLine word ns s)
 unfolding laterLine ageLine getLine askLine askText fewestLine fewestAnswer

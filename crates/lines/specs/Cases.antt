@@ -40,7 +40,7 @@ eachPrints (l ∷ ls) begun s = printsThen (eachPrints ls) l (lineResult (ascii 
 -- before a taken `set`; the buffer is too short, so a good `set` line is refused with 24
 unfoldable pub earlyLines : List LineCase
 earlyLines =
-    lineCase "set 5 100 0" "refused 24"
+    lineCase "set 5 100 0 0" "refused 24"
     ∷ lineCase "ask 0" "bad line"
     ∷ lineCase "fewest" "bad line"
     ∷ []
@@ -48,13 +48,14 @@ earlyLines =
 -- after one: on a buffer that is too short every good line is refused with 24
 unfoldable pub laterLines : List LineCase
 laterLines =
-    lineCase "set 05 00000000000000000100 18446744073709551615" "refused 24"
-    ∷ lineCase "set 4294967295 4294967295 0" "refused 24"
-    ∷ lineCase "set 4294967296 0 0" "bad line"
-    ∷ lineCase "set 0 4294967296 0" "bad line"
-    ∷ lineCase "set 0 0 18446744073709551616" "bad line"
-    ∷ lineCase "set 5 100" "bad line"
-    ∷ lineCase "set 5 100 0 0" "bad line"
+    lineCase "set 05 00000000000000000100 18446744073709551615 18446744073709551615" "refused 24"
+    ∷ lineCase "set 4294967295 4294967295 0 0" "refused 24"
+    ∷ lineCase "set 4294967296 0 0 0" "bad line"
+    ∷ lineCase "set 0 4294967296 0 0" "bad line"
+    ∷ lineCase "set 0 0 18446744073709551616 0" "bad line"
+    ∷ lineCase "set 0 0 0 18446744073709551616" "bad line"
+    ∷ lineCase "set 5 100 0" "bad line"
+    ∷ lineCase "set 5 100 0 0 0" "bad line"
     ∷ lineCase "age 2000000" "refused 24"
     ∷ lineCase "age 000000000000000000001" "bad line"
     ∷ lineCase "get 0 0" "refused 24"

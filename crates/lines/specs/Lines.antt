@@ -16,9 +16,9 @@ use Rattle.lines.specs.Text.{badText, numberText, answerText, fewestText
 
 -- ---- how long a line is
 
--- "A line above 200 bytes"
+-- "A line above 200 bytes"; by document 02, W-204, "a listing line 600 bytes"
 abbrev pub lineMost : ℕ
-lineMost = 200
+lineMost = 600
 
 -- ---- what a line leaves
 
@@ -34,14 +34,15 @@ badLine begun s = record { begun = begun; state = s; text = badText }
 
 -- ---- the commands, over their fields' numbers
 
--- "`set` own drift reading"; "A further taken `set` starts afresh"
+-- "`set` own drift reading", and by document 02, W-204, "Setting up and `set` take the own epoch last"; "A further taken `set` starts afresh"
 unfoldable pub setLine : List ℕ → Bool → List ℕ → LineResult
 setLine ns begun s =
-    cond (eqb (length ns) 3 && (isWord (getD ns 0 0) && isWord (getD ns 1 0)))
+    let u = setup (getD ns 0 0) (getD ns 1 0) (getD ns 2 0) (getD ns 3 0) in
+    cond (eqb (length ns) 4 && (isWord (getD ns 0 0) && isWord (getD ns 1 0)))
     (record {
-      begun = begun || eqb (setUpNumber s (setup (getD ns 0 0) (getD ns 1 0) (getD ns 2 0))) 0;
-      state = setUpState s (setup (getD ns 0 0) (getD ns 1 0) (getD ns 2 0));
-      text = numberText (setUpNumber s (setup (getD ns 0 0) (getD ns 1 0) (getD ns 2 0)));
+      begun = begun || eqb (setUpNumber s u) 0;
+      state = setUpState s u;
+      text = numberText (setUpNumber s u);
     })
     (badLine begun s)
 
@@ -124,6 +125,6 @@ unfoldable pub fieldsLine : List (List ℕ) → Bool → List ℕ → LineResult
 fieldsLine [] begun s = badLine begun s
 fieldsLine (word ∷ fs) begun s = cond (all isNumber fs) (wordLine word (map value fs) begun s) (badLine begun s)
 
--- "A line above 200 bytes or empty is a `bad line`": an empty line's one field is no command word
+-- "A line above 200 bytes or empty is a `bad line`", above 600 now: an empty line's one field is no command word
 unfoldable pub lineResult : List ℕ → Bool → List ℕ → LineResult
 lineResult line begun s = cond (ltb lineMost (length line)) (badLine begun s) (fieldsLine (fields line) begun s)

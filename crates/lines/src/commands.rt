@@ -13,14 +13,14 @@ use fields::read;
 // The message of a `get` line has at most these bytes: four for each field behind the two delays.
 const MESSAGE_MOST: usize = (VALUES_MOST - 2) * 4;
 
-// `set` own drift reading.
+// `set` own drift reading epoch.
 fn set_line(values: &[u64], state: &mut [u8], begun: bool, out: &mut [u8]) -> Answered
     requires { ⌜ answerMost ≤ length (now out) ⌝ }
     ensures { λ r. ⌜ (let result : LineResult = setLine (now (values .entry)) begun (now (state .entry)) in
         (r .begun ≡ result .begun) × (r .size ≡ length (result .text)) × (now (state .exit) ≡ result .state)
         × (now (out .exit) ≡ put 0 (result .text) (now (out .entry)))) ⌝ }
 {
-    if values.len() != 3 {
+    if values.len() != 4 {
         let size = text::put_bad(out);
         return Answered { begun, size };
     }
@@ -30,7 +30,13 @@ fn set_line(values: &[u64], state: &mut [u8], begun: bool, out: &mut [u8]) -> An
         let size = text::put_bad(out);
         return Answered { begun, size };
     }
-    let number = monitor::calls::monitor_set_up(state, own as u32, drift as u32, values[2]);
+    let number = monitor::calls::monitor_set_up(
+        state,
+        own as u32,
+        drift as u32,
+        values[2],
+        values[3],
+    );
     let size = text::put_number(out, number);
     Answered {
         begun: begun | (number == 0),

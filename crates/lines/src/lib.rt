@@ -11,7 +11,7 @@ mod commands;
 mod text;
 
 // A line has at most these bytes, without its line feed.
-pub const LINE_MOST: usize = 200;
+pub const LINE_MOST: usize = 600;
 
 // So many fields have room in a line: each has a byte, and a space before the next.
 const VALUES_MOST: usize = LINE_MOST / 2 + 1;

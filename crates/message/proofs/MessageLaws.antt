@@ -31,7 +31,7 @@ Masks ts = (i : ℕ) → getD ts i 0 < payloadSize
 
 -- ---- words, and the terms that they carry
 
-word-kind : (k x : ℕ) → x < payloadSize → eqb (kindOf (word k x)) k ≡ true
+pub word-kind : (k x : ℕ) → x < payloadSize → eqb (kindOf (word k x)) k ≡ true
 word-kind k x h = eq-eqb (kindOf (word k x)) k (omega arith)
 
 payload-word : (k x : ℕ) → x < payloadSize → payload (word k x) ≡ x
@@ -115,18 +115,18 @@ module _ (s : ℕ) (more : List ℕ) (l r : ℕ) (ts : List ℕ) where
   abbrev rest : List ℕ
   rest = endWords l r ++ (map (λ t. word 6 t) ts ++ (word 7 (check (body s more l r ts)) ∷ []))
 
-  parts-message : messageWords s more l r ts ≡ (word 1 (s + 32 * length ts) ∷ more) ++ rest
+  pub parts-message : messageWords s more l r ts ≡ (word 1 (s + 32 * length ts) ∷ more) ++ rest
   unfolding messageWords body front
   parts-message = simp append-assoc
 
   ends-message : drop (1 + length more) (messageWords s more l r ts) ≡ rest
   ends-message = rw parts-message (drop-at (word 1 (s + 32 * length ts) ∷ more) rest (1 + length more) (omega arith))
 
-  more-message : slice 1 (1 + length more) (messageWords s more l r ts) ≡ more
+  pub more-message : slice 1 (1 + length more) (messageWords s more l r ts) ≡ more
   more-message =
       rw parts-message (ap (λ (ws : List ℕ). drop 1 ws) (take-at (word 1 (s + 32 * length ts) ∷ more) rest (1 + length more) (omega arith)))
 
-  middle-message : middle (1 + length more) true (messageWords s more l r ts) ≡ map (λ t. word 6 t) ts
+  pub middle-message : middle (1 + length more) true (messageWords s more l r ts) ≡ map (λ t. word 6 t) ts
   unfolding middle body width
   middle-message =
       ap (λ (ws : List ℕ). drop (1 + length more + 4) ws) take-message
@@ -177,7 +177,7 @@ module _ (s : ℕ) (more : List ℕ) (l r : ℕ) (ts : List ℕ) where
         let right : pair ws (at + 2) ≡ r = pair-at at 2 ws ∙ rw ends-message (pair-word 3 r c) in
         rw (left, right, le-leb l r b)
 
-    taken-message : Taken (1 + length more) true (messageWords s more l r ts) s l r (length ts)
+    pub taken-message : Taken (1 + length more) true (messageWords s more l r ts) s l r (length ts)
     unfolding isEnds messageWords body front endWords width
     taken-message =
         let at = 1 + length more in
@@ -220,12 +220,12 @@ module _ (s l r : ℕ) (ts : List ℕ) where
 
 -- ---- each word is below 2 ^ 32
 
-words-cons : (w : ℕ) (ws : List ℕ) → w < 2 ^ 32 → Words ws → Words (w ∷ ws)
+pub words-cons : (w : ℕ) (ws : List ℕ) → w < 2 ^ 32 → Words ws → Words (w ∷ ws)
 unfolding Words
 words-cons w ws h k zero = h
 words-cons w ws h k (suc i) = k i
 
-words-none : Words []
+pub words-none : Words []
 unfolding Words
 words-none i = omega arith
 
@@ -282,7 +282,7 @@ take-four at ws h =
 drop-last : (ws : List ℕ) → 0 < length ws → drop (length ws - 1) ws ≡ getD ws (length ws - 1) 0 ∷ []
 drop-last ws h = drop-cons ws (length ws - 1) 0 (omega arith) ∙ rw (drop-of-length-le ws {i = suc (length ws - 1)} (omega arith))
 
-length-terms : {at : ℕ} {ends : Bool} {ws : List ℕ} {s l r n : ℕ} → Taken at ends ws s l r n → length (masks (middle at ends ws)) ≡ n
+pub length-terms : {at : ℕ} {ends : Bool} {ws : List ℕ} {s l r n : ℕ} → Taken at ends ws s l r n → length (masks (middle at ends ws)) ≡ n
 unfolding masks
 length-terms {at} {ends} {ws} t = length-map (middle at ends ws) (λ w. payload w) ∙ length-middle t
 

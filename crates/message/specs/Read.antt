@@ -87,21 +87,32 @@ unfoldable pub withSpan : ℕ → ℕ → Bool → Interval → Reading
 withSpan sender count normal Bad = Refused 16
 withSpan sender count normal (Span left right) = cond normal (Message sender left right count) (Refused 17)
 
--- 13: "word count not that of head and form"; then 14 to 17
-unfoldable pub readForm : ℕ → Bool → List ℕ → Reading
-readForm at ends ws =
+-- 12, 11, 13 and 14 of a message whose interval begins at place `at`, else 0: its head, the word that opens the interval, "word count not that
+-- of head and form", and the kinds. Nothing here tests the words between the head and that place.
+unfoldable pub shapeRefusal : ℕ → List ℕ → ℕ
+shapeRefusal at ws =
     let head = getD ws 0 0 in
-    cond (not (eqb (length ws) (start at ends + countOf head + 1))) (Refused 13)
-    (cond (not (kindsFit at ends ws)) (Refused 14)
-    (cond (not (checkFits ws)) (Refused 15)
-    (withSpan (senderOf head) (countOf head) (isNormal (masks (middle at ends ws))) (span at ends ws))))
+    let ends = isEnds at ws in
+    cond (not (headWordFits head)) 12
+    (cond (not (opens at ws)) 11
+    (cond (not (eqb (length ws) (start at ends + countOf head + 1))) 13
+    (cond (not (kindsFit at ends ws)) 14 0)))
 
--- all but 10, of a message whose interval begins at place `at`: 12; 11; then by the form. Nothing here tests the words between the
--- head and that place.
+-- what a message of that shape says, or 15, 16 or 17
+unfoldable pub contents : ℕ → List ℕ → Reading
+contents at ws =
+    let head = getD ws 0 0 in
+    let ends = isEnds at ws in
+    cond (not (checkFits ws)) (Refused 15)
+    (withSpan (senderOf head) (countOf head) (isNormal (masks (middle at ends ws))) (span at ends ws))
+
+-- the refusal of a number, or what comes next where it is 0
+abbrev pub refusedOr : ℕ → Reading → Reading
+refusedOr number next = cond (eqb number 0) next (Refused number)
+
+-- all but 10
 unfoldable pub readFrom : ℕ → List ℕ → Reading
-readFrom at ws =
-    cond (not (headWordFits (getD ws 0 0))) (Refused 12)
-    (cond (not (opens at ws)) (Refused 11) (readForm at (isEnds at ws) ws))
+readFrom at ws = refusedOr (shapeRefusal at ws) (contents at ws)
 
 -- 10: "word count outside 5 to 14"; then the rest, the interval right behind the head
 unfoldable pub readWords : List ℕ → Reading

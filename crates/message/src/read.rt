@@ -1,10 +1,10 @@
 // Reading: a function for each test of document 01, in its order 10, 12, 11, 13 to 17.
 ghost use mathlib.Core.Path.{_≡_};
 ghost use Prim.Native.Nat.{_+_, _≤_, _<_};
-ghost use lib.ListN.{length};
+ghost use lib.ListN.{length, getD};
 ghost use Rattle.message.specs.Words.{payloadSize, endsLimit, kindOf, payload as Words·payload, ofKind, check};
 ghost use Rattle.message.specs.Read.{headWordFits, width as Read·width, start, spanKinds, kindsFit, checkFits, pair as Read·pair};
-ghost use Rattle.message.specs.Read.{span as Read·span, readForm, readFrom, readWords, termWords, readingNumber};
+ghost use Rattle.message.specs.Read.{span as Read·span, shapeRefusal, contents as Read·contents, readWords, termWords, readingNumber};
 use super::ENDS_LIMIT;
 use super::Interval;
 use super::PAYLOAD_SIZE;
@@ -13,7 +13,7 @@ use super::TERMS_MOST;
 use super::WORDS_LEAST;
 use super::WORDS_MOST;
 
-fn kind(w: u32) -> u32
+pub fn kind(w: u32) -> u32
     ensures { λ r. ⌜ (r ≡ kindOf w) × (r < 8) ⌝ }
 {
     w / PAYLOAD_SIZE
@@ -129,21 +129,49 @@ fn span(words: &[u32], at: usize, ends: bool) -> Interval
     Interval::Bad
 }
 
-// From the word count on.
-fn read_form(words: &[u32], at: usize, ends: bool) -> Reading
-    requires { ⌜ at < length (now words) ⌝ }
-    ensures { λ r. ⌜ r ≡ readForm at ends (now (words .entry)) ⌝ }
+// The kind of the word at place `at`; 0 behind the last word.
+fn kind_at(words: &[u32], at: usize) -> u32
+    ensures { λ r. ⌜ (r ≡ kindOf (getD (now (words .entry)) at 0)) × (0 < r → at < length (now (words .entry))) ⌝ }
 {
-    let head = words[0];
-    let last = words.len() - 1;
-    let wide = width(ends);
-    let count = head / 32 % 32;
-    if last - at != wide + count as usize {
-        return Reading::Refused(13);
+    if at < words.len() {
+        return kind(words[at]);
+    }
+    0
+}
+
+// The refusal of 12, 11, 13 and 14, or 0: what can be told without the payloads. The interval begins at place `at`.
+pub fn shape(words: &[u32], at: usize) -> u32
+    requires { ⌜ (1 ≤ length (now words)) × (at ≤ length (now words)) ⌝ }
+    ensures { λ r. ⌜ r ≡ shapeRefusal at (now (words .entry)) ⌝ }
+{
+    let first = words[0];
+    let head = head_word_fits(first);
+    let opening = kind_at(words, at);
+    let form = (opening == 2) | (opening == 4);
+    if !head {
+        return 12;
+    }
+    if !form {
+        return 11;
+    }
+    let ends = opening == 2;
+    if words.len() - 1 - at != width(ends) + (first / 32 % 32) as usize {
+        return 13;
     }
     if !kinds_fit(words, at, ends) {
-        return Reading::Refused(14);
+        return 14;
     }
+    0
+}
+
+// What a message of that shape says, or its refusal by 15, 16 or 17.
+pub fn contents(words: &[u32], at: usize) -> Reading
+    requires { ⌜ shapeRefusal at (now words) ≡ 0 ⌝ }
+    ensures { λ r. ⌜ r ≡ Read·contents at (now (words .entry)) ⌝ }
+{
+    let head = words[0];
+    let ends = kind(words[at]) == 2;
+    let last = words.len() - 1;
     if !check_fits(words) {
         return Reading::Refused(15);
     }
@@ -151,28 +179,11 @@ fn read_form(words: &[u32], at: usize, ends: bool) -> Reading
     let Interval::Span(left, right) = interval else {
         return Reading::Refused(16);
     };
-    let from = at + wide;
+    let from = at + width(ends);
     if !predicates::is_normal(&words[from..last]) {
         return Reading::Refused(17);
     }
-    Reading::Message(head % 32, left, right, count)
-}
-
-// The message in the words, or its first refusal, from the head on; the interval begins at place `at`.
-fn read_from(words: &[u32], at: usize) -> Reading
-    requires { ⌜ at < length (now words) ⌝ }
-    ensures { λ r. ⌜ r ≡ readFrom at (now (words .entry)) ⌝ }
-{
-    let head = head_word_fits(words[0]);
-    let opening = kind(words[at]);
-    let form = (opening == 2) | (opening == 4);
-    if !head {
-        return Reading::Refused(12);
-    }
-    if !form {
-        return Reading::Refused(11);
-    }
-    read_form(words, at, opening == 2)
+    Reading::Message(head % 32, left, right, head / 32 % 32)
 }
 
 // The message in the words, or its first refusal.
@@ -186,7 +197,11 @@ pub fn read(words: &[u32]) -> Reading
     if WORDS_MOST < n {
         return Reading::Refused(10);
     }
-    read_from(words, 1)
+    let number = shape(words, 1);
+    if number != 0 {
+        return Reading::Refused(number);
+    }
+    contents(words, 1)
 }
 
 // The number of a refusal, 0 for a message that is taken.

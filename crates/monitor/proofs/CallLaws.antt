@@ -1,6 +1,6 @@
 -- Writing a held datum as a message, on plain values: what is read from the state's bytes is the datum's words, and the message reads back.
 -- The idea: a state in form has an own name of at most 28, and each held datum has ends in order below 2^58 and 1 to 8 terms of 29 bits in normal
--- form. This is all that `read-write` and `terms-write` of the crate `message` ask, so a message written from a held datum is accepted and has the
+-- form. This is all that `read-write` and `terms-write` of the crate `radio` ask, so a message written from a held datum is accepted and has the
 -- own name, that interval and those terms. No contract cites this file. Assumes nothing.
 use Prim.Native.Nat.{ℕ, zero, suc, _+_, _*_, _%_, _^_, _≤_, _<_}
 use mathlib.Core.Path.{_≡_, refl, sym, ap, _∙_}
@@ -9,7 +9,7 @@ use mathlib.Core.List.{List, [], _∷_, _++_}
 use native.Mathlib.Omega.{arith}
 use borrow.Author.Tests.{le-ltb, eq-eqb, leb-false, ltb-false}
 use lib.Dec.{T, leb, ltb, ltb→lt}
-use lib.ListN.{length, take}
+use lib.ListN.{length, getD, take}
 use lib.Seq.{take-append-le}
 use Rattle.numbers.specs.Numbers.{num, bytes, tab, Words, wordsOf, bytesOf, put}
 use Rattle.numbers.proofs.NumberLaws.{length-tab, length-bytesOf, words-bytes, take-put}
@@ -20,10 +20,15 @@ use Rattle.message.specs.Words.{payload, masks}
 use Rattle.message.specs.Read.{termWords}
 use Rattle.message.specs.Write.{messageWords}
 use Rattle.message.specs.declared.Reading.the-variants.{Message}
-use Rattle.message.proofs.MessageLaws.{Masks, length-message, words-message, read-write, terms-write}
-use Rattle.state.specs.Layout.{datumPlace, masksAt, rowAt, datumAt, heldCount, ownAt, rightIn, rowIn, datumTerms}
+use Rattle.message.proofs.MessageLaws.{Masks, length-message-more}
+use Rattle.epochs.specs.Epochs.{epochMost, epochsMost, epochsIn}
+use Rattle.radio.specs.Names.{wanted, namesFit, namesOf}
+use Rattle.radio.specs.Read.{epochWords}
+use Rattle.radio.proofs.NameLaws.{fit-few, wanted-lt}
+use Rattle.radio.proofs.MessageLaws.{names-known, words-message, read-write, terms-write, epochs-write}
+use Rattle.state.specs.Layout.{datumPlace, masksAt, rowAt, datumAt, heldCount, ownAt, epochsAt, rightIn, rowIn, datumTerms}
 use Rattle.state.specs.Form.{termFits, termsFit, inForm}
-use Rattle.state.proofs.StateLaws.{datum-at-ok, length-datum-at}
+use Rattle.state.proofs.StateLaws.{datum-at-ok, length-datum-at, epochs-fit}
 use Rattle.state.specs.Refusal.{after}
 use Rattle.state.proofs.LentLaws.{refuse-none, lent-passed}
 use Rattle.state.proofs.OkLaws.{ok-datum-out, ok-terms-out}
@@ -59,6 +64,7 @@ pub record Held (s : List ℕ) (position : ℕ) : Type 0 where
   pub norm : T (isNormal (datumAt s position .terms))
   pub small : Masks (datumAt s position .terms)
   pub count : length (datumAt s position .terms) ≡ num (datumPlace position + rowIn) 4 s
+  pub epochs : (n : ℕ) → getD (epochsIn epochsAt s) n 0 ≤ epochMost
 
 module _ (s : List ℕ) (t : T (inForm s)) (position : ℕ) (h : position < heldCount s) where
   terms-small : T (termsFit (num ownAt 4 s) datumTerms (datumAt s position .terms)) → Masks (datumAt s position .terms)
@@ -77,6 +83,7 @@ module _ (s : List ℕ) (t : T (inForm s)) (position : ℕ) (h : position < held
         norm = p .norm;
         small = terms-small (d .fit);
         count = length-datum-at s t position h;
+        epochs = epochs-fit s t;
       }
 
 -- ---- what writing reads, and what it leaves
@@ -94,9 +101,27 @@ module _ (s : List ℕ) (position : ℕ) where
       ap bytesOf (ap (λ (x : List ℕ). take n x) p ∙ take-put n (writtenWords s position) old (sym e) h)
 
 module _ (s : List ℕ) (position : ℕ) (f : Held s position) where
-  pub length-written : length (writtenWords s position) ≡ num (datumPlace position + rowIn) 4 s + 6
+  -- the names that it gives
+  abbrev given : List ℕ
+  given = namesOf (epochsIn epochsAt s) (wanted (num ownAt 4 s) (datumAt s position .terms))
+
+  pub given-fit : T (namesFit (wanted (num ownAt 4 s) (datumAt s position .terms)) given)
+  given-fit = names-known (num ownAt 4 s) (datumAt s position .terms) (epochsIn epochsAt s) (f .own-le) (f .small) (f .epochs)
+
+  pub given-few : length given ≤ epochsMost
+  given-few =
+      fit-few (wanted (num ownAt 4 s) (datumAt s position .terms)) given given-fit
+      (wanted-lt (num ownAt 4 s) (datumAt s position .terms) (f .own-le) (f .small))
+
+  -- those that are looked up are these
+  pub given-told : (mask own : ℕ) (terms names : List ℕ) → own ≡ num ownAt 4 s → terms ≡ datumAt s position .terms → mask ≡ wanted own (masks terms)
+      → names ≡ namesOf (epochsIn epochsAt s) mask → names ≡ given
+  given-told mask own terms names a b c d = d ∙ rw (c, a, b, masks-same (datumAt s position .terms) (f .small))
+
+  pub length-written : length (writtenWords s position) ≡ length given + num (datumPlace position + rowIn) 4 s + 6
   unfolding writtenWords
-  length-written = omega (arith, length-message (num ownAt 4 s) (datumAt s position .left) (datumAt s position .right) (datumAt s position .terms), f .count)
+  length-written =
+      omega (arith, length-message-more (num ownAt 4 s) given (datumAt s position .left) (datumAt s position .right) (datumAt s position .terms), f .count)
 
   -- the ends that were read
   pub ends-lt : (left right : ℕ) → left ≡ num (datumPlace position) 8 s → right ≡ num (datumPlace position + rightIn) 8 s → (left < endLimit) × (right < endLimit)
@@ -113,15 +138,15 @@ module _ (s : List ℕ) (position : ℕ) (f : Held s position) where
       rw (p, take-append-le n (tab 8 g) rest fits, e)
 
   -- the words that are written
-  pub words-written : (own left right : ℕ) (terms : List ℕ) → own ≡ num ownAt 4 s → left ≡ num (datumPlace position) 8 s
-      → right ≡ num (datumPlace position + rightIn) 8 s → terms ≡ datumAt s position .terms
-      → messageWords own [] left right (masks terms) ≡ writtenWords s position
+  pub words-written : (own left right : ℕ) (names terms : List ℕ) → own ≡ num ownAt 4 s → left ≡ num (datumPlace position) 8 s
+      → right ≡ num (datumPlace position + rightIn) 8 s → names ≡ given → terms ≡ datumAt s position .terms
+      → messageWords own names left right (masks terms) ≡ writtenWords s position
   unfolding writtenWords datumAt
-  words-written own left right terms a b c d = rw (a, b, c, d, masks-same (datumAt s position .terms) (f .small))
+  words-written own left right names terms a b c n d = rw (a, b, c, n, d, masks-same (datumAt s position .terms) (f .small))
 
   words-small : Words (writtenWords s position)
   unfolding writtenWords
-  words-small = words-message _ _ _ _ (f .own-le) (f .ends) (f .below) (f .few) (f .small)
+  words-small = words-message _ given _ _ _ given-fit (f .own-le) (f .ends) (f .below) (f .few) (f .norm) (f .small)
 
   pub words-back : wordsOf (writtenBytes s position) ≡ writtenWords s position
   unfolding writtenBytes
@@ -136,13 +161,22 @@ module _ (s : List ℕ) (t : T (inForm s)) (position : ℕ) (h : position < held
   write-reads =
       let f = held-out s t position h in
       rw (eq-eqb (length (writtenBytes s position) % 4) 0 (omega (arith, length-written-bytes s position)), words-back s position f)
-      (read-write _ _ _ _ (f .own-le) (f .ends) (f .below) (f .few) (f .norm) (f .small))
+      (read-write _ _ _ _ _ (given-fit s position f) (f .own-le) (f .ends) (f .below) (f .few) (f .norm) (f .small))
 
   pub write-terms : masks (termWords (readBytes (writtenBytes s position)) (wordsOf (writtenBytes s position))) ≡ datumAt s position .terms
   unfolding writtenWords
   write-terms =
       let f = held-out s t position h in
-      rw (write-reads, words-back s position f) (terms-write _ _ _ _ (f .own-le) (f .ends) (f .below) (f .few) (f .norm) (f .small))
+      rw (write-reads, words-back s position f) (terms-write _ _ _ _ _ (given-fit s position f) (f .own-le) (f .ends) (f .below) (f .few) (f .norm) (f .small))
+
+  -- with the epochs known
+  pub write-epochs : epochWords (readBytes (writtenBytes s position)) (wordsOf (writtenBytes s position))
+      ≡ namesOf (epochsIn epochsAt s) (wanted (num ownAt 4 s) (datumAt s position .terms))
+  unfolding writtenWords
+  write-epochs =
+      let f = held-out s t position h in
+      rw (write-reads, words-back s position f)
+      (epochs-write _ _ _ _ _ (given-fit s position f) (f .own-le) (f .ends) (f .below) (f .few) (f .norm) (f .small))
 
   -- so reading it is taken, in an output of at least 32 bytes
   pub write-accepted : (out : List ℕ) → 32 ≤ length out → readNumber (writtenBytes s position) out ≡ 0

@@ -1,6 +1,6 @@
 -- What the calls make is in form, over the bytes that C lends: a taken setting up leaves a state in form, and ageing and receiving, taken or
 -- refused, leave in form what was in form. The length of the lent bytes stays.
--- The idea: a refused call leaves the bytes as they were. A taken one stores a state at their front, in at least 5,236 bytes; this state is right
+-- The idea: a refused call leaves the bytes as they were. A taken one stores a state at their front, in at least 5,265 bytes; this state is right
 -- by `set-up-ok`, `age-ok` and `receive-ok` of the crate `engine`, and a right state in front is in form, whatever lies beyond (`encode-form`).
 -- What `receive-ok` asks of the message is what a taken reading tells. No contract cites this file. Assumes nothing.
 use Prim.Native.Nat.{ℕ, _≤_}
@@ -13,10 +13,12 @@ use lib.ListN.{length}
 use Rattle.numbers.specs.Numbers.{put, wordsOf}
 use Rattle.predicates.proofs.ListLaws.{neither, cond-ind}
 use Rattle.message.specs.Words.{masks}
-use Rattle.message.specs.Read.{readWords, termWords}
+use Rattle.message.specs.Read.{termWords}
+use Rattle.radio.specs.Read.{readWords, epochWords}
 use Rattle.message.specs.declared.Reading.{Reading}
 use Rattle.message.specs.declared.Reading.the-variants.{Message, Refused}
-use Rattle.message.proofs.ReadLaws.{read-out}
+use Rattle.radio.proofs.ReadLaws.{read-out}
+use Rattle.radio.proofs.HeardNames.{heard-names}
 use Rattle.state.specs.Model.{State}
 use Rattle.state.specs.Layout.{stateSize, stateBytes, stateOf}
 use Rattle.state.specs.Form.{inForm, stateOk}
@@ -27,7 +29,7 @@ use Rattle.engine.specs.Refusals.{setUpRefusal, ageRefusal, delaysFail, delayMo
 use Rattle.state.specs.Refusal.{after}
 use Rattle.state.proofs.LentLaws.{refuse-none}
 use Rattle.engine.proofs.CallLaws.{set-up-ok, age-ok, Heard, receive-ok}
-use Rattle.engine.proofs.ReceiptCalls.{masks-small}
+use Rattle.receipts.proofs.ReceiptCalls.{masks-small}
 use Rattle.clocks.specs.declared.Readings.{Readings}
 use Rattle.clocks.specs.Clocks.{readingsFail}
 use Rattle.state.specs.Refusal.{lent}
@@ -80,16 +82,18 @@ module _ (s : List ℕ) (reading : ℕ) where
 -- a taken reading, with delays and readings that fit, tells what receiving asks
 pub heard-in : {sender left right n : ℕ} (least greatest : ℕ) (readings : Readings) (m : List ℕ) → least ≤ greatest → T (not (readingsFail readings))
     → readBytes m ≡ Message sender left right n
-    → Heard (delivery least greatest readings sender left right (masks (termWords (Message sender left right n) (wordsOf m))))
+    → Heard (delivery least greatest readings sender (epochWords (Message sender left right n) (wordsOf m)) left right
+    (masks (termWords (Message sender left right n) (wordsOf m))))
 heard-in {sender} {left} {right} {n} least greatest readings m d f e =
     let ws = wordsOf m in
     let read : readWords ws ≡ Message sender left right n = rw (words-in-taken m e) at (read-words-in m ∙ e) in
     let t = read-out ws read in
     record {
       delays = d;
-      sender-le = t .sender-le;
-      ends = t .left-le;
+      sender-le = t .taken .sender-le;
+      ends = t .taken .left-le;
       small = masks-small (termWords (Message sender left right n) ws);
+      names = heard-names t;
       readings = f;
     }
 

@@ -12,24 +12,27 @@ use lib.ListN.{length, take}
 use lib.Seq.{take-at}
 use Rattle.numbers.specs.Numbers.{tab, num, wordsOf, bytesOf, put}
 use Rattle.numbers.proofs.NumberLaws.{length-tab, length-bytesOf, take-put}
-use Rattle.message.specs.Read.{readWords, termWords}
-use Rattle.message.specs.Write.{rewritten, rewrittenAs}
+use Rattle.message.specs.Words.{endsLimit}
+use Rattle.message.specs.Read.{termWords}
+use Rattle.radio.specs.Read.{wordsMost, bytesMost, readWords, epochWords}
+use Rattle.radio.specs.Write.{rewritten, rewrittenAs}
 use Rattle.message.specs.declared.Reading.{Reading}
 use Rattle.message.specs.declared.Reading.the-variants.{Message, Refused}
-use Rattle.message.proofs.ReadLaws.{read-out, terms-middle, length-middle}
-use Rattle.message.proofs.MessageLaws.{rewrite-length}
-use Rattle.message.specs.Words.{wordsMost, bytesMost, endsLimit}
+use Rattle.epochs.specs.Epochs.{epochsMost}
+use Rattle.epochs.specs.code.Known.{Named}
+use Rattle.radio.proofs.ReadLaws.{read-out, terms-middle, length-middle, epochs-few, refused-above}
+use Rattle.radio.proofs.MessageLaws.{rewrite-length}
+use Rattle.radio.proofs.HeardNames.{heard-names}
 use Rattle.engine.specs.Refusals.{delayMost}
 use Rattle.state.specs.Refusal.{after}
 use Rattle.state.proofs.LentLaws.{after-refused}
-use Rattle.message.proofs.ReadLaws.{refused-above}
 use Rattle.monitor.specs.Messages.{readBytes, wordsIn, rewrittenBytes}
 use Rattle.state.specs.Model.{nameMost}
 
--- more than 14 words, or none, are 10
+-- more than 43 words, or none, are 10
 read-many : (ws : List ℕ) → wordsMost < length ws → readWords ws ≡ Refused 10
 unfolding readWords
-read-many ws h = rw (le-ltb (length ws) 5 (omega arith), lt-ltb wordsMost (length ws) h)
+read-many ws h = rw (le-ltb (length ws) 6 (omega arith), lt-ltb wordsMost (length ws) h)
 
 length-words : (m : List ℕ) → length (wordsOf m) ≡ length m / 4
 unfolding wordsOf
@@ -92,20 +95,24 @@ module _ {s l r n : ℕ} (m : List ℕ) (e : readBytes m ≡ Message s l r n) wh
   again : readWords (wordsIn m) ≡ Message s l r n
   again = read-words-in m ∙ e
 
-  pub rewritten-few : n ≤ 8
-  rewritten-few = read-out (wordsIn m) again .count-le
+  -- how many words it has
+  abbrev size : ℕ
+  size = length (epochWords (Message s l r n) (wordsIn m)) + n + 6
 
-  pub length-rewritten-bytes : length (rewrittenBytes m) ≡ (n + 6) * 4
+  pub rewritten-few : size ≤ wordsMost
+  rewritten-few = let t = read-out (wordsIn m) again in omega (arith, epochs-few t, t .taken .count-le)
+
+  pub length-rewritten-bytes : length (rewrittenBytes m) ≡ size * 4
   unfolding rewrittenBytes
   length-rewritten-bytes =
       length-bytesOf (rewrittenAs (readBytes m) (wordsOf m))
       ∙ ap (λ (x : ℕ). x * 4) (ap length (sym (rewritten-words-in m)) ∙ rewrite-length (wordsIn m) again)
 
-  pub written-bytes : (words written : List ℕ) → n + 6 ≤ length words → written ≡ put 0 (rewritten (wordsIn m)) words
-      → bytesOf (take (n + 6) written) ≡ rewrittenBytes m
+  pub written-bytes : (words written : List ℕ) → size ≤ length words → written ≡ put 0 (rewritten (wordsIn m)) words
+      → bytesOf (take size written) ≡ rewrittenBytes m
   unfolding rewrittenBytes
   written-bytes words written h p =
-      ap bytesOf (ap (λ (x : List ℕ). take (n + 6) x) p ∙ take-put (n + 6) (rewritten (wordsIn m)) words (rewrite-length (wordsIn m) again) h ∙ rewritten-words-in m)
+      ap bytesOf (ap (λ (x : List ℕ). take size x) p ∙ take-put size (rewritten (wordsIn m)) words (rewrite-length (wordsIn m) again) h ∙ rewritten-words-in m)
 
 -- ---- a taken message is all of its bytes' words
 
@@ -121,9 +128,11 @@ words-in-taken {s} {l} {r} {n} m e = go (eqb (length m % 4) 0) (ltb bytesMost (l
 -- what a taken message says
 pub taken-says : {s l r n : ℕ} (m : List ℕ) → readBytes m ≡ Message s l r n →
     (s ≤ nameMost) × (l ≤ r) × (r < endsLimit) × (length (termWords (Message s l r n) (wordsIn m)) ≤ 8)
+    × Named (epochWords (Message s l r n) (wordsIn m))
 taken-says m e =
     let t = read-out (wordsIn m) (read-words-in m ∙ e) in
-    (t .sender-le, t .left-le, t .right-lt, omega (arith, ap length (terms-middle t), length-middle t, t .count-le))
+    let here = t .taken in
+    (here .sender-le, here .left-le, here .right-lt, omega (arith, ap length (terms-middle t), length-middle t, here .count-le), heard-names t)
 
 -- ---- delays that pass the test for 21
 

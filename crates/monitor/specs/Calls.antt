@@ -3,17 +3,19 @@
 -- Assumes nothing: these are definitions.
 use Prim.Native.Nat.{ℕ}
 use mathlib.Core.Bool.{Bool}
-use mathlib.Core.List.{List, []}
+use mathlib.Core.List.{List}
 use lib.ListN.{length}
 use lib.Dec.{ltb, leb}
 use Rattle.numbers.specs.Numbers.{num, bytesOf}
+use Rattle.epochs.specs.Epochs.{epochsIn}
 use Rattle.message.specs.Write.{messageWords}
-use Rattle.state.specs.Layout.{stateSize, ownAt, heldCount, datumAt, stateBytes, stateOf}
+use Rattle.radio.specs.Names.{wanted, namesOf}
+use Rattle.state.specs.Layout.{stateSize, ownAt, epochsAt, heldCount, datumAt, stateBytes, stateOf}
 use Rattle.state.specs.Refusal.{refuse, lent, after}
 use Rattle.engine.specs.Calls.{Setup, setUp, age, done}
 use Rattle.engine.specs.Refusals.{setUpRefusal, ageRefusal}
 
--- ---- setting up: "24, 1, 2, 3"
+-- ---- setting up: "24, 1, 2, 3", with 41 after 1
 
 unfoldable pub setUpNumber : List ℕ → Setup → ℕ
 setUpNumber s u = refuse (ltb (length s) stateSize) 24 (setUpRefusal u)
@@ -31,9 +33,13 @@ ageState s reading = after (ageNumber s reading) (stateBytes (done (stateOf s) (
 
 -- ---- writing: "24 (state), 25, 23, 24 (output)"
 
--- "takes one held datum by its position (0 is the oldest), and gives the own name as sender"
+-- "takes one held datum by its position (0 is the oldest), and gives the own name as sender", with an epoch word for it and for each identifier in
+-- the terms (document 02, W-204): the epochs known
 unfoldable pub writtenWords : List ℕ → ℕ → List ℕ
-writtenWords s position = messageWords (num ownAt 4 s) [] (datumAt s position .left) (datumAt s position .right) (datumAt s position .terms)
+writtenWords s position =
+    let own = num ownAt 4 s in
+    let d = datumAt s position in
+    messageWords own (namesOf (epochsIn epochsAt s) (wanted own (d .terms))) (d .left) (d .right) (d .terms)
 
 unfoldable pub writtenBytes : List ℕ → ℕ → List ℕ
 writtenBytes s position = bytesOf (writtenWords s position)

@@ -6,9 +6,8 @@ use mathlib.Core.List.{List, [], _++_}
 use lib.ListN.{length}
 use lib.Dec.{ltb, eqb}
 use Rattle.numbers.specs.Numbers.{bytes, wordsOf, bytesOf}
-use Rattle.message.specs.Words.{bytesMost}
-use Rattle.message.specs.Read.{readWords}
-use Rattle.message.specs.Write.{rewrittenAs}
+use Rattle.radio.specs.Read.{bytesMost, readWords}
+use Rattle.radio.specs.Write.{rewrittenAs}
 use Rattle.state.specs.Refusal.{after}
 use Rattle.message.specs.declared.Reading.{Reading}
 use Rattle.message.specs.declared.Reading.the-variants.{Message, Refused}

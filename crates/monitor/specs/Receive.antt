@@ -1,10 +1,11 @@
--- Receiving, over bytes (document 01, "Receiving" and "Who can cause which refusal"; document 02, W-201): what C gives a
+-- Receiving, over bytes (document 01, "Receiving" and "Who can cause which refusal"; document 02, W-201 and W-204): what C gives a
 -- receipt, what its message delivers, the number that the call returns and the lent state afterwards. Assumes nothing: these are definitions.
 use Prim.Native.Nat.{ℕ}
 use mathlib.Core.List.{List}
 use Rattle.numbers.specs.Numbers.{wordsOf}
 use Rattle.message.specs.Words.{masks}
 use Rattle.message.specs.Read.{termWords}
+use Rattle.radio.specs.Read.{epochWords}
 use Rattle.message.specs.declared.Reading.{Reading}
 use Rattle.message.specs.declared.Reading.the-variants.{Message, Refused}
 use Rattle.clocks.specs.declared.Readings.{Readings}
@@ -40,13 +41,14 @@ pub data Delivered : Type 0 where
 unfoldable pub deliveredAs : Receipt → Reading → Delivered
 deliveredAs g (Refused number) = refused number
 deliveredAs g (Message sender left right count) =
-    brings (delivery (g .least) (g .greatest) (g .readings) sender left right
-    (masks (termWords (Message sender left right count) (wordsOf (g .message)))))
+    let got = Message sender left right count in
+    let ws = wordsOf (g .message) in
+    brings (delivery (g .least) (g .greatest) (g .readings) sender (epochWords got ws) left right (masks (termWords got ws)))
 
 unfoldable pub delivered : Receipt → Delivered
 delivered g = deliveredAs g (readBytes (g .message))
 
--- from the message's words on: "10, 12, 11, 13 to 18, 30, 31, 32"
+-- from the message's words on: "10, 12, 11, 13 to 18, 30, 31, 32", and 42 "after 14"
 unfoldable pub deliveredNumber : State → Delivered → ℕ
 deliveredNumber st (refused number) = number
 deliveredNumber st (brings g) = receiptRefusal st g
@@ -56,14 +58,14 @@ unfoldable pub deliveredState : State → Delivered → State
 deliveredState st (refused number) = st
 deliveredState st (brings g) = done st (receive g)
 
--- on a state in form: "21, 10, 12, 11, 13 to 18, 30, 31, 32", and 40 "after 21"
+-- on a state in form: "21, 10, 12, 11, 13 to 18, 30, 31, 32", 40 "after 21" and 42 "after 14"
 abbrev pub receiptNumber : State → Receipt → ℕ
 receiptNumber st g =
     refuse (delaysFail (g .least) (g .greatest)) 21
     (refuse (readingsFail (g .readings)) 40
     (deliveredNumber st (delivered g)))
 
--- "Receiving 24, 25, 21, 10, 12, 11, 13 to 18, 30, 31, 32", with 40 after 21
+-- "Receiving 24, 25, 21, 10, 12, 11, 13 to 18, 30, 31, 32", with 40 after 21 and 42 after 14
 unfoldable pub receiveNumber : List ℕ → Receipt → ℕ
 receiveNumber s g = lent s (receiptNumber (stateOf s) g)
 

@@ -4,22 +4,28 @@ ghost use Prim.Native.Nat.{_≤_, _<_};
 ghost use lib.ListN.{length};
 ghost use lib.Dec.{T};
 ghost use Rattle.numbers.specs.Numbers.{put};
-ghost use Rattle.message.specs.Words.{wordsMost};
+ghost use Rattle.radio.specs.Read.{wordsMost};
 ghost use Rattle.state.specs.Layout.{stateSize, dataMost, heldCount};
 ghost use Rattle.state.specs.Form.{inForm};
 ghost use Rattle.engine.specs.Calls.{setup};
 ghost use Rattle.monitor.specs.Calls.{setUpNumber, setUpState, ageNumber, ageState, writtenWords, writeNumber, writeOutput};
 
-// Sets a monitor up: own name, drift in parts per million, and a reading of the own clock. Answers 0, or 24, 1, 2 or 3.
+// Sets a monitor up: own identifier, drift in parts per million, a reading of the own clock, and the own epoch. Answers 0, or 24, 1, 41, 2 or 3.
 #[no_mangle]
-pub extern "C" fn monitor_set_up(state: &mut [u8], own: u32, drift: u32, reading: u64) -> u32
-    ensures { λ r. ⌜ r ≡ setUpNumber (now (state .entry)) (setup own drift reading) ⌝ }
-    ensures { λ _. ⌜ now (state .exit) ≡ setUpState (now (state .entry)) (setup own drift reading) ⌝ }
+pub extern "C" fn monitor_set_up(
+    state: &mut [u8],
+    own: u32,
+    drift: u32,
+    reading: u64,
+    epoch: u64,
+) -> u32
+    ensures { λ r. ⌜ r ≡ setUpNumber (now (state .entry)) (setup own drift reading epoch) ⌝ }
+    ensures { λ _. ⌜ now (state .exit) ≡ setUpState (now (state .entry)) (setup own drift reading epoch) ⌝ }
 {
     if state.len() < state::STATE_SIZE {
         return 24;
     }
-    engine::set_up::set_up(state, own, drift, reading)
+    engine::set_up::set_up(state, own, drift, reading, epoch)
 }
 
 // Ages the state to a reading of the own clock. Answers 0, or 24, 25, 3, 20 or 30.
@@ -35,7 +41,7 @@ pub extern "C" fn monitor_age(state: &mut [u8], reading: u64) -> u32
     engine::ageing::age(state, reading)
 }
 
-// Writes the words of the held datum at a position to the front of `words` and answers how many.
+// Writes the words of the held datum at a position, under the epochs known, to the front of `words` and answers how many.
 fn datum_words(state: &[u8], position: usize, words: &mut [u32]) -> usize
     requires { ⌜ (stateSize ≤ length (now state)) × T (inForm (now state)) ⌝ }
     requires { ⌜ (position < heldCount (now state)) × (position < dataMost) × (wordsMost ≤ length (now words)) ⌝ }
@@ -50,9 +56,11 @@ fn datum_words(state: &[u8], position: usize, words: &mut [u32]) -> usize
     let count = numbers::get32(state, row) as usize;
     let mut masks = [0u32; state::DATUM_TERMS];
     numbers::get_words(state, row + 4, &mut masks, state::DATUM_TERMS);
-    let none = [0u32; 0];
-    message::write::write(words, own, &none, left, right, &masks[..count]);
-    count + 6
+    let mask = radio::read::wanted(own, &masks[..count]);
+    let mut names = [0u32; epochs::EPOCHS_MOST];
+    let given = radio::write::known_names(state, state::EPOCHS_AT, mask, &mut names);
+    message::write::write(words, own, &names[..given], left, right, &masks[..count]);
+    given + count + 6
 }
 
 // Writes the held datum at a position, 0 being the oldest, as a message from the own name. Answers 0, or 24, 25, 23 or 24 for the output.
@@ -69,7 +77,7 @@ pub extern "C" fn monitor_write(state: &[u8], position: u64, message: &mut [u8])
     if held as u64 <= position {
         return 23;
     }
-    let mut words = [0u32; message::WORDS_MOST];
+    let mut words = [0u32; radio::WORDS_MOST];
     let n = datum_words(state, position as usize, &mut words);
     if message.len() < n * 4 {
         return 24;

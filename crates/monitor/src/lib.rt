@@ -5,7 +5,7 @@ ghost use mathlib.Core.List.{_++_};
 ghost use Prim.Native.Nat.{_≤_};
 ghost use lib.ListN.{length, drop};
 ghost use Rattle.numbers.specs.Numbers.{bytes, put};
-ghost use Rattle.message.specs.Words.{wordsMost};
+ghost use Rattle.radio.specs.Read.{wordsMost};
 ghost use Rattle.monitor.specs.Messages.{wordsIn, readNumber, readOutput, rewriteNumber, rewriteOutput};
 use message::Reading;
 
@@ -23,7 +23,7 @@ fn take_words(message: &[u8], words: &mut [u32]) -> usize
     if size % 4 != 0 {
         return 0;
     }
-    if message::BYTES_MOST < size {
+    if radio::BYTES_MOST < size {
         return 0;
     }
     let n = size / 4;
@@ -48,9 +48,9 @@ pub extern "C" fn monitor_message_read(message: &[u8], reading: &mut [u8]) -> u3
     ensures { λ r. ⌜ r ≡ readNumber (now (message .entry)) (now (reading .entry)) ⌝ }
     ensures { λ _. ⌜ now (reading .exit) ≡ readOutput (now (message .entry)) (now (reading .entry)) ⌝ }
 {
-    let mut words = [0u32; message::WORDS_MOST];
+    let mut words = [0u32; radio::WORDS_MOST];
     let n = take_words(message, &mut words);
-    let got = message::read::read(&words[..n]);
+    let got = radio::read::read(&words[..n]);
     let Reading::Message(sender, left, right, count) = got else {
         return message::read::refusal(got);
     };
@@ -61,20 +61,21 @@ pub extern "C" fn monitor_message_read(message: &[u8], reading: &mut [u8]) -> u3
     0
 }
 
-// Writes a message again in ends form, with the sender, interval and terms that it has.
+// Writes a message again in ends form, with the sender, epoch words, interval and terms that it has.
 #[no_mangle]
 pub extern "C" fn monitor_message_rewrite(message: &[u8], out: &mut [u8]) -> u32
     ensures { λ r. ⌜ r ≡ rewriteNumber (now (message .entry)) (now (out .entry)) ⌝ }
     ensures { λ _. ⌜ now (out .exit) ≡ rewriteOutput (now (message .entry)) (now (out .entry)) ⌝ }
 {
-    let mut words = [0u32; message::WORDS_MOST];
+    let mut words = [0u32; radio::WORDS_MOST];
     let n = take_words(message, &mut words);
-    let mut written = [0u32; message::WORDS_MOST];
-    let got = message::write::rewrite(&words[..n], &mut written);
+    let mut written = [0u32; radio::WORDS_MOST];
+    let got = radio::write::rewrite(&words[..n], &mut written);
     let Reading::Message(_, _, _, count) = got else {
         return message::read::refusal(got);
     };
-    let size = count as usize + 6;
+    let names = radio::read::epoch_words(&words[..n], got);
+    let size = names.len() + count as usize + 6;
     if out.len() < size * 4 {
         return 24;
     }

@@ -32,14 +32,26 @@ fn receive_message(
     ensures { λ r. ⌜ (let got : Delivered = delivered (receiptWith least greatest readings (now (message .entry))) in
         now (state .exit) ≡ after r (stateBytes (deliveredState (stateOf (now (state .entry))) got)) (now (state .entry))) ⌝ }
 {
-    let mut words = [0u32; message::WORDS_MOST];
+    let mut words = [0u32; radio::WORDS_MOST];
     let n = super::take_words(message, &mut words);
-    let got = message::read::read(&words[..n]);
+    let heard = &words[..n];
+    let got = radio::read::read(heard);
     let Reading::Message(sender, left, right, _) = got else {
         return message::read::refusal(got);
     };
-    let terms = message::read::term_words(&words[..n], got);
-    engine::receipt::deliver(state, least, greatest, readings, sender, left, right, terms)
+    let terms = radio::read::term_words(heard, got);
+    let names = radio::read::epoch_words(heard, got);
+    receipts::receipt::deliver(
+        state,
+        least,
+        greatest,
+        readings,
+        sender,
+        names,
+        left,
+        right,
+        terms,
+    )
 }
 
 // Receives a message that came over a channel with a least and a greatest delay, with readings or without.
@@ -60,7 +72,8 @@ fn receive(state: &mut [u8], least: u64, greatest: u64, readings: Readings, mess
     receive_message(state, least, greatest, readings, message)
 }
 
-// Receives a message that came over a channel with a least and a greatest delay. Answers 0, or 24, 25, 21, 10, 12, 11, 13 to 18, 30, 31 or 32.
+// Receives a message that came over a channel with a least and a greatest delay. Answers 0, or 24, 25, 21, 10, 12, 11, 13,
+// 14, 42, 15 to 18, 30, 31 or 32.
 #[no_mangle]
 pub extern "C" fn monitor_receive(
     state: &mut [u8],

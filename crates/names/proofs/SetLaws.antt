@@ -228,6 +228,27 @@ has-not-union n s t f g =
     go (yes p) e = T-not (has n s) f (has-in n s p)
     go (no p) e = T-not (has n t) g (has-in n t (omega (arith, digit-union s t n, digit-lt s n, digit-lt t n)))
 
+-- a name that t does not hold
+pub has-union-none : (n s t : ℕ) → T (not (has n t)) → has n (union s t) ≡ has n s
+has-union-none n s t h =
+    test-ext
+    (has n (union s t))
+    (has n s)
+    (λ k. has-in n s (omega (arith, has-out n (union s t) k, digit-union s t n, none, digit-lt s n)))
+    (λ k. has-in n (union s t) (omega (arith, has-out n s k, digit-union s t n, digit-lt t n)))
+  where
+    none : digit t n ≡ 0
+    none = go (ℕ-discrete (digit t n) 1)
+      where
+        go : Dec (digit t n ≡ 1) → digit t n ≡ 0
+        go (yes e) = absurd (T-not (has n t) h (has-in n t e))
+        go (no f) = let l = digit-lt t n in below-two (digit t n) f l
+          where
+            below-two : (d : ℕ) → (d ≡ 1 → ⊥) → d < 2 → d ≡ 0
+            below-two zero f l = refl
+            below-two (suc zero) f l = absurd (f refl)
+            below-two (suc (suc d)) f l = absurd (omega (arith, l))
+
 pub has-empty : (n : ℕ) → T (not (has n 0))
 has-empty n = not-T (has n 0) (λ h. omega (arith, has-out n 0 h, digit-empty n))
 

@@ -4,7 +4,7 @@
 -- No contract cites this file: the proofs of this crate and of those above it do. Assumes nothing.
 use Prim.Native.Nat.{ℕ, zero, suc, _+_, _*_, _-_, _/_, _%_, _^_, _≤_, _<_}
 use mathlib.Core.Path.{_≡_, refl, sym, ap, _∙_}
-use mathlib.Core.List.{List, [], _∷_, _++_, append-assoc, append-nil}
+use mathlib.Core.List.{List, [], _∷_, _++_, map, map-append, append-assoc, append-nil}
 use mathlib.Core.Logic.{_⊎_, ⊎-elim}
 use native.Mathlib.Nat.{zero-add, add-zero, add-suc, suc-add, suc-mul, mul-assoc, pow-zero, pow-suc, pow-succ', mod-add-div, div-lt-iff-lt-mul, eq-or-lt-of-le, le-of-suc-le-suc}
 use native.Mathlib.Numerals.{add-one}
@@ -262,3 +262,8 @@ module _ {A : Type 0} where
   unfolding tab
   tab-cong zero f g h = refl
   tab-cong (suc n) f g h = rw (tab-cong n f g (λ i p. h i (omega arith)), h n (omega arith))
+
+pub map-tab : {A B : Type 0} (f : A → B) (n : ℕ) (g : ℕ → A) → map f (tab n g) ≡ tab n (λ i. f (g i))
+unfolding tab
+map-tab f zero g = refl
+map-tab f (suc n) g = map-append f (tab n g) (g n ∷ []) ∙ rw (map-tab f n g)

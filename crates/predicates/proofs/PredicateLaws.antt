@@ -9,7 +9,8 @@ use Prim.Native.Nat.{ℕ, _^_, _≤_, _<_, min}
 use native.Mathlib.Omega.{arith}
 use lib.Dec.{T, T-not, not-T, eqb, eqb→eq, leb, leb→le, nleb→lt, ltb, ltb→lt, lt→ltb}
 use lib.Count.{ones}
-use lib.ListN.{length}
+use borrow.Author.Tests.{ne-eqb}
+use lib.ListN.{length, getD}
 use Rattle.names.specs.Sets.{subset, has}
 use Rattle.names.proofs.SetLaws.{subset-refl, subset-trans, subset-antisym, subset-le, empty-subset, ones-mono, test-ext}
 use Rattle.predicates.specs.Lists.{any, all, In}
@@ -361,3 +362,20 @@ not-true-full p n t m =
     let full : t ≡ 0 → ⊥ =
     λ e. T-not (isTrue p) n (any-in (λ u. eqb u 0) p t m (subst (λ (u : ℕ). T (eqb u 0)) (sym e) tt)) in
     omega arith
+
+-- a predicate in normal form is true where its first term is empty
+pub true-first : (p : List ℕ) → T (isNormal p) → 0 < length p → isTrue p ≡ eqb (getD p 0 0) 0
+unfolding isTrue isNormal
+true-first [] n h = absurd (omega arith)
+true-first (t ∷ p) n h = go (eqb t 0) (later p (both-l (all (λ u. precedes t u) p) (isNormal p) n))
+  where
+    go : (b : Bool) → any (λ u. eqb u 0) p ≡ false → b || any (λ u. eqb u 0) p ≡ b
+    go true e = refl
+    go false e = e
+
+    later : (q : List ℕ) → T (all (λ u. precedes t u) q) → any (λ u. eqb u 0) q ≡ false
+    later [] a = refl
+    later (u ∷ q) a =
+        let first = both-l (precedes t u) (all (λ v. precedes t v) q) a in
+        let less : t < u = ltb→lt t u (both-l (ltb t u) _ first) in
+        ap (λ (b : Bool). b || any (λ v. eqb v 0) q) (ne-eqb u 0 (λ e. omega arith)) ∙ later q (both-r (precedes t u) (all (λ v. precedes t v) q) a)

@@ -1,5 +1,5 @@
 -- Runs by the states that their bytes hold: on bytes in form, a request's number and the state that it leaves are those of the state read from them.
--- So a run with written-out requests computes on a few numbers instead of 5,236 bytes.
+-- So a run with written-out requests computes on a few numbers instead of 5,265 bytes.
 -- The idea: a taken call stores a right state, which is read back as it was stored (`put-state`); a refused one leaves the bytes. Assumes nothing.
 use Prim.Native.Nat.{ℕ, _≤_}
 use mathlib.Core.Path.{_≡_, refl, ap, _∙_}

@@ -16,19 +16,22 @@ use Rattle.predicates.specs.Predicates.{isNormal}
 use Rattle.predicates.specs.Lists.{all, In}
 use Rattle.predicates.proofs.ListLaws.{T-false, cond-ind, both-l, both-r}
 use Rattle.message.specs.Words.{payload, masks, endsLimit}
-use Rattle.message.specs.Read.{senderOf, countOf, headWordFits, isEnds, opens, start, span, pair, middle, kindsFit, checkFits, withSpan, readForm}
-use Rattle.message.specs.Read.{readFrom, readWords}
-use Rattle.message.specs.Write.{rewrittenAs}
+use Rattle.message.specs.Read.{senderOf, countOf, headWordFits, isEnds, opens, start, span, pair, middle, kindsFit, checkFits, withSpan}
+use Rattle.message.specs.Read.{shapeRefusal, contents, refusedOr}
+use Rattle.epochs.specs.Epochs.{epochsIn}
+use Rattle.radio.specs.Names.{wanted, namesOf}
+use Rattle.radio.specs.Read.{wordsLeast, wordsMost, epochCount, opening, epochsFit, readWords, epochWords}
+use Rattle.radio.specs.Write.{rewrittenAs}
 use Rattle.message.specs.declared.Interval.{Interval}
 use Rattle.message.specs.declared.Interval.the-variants.{Span, Bad}
 use Rattle.message.specs.declared.Reading.{Reading}
 use Rattle.message.specs.declared.Reading.the-variants.{Message, Refused}
-use Rattle.message.proofs.ReadLaws.{read-out, refused-above}
-use Rattle.message.proofs.MessageLaws.{length-message}
+use Rattle.radio.proofs.ReadLaws.{read-out, length-live, length-part, epochs-part, refused-above}
+use Rattle.message.proofs.MessageLaws.{length-message-more}
 use Rattle.clocks.specs.declared.Triple.{Triple}
 use Rattle.clocks.specs.declared.Readings.the-variants.{With}
 use Rattle.clocks.specs.Clocks.{readingsFail}
-use Rattle.state.specs.Layout.{stateSize, stateOf, ownAt, datumAt, stateBytes, joined}
+use Rattle.state.specs.Layout.{stateSize, stateOf, ownAt, epochsAt, datumAt, stateBytes, joined}
 use Rattle.state.specs.Refusal.{refuse, lent, after}
 use Rattle.state.specs.Form.{inForm}
 use Rattle.state.proofs.PutLaws.{drop-put}
@@ -54,7 +57,7 @@ use Rattle.monitor.proofs.MessageCalls.{delays-fit, read-words-in, words-in-tak
 use Rattle.monitor.proofs.CallLaws.{length-written-bytes}
 use Rattle.monitor.proofs.FormKept.{heard-in, delivered-ok, receive-passed}
 use Rattle.runs.specs.Demand1.{Exported, returned, lentBytes, leftBytes, listed, Test, firstFailing, wordsFail, countFails, endsFail}
-use Rattle.runs.specs.Demand1.{layoutSize, tests, Demand1, ofDelivered, endsFormSize, outputTests, deliveryTests, test, tooShort, monitorSetUp}
+use Rattle.runs.specs.Demand1.{layoutSize, tests, Demand1, ofDelivered, endsFormSize, namesWritten, outputTests, deliveryTests, test, tooShort, monitorSetUp}
 use Rattle.runs.specs.Demand1.{receiptTests, monitorReceiveWithReadings}
 use Rattle.runs.specs.Demand1.{monitorAge, monitorReceive, monitorAsk, monitorFewest, monitorWrite, messageRead, messageRewrite, messageTests}
 
@@ -64,26 +67,42 @@ isBad : Interval → Bool
 isBad Bad = true
 isBad (Span left right) = false
 
-span-bad : (ws : List ℕ) → isBad (span 1 (isEnds 1 ws) ws) ≡ endsFail ws
+span-bad : (ws : List ℕ) → isBad (span (opening ws) (isEnds (opening ws) ws) ws) ≡ endsFail ws
 unfolding span endsFail isBad
-span-bad ws = go (isEnds 1 ws)
+span-bad ws = go (isEnds (opening ws) ws)
   where
+    first : ℕ
+    first = pair ws (opening ws)
+
+    second : ℕ
+    second = pair ws (opening ws + 2)
+
     half : ℕ
-    half = payload (getD ws 3 0)
+    half = payload (getD ws (opening ws + 2) 0)
 
-    by-ends : (b : Bool) → leb (pair ws 1) (pair ws 3) ≡ b → isBad (cond b (Span (pair ws 1) (pair ws 3)) Bad) ≡ ltb (pair ws 3) (pair ws 1)
-    by-ends true e = rw (le-ltb (pair ws 3) (pair ws 1) (leb-true (pair ws 1) (pair ws 3) e))
-    by-ends false e = rw (lt-ltb (pair ws 3) (pair ws 1) (leb-false (pair ws 1) (pair ws 3) e))
+    by-ends : (b : Bool) → leb first second ≡ b → isBad (cond b (Span first second) Bad) ≡ ltb second first
+    by-ends true e = rw (le-ltb second first (leb-true first second e))
+    by-ends false e = rw (lt-ltb second first (leb-false first second e))
 
-    by-half : (a b : Bool) → leb half (pair ws 1) ≡ a → ltb (pair ws 1 + half) endsLimit ≡ b
-        → isBad (cond a (cond b (Span (pair ws 1 - half) (pair ws 1 + half)) Bad) Bad) ≡ ltb (pair ws 1) half || leb endsLimit (pair ws 1 + half)
-    by-half true true e f = rw (le-ltb (pair ws 1) half (leb-true half (pair ws 1) e), lt-leb endsLimit (pair ws 1 + half) (ltb-true _ endsLimit f))
-    by-half true false e f = rw (le-ltb (pair ws 1) half (leb-true half (pair ws 1) e), le-leb endsLimit (pair ws 1 + half) (ltb-false _ endsLimit f))
-    by-half false b e f = rw (lt-ltb (pair ws 1) half (leb-false half (pair ws 1) e))
+    by-half : (a b : Bool) → leb half first ≡ a → ltb (first + half) endsLimit ≡ b
+        → isBad (cond a (cond b (Span (first - half) (first + half)) Bad) Bad) ≡ ltb first half || leb endsLimit (first + half)
+    by-half true true e f = rw (le-ltb first half (leb-true half first e), lt-leb endsLimit (first + half) (ltb-true _ endsLimit f))
+    by-half true false e f = rw (le-ltb first half (leb-true half first e), le-leb endsLimit (first + half) (ltb-false _ endsLimit f))
+    by-half false b e f = rw (lt-ltb first half (leb-false half first e))
 
-    go : (b : Bool) → isBad (span 1 b ws) ≡ cond b (ltb (pair ws 3) (pair ws 1)) (ltb (pair ws 1) half || leb endsLimit (pair ws 1 + half))
-    go true = by-ends (leb (pair ws 1) (pair ws 3)) refl
-    go false = by-half (leb half (pair ws 1)) (ltb (pair ws 1 + half) endsLimit) refl refl
+    go : (b : Bool) → isBad (span (opening ws) b ws) ≡ cond b (ltb second first) (ltb first half || leb endsLimit (first + half))
+    go true = by-ends (leb first second) refl
+    go false = by-half (leb half first) (ltb (first + half) endsLimit) refl refl
+
+-- four tests, told by one number or one by one
+nest : (a b c d : Bool) (n : ℕ) →
+    let k : ℕ = cond (not a) 12 (cond (not b) 11 (cond (not c) 13 (cond (not d) 14 0))) in
+    cond (eqb k 0) n k ≡ refuse (not a) 12 (refuse (not b) 11 (refuse (not c) 13 (refuse (not d) 14 n)))
+nest false b c d n = refl
+nest true false c d n = refl
+nest true true false d n = refl
+nest true true true false n = refl
+nest true true true true n = refl
 
 -- f is a number by what was read: a refusal's own, and that of the tests us where the message is taken
 module _ (m : List ℕ) (f : Reading → ℕ) (us : List Test) (plain : (n : ℕ) → f (Refused n) ≡ n)
@@ -106,18 +125,36 @@ module _ (m : List ℕ) (f : Reading → ℕ) (us : List Test) (plain : (n : ℕ
   past-span sender count true (Span left right) e = taken sender left right count e
   past-span sender count false (Span left right) e = plain 17
 
+  -- a number of a refusal, and what comes next
+  past-or : (k : ℕ) (x : Reading) (n : ℕ) → readBytes m ≡ refusedOr k x → (readBytes m ≡ x → f x ≡ n) → f (refusedOr k x) ≡ cond (eqb k 0) n k
+  past-or k x n e h = by (eqb k 0) e
+    where
+      by : (b : Bool) → readBytes m ≡ cond b x (Refused k) → f (cond b x (Refused k)) ≡ cond b n k
+      by true e = h e
+      by false e = plain k
+
+  past-shape : (ws : List ℕ) (x : Reading) (n : ℕ) → readBytes m ≡ refusedOr (shapeRefusal (opening ws) ws) x → (readBytes m ≡ x → f x ≡ n)
+      → f (refusedOr (shapeRefusal (opening ws) ws) x)
+      ≡ refuse (not (headWordFits (getD ws 0 0))) 12
+      (refuse (not (opens (opening ws) ws)) 11
+      (refuse (countFails ws) 13 (refuse (not (kindsFit (opening ws) (isEnds (opening ws) ws) ws)) 14 n)))
+  unfolding shapeRefusal countFails
+  past-shape ws x n e h =
+      let at = opening ws in
+      past-or (shapeRefusal at ws) x n e h
+      ∙ nest (headWordFits (getD ws 0 0)) (opens at ws) (eqb (length ws) (start at (isEnds at ws) + countOf (getD ws 0 0) + 1)) (kindsFit at (isEnds at ws) ws) n
+
   read-first : f (readBytes m) ≡ firstFailing (messageTests m ++ us)
-  unfolding readBytes readWords readFrom readForm firstFailing wordsFail countFails
+  unfolding readBytes readWords contents firstFailing wordsFail
   read-first =
       let ws = wordsOf m in
-      past-words (eqb (length m % 4) 0) (ltb (length ws) 5 || ltb 14 (length ws)) _ _ refl (λ a.
-      past (not (headWordFits (getD ws 0 0))) 12 _ _ a (λ b.
-      past (not (opens 1 ws)) 11 _ _ b (λ c.
-      past (not (eqb (length ws) (start 1 (isEnds 1 ws) + countOf (getD ws 0 0) + 1))) 13 _ _ c (λ d.
-      past (not (kindsFit 1 (isEnds 1 ws) ws)) 14 _ _ d (λ e.
+      let at = opening ws in
+      past-words (eqb (length m % 4) 0) (ltb (length ws) wordsLeast || ltb wordsMost (length ws)) _ _ refl (λ a.
+      past-shape ws _ _ a (λ b.
+      past (not (epochsFit ws)) 42 _ _ b (λ e.
       past (not (checkFits ws)) 15 _ _ e (λ g.
       rw (← (span-bad ws))
-      (past-span (senderOf (getD ws 0 0)) (countOf (getD ws 0 0)) (isNormal (masks (middle 1 (isEnds 1 ws) ws))) (span 1 (isEnds 1 ws) ws) g)))))))
+      (past-span (senderOf (getD ws 0 0)) (countOf (getD ws 0 0)) (isNormal (masks (middle at (isEnds at ws) ws))) (span at (isEnds at ws) ws) g)))))
 
 -- ---- the numbers
 
@@ -127,25 +164,32 @@ read-number m out = read-first m (λ r. answered r (readingBytes r) out) (output
 
 -- what is written of a message that is read
 rewritten-size : {s l r n : ℕ} (m : List ℕ) → readBytes m ≡ Message s l r n
-    → length (rewrittenBytes m) ≡ endsFormSize (countOf (getD (wordsOf m) 0 0))
+    → length (rewrittenBytes m) ≡ endsFormSize (epochCount (wordsOf m)) (countOf (getD (wordsOf m) 0 0))
 rewritten-size {s} {l} {r} {n} m e =
-    let read : readWords (wordsOf m) ≡ Message s l r n = rw (words-in-taken m e) at (read-words-in m ∙ e) in
-    omega (arith, length-rewritten-bytes m e, read-out (wordsOf m) read .count)
+    let words = words-in-taken m e in
+    let read : readWords (wordsOf m) ≡ Message s l r n = rw words at (read-words-in m ∙ e) in
+    let live = read-out (wordsOf m) read in
+    let names : length (epochWords (Message s l r n) (wordsIn m)) ≡ epochCount (wordsOf m) =
+    ap (λ (ws : List ℕ). length (epochWords (Message s l r n) ws)) words
+    ∙ ap length (epochs-part live) ∙ length-part (wordsOf m) (omega (arith, length-live live)) in
+    omega (arith, length-rewritten-bytes m e, live .taken .count, names)
 
 rewrite-number : (m out : List ℕ) → returned (messageRewrite m out) ≡ firstFailing (tests (messageRewrite m out))
 unfolding returned tests rewriteNumber rewrittenBytes layoutSize answered firstFailing
 rewrite-number m out =
-    let size = endsFormSize (countOf (getD (wordsOf m) 0 0)) in
+    let size = endsFormSize (epochCount (wordsOf m)) (countOf (getD (wordsOf m) 0 0)) in
     read-first m (λ r. answered r (bytesOf (rewrittenAs r (wordsOf m))) out) (outputTests size out) (λ n. refl)
     (λ s l r n e.
     ap (λ (k : ℕ). refuse (ltb (length out) k) 24 0)
     (ap (λ (x : Reading). length (bytesOf (rewrittenAs x (wordsOf m)))) (sym e) ∙ rewritten-size m e))
 
-written-size : (s : List ℕ) (position : ℕ) → length (writtenBytes s position) ≡ endsFormSize (length (datumAt s position .terms))
+written-size : (s : List ℕ) (position : ℕ)
+    → length (writtenBytes s position) ≡ endsFormSize (namesWritten s position) (length (datumAt s position .terms))
 unfolding writtenWords
 written-size s position =
     let d = datumAt s position in
-    omega (arith, length-written-bytes s position, length-message (num ownAt 4 s) (d .left) (d .right) (d .terms))
+    let own = num ownAt 4 s in
+    omega (arith, length-written-bytes s position, length-message-more own (namesOf (epochsIn epochsAt s) (wanted own (d .terms))) (d .left) (d .right) (d .terms))
 
 -- what comes behind a test matters only where it lets pass
 refuse-same : (b : Bool) (number m n : ℕ) → (T (not b) → m ≡ n) → refuse b number m ≡ refuse b number n
@@ -255,8 +299,8 @@ room-tested (monitorReceiveWithReadings s least greatest t drift m) = inl refl
 room-tested (monitorAsk s limit out) = inr (inr (inr (inl refl)))
 room-tested (monitorFewest s out) = inr (inr (inl refl))
 room-tested (monitorWrite s position out) = inr (inr (inr (inl refl)))
-room-tested (messageRead m out) = inr (inr (inr (inr (inr (inr (inr (inr (inl refl))))))))
-room-tested (messageRewrite m out) = inr (inr (inr (inr (inr (inr (inr (inr (inl refl))))))))
+room-tested (messageRead m out) = inr (inr (inr (inr (inr (inr (inr (inr (inr (inl refl)))))))))
+room-tested (messageRewrite m out) = inr (inr (inr (inr (inr (inr (inr (inr (inr (inl refl)))))))))
 
 has-room : (c : Exported) → returned c ≡ 0 → layoutSize c ≤ length (lentBytes c)
 has-room c e =
@@ -291,12 +335,13 @@ read-sized m out = go (readBytes m) refl
     go (Refused number) e z = absurd (omega (arith, refused-above (wordsIn m) number (read-words-in m ∙ e)))
     go (Message s l r n) e z = refl
 
-rewrite-sized : (m out : List ℕ) → rewriteNumber m out ≡ 0 → length (rewrittenBytes m) ≡ endsFormSize (countOf (getD (wordsOf m) 0 0))
+rewrite-sized : (m out : List ℕ) → rewriteNumber m out ≡ 0
+    → length (rewrittenBytes m) ≡ endsFormSize (epochCount (wordsOf m)) (countOf (getD (wordsOf m) 0 0))
 unfolding rewriteNumber answered
 rewrite-sized m out = go (readBytes m) refl
   where
     go : (r : Reading) → readBytes m ≡ r → answered r (rewrittenBytes m) out ≡ 0
-        → length (rewrittenBytes m) ≡ endsFormSize (countOf (getD (wordsOf m) 0 0))
+        → length (rewrittenBytes m) ≡ endsFormSize (epochCount (wordsOf m)) (countOf (getD (wordsOf m) 0 0))
     go (Refused number) e z = absurd (omega (arith, refused-above (wordsIn m) number (read-words-in m ∙ e)))
     go (Message s l r n) e z = rewritten-size m e
 

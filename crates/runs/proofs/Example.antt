@@ -5,18 +5,23 @@ use mathlib.Core.Path.{_≡_, refl, ap, _∙_}
 use mathlib.Core.List.{List, map}
 use native.Mathlib.Nat.{le-refl}
 use lib.ListN.{length, length-replicate}
-use Rattle.names.specs.Sets.{subset, has}
+use Rattle.names.specs.Sets.{subset, union, minus, has}
 use Rattle.numbers.specs.Numbers.{num, bytes, tab, wordsOf, bytesOf}
 use Rattle.predicates.specs.Predicates.{holds, implies, isTrue, isNormal, struck, insert, rising, minimal, normal, formed}
 use Rattle.message.specs.Words.{ofKind, masks, wordSum, check}
-use Rattle.message.specs.Read.{headWordFits, isEnds, opens, width, spanKinds, middle, kindsFit, checkFits, pair, span, withSpan, readForm, readFrom}
-use Rattle.message.specs.Read.{readWords, termWords}
+use Rattle.message.specs.Read.{headWordFits, isEnds, opens, width, spanKinds, middle, kindsFit, checkFits, pair, span, withSpan}
+use Rattle.message.specs.Read.{shapeRefusal, contents, termWords}
+use Rattle.epochs.specs.Epochs.{withdraw, older, raised, told, spoken}
+use Rattle.radio.specs.Names.{named, wanted, rises, namesFit, namesOf}
+use Rattle.radio.specs.Read.{leading, epochCount, epochPart, epochsFit, readWords, epochWords}
 use Rattle.message.specs.Write.{endWords, front, body, messageWords}
 use Rattle.state.specs.Layout.{stateSize, zeros}
-use Rattle.entries.specs.Entries.{explained, learn}
+use Rattle.entries.specs.Entries.{explained, learn, withdrawnEntries}
 use Rattle.steps.specs.Steps.{disjoint, learnt, unexplained, same, meet, met, without, betters, stored, heldAfter, settled, received, blamed, swept, judged, tooMany}
+use Rattle.steps.specs.Withdrawn.{withdrawnDatum, withdrawnData, withdrawn}
 use Rattle.engine.specs.Ageing.{leastAdvance, greatestAdvance, slow, fast, widened, aged}
 use Rattle.engine.specs.Receiving.{grown}
+use Rattle.engine.specs.Hearing.{spokenBy, risen, late, cleared, hearing, heeded, arrived}
 use Rattle.clocks.specs.Clocks.{strays, aheadOf, behindOf, saving, violates, readingsFail, violatedBy, watched}
 use Rattle.engine.specs.Calls.{begun, setUp, violated, moved, made, done}
 use Rattle.engine.specs.Refusals.{setUpRefusal, passesEnd, ageRefusal, receiptRefusal}
@@ -31,11 +36,13 @@ use Rattle.runs.proofs.DecodedRuns.{numberOn, doneBy, next, stepsFrom, 
 
 example-states : (map (λ (p : Step). p .number) (stepsFrom (setUp exampleSetup) exampleRequests) ≡ exampleNumbers)
     × (bookOf (opened exampleSetup) (stepsFrom (setUp exampleSetup) exampleRequests) .lines ≡ exampleLines)
-unfolding subset has holds implies isTrue isNormal struck insert rising minimal normal formed
+unfolding subset union has holds implies isTrue isNormal struck insert rising minimal normal formed
     num bytes tab wordsOf bytesOf
     ofKind masks wordSum check headWordFits isEnds opens width spanKinds middle kindsFit checkFits
-    pair span withSpan readForm readFrom readWords termWords
+    pair span withSpan shapeRefusal contents readWords termWords
     endWords front body messageWords readBytes
+    minus withdraw older raised told spoken named wanted rises namesFit namesOf leading epochCount epochPart epochsFit epochWords
+    spokenBy risen late cleared hearing heeded arrived withdrawnData withdrawnEntries withdrawn
     leastAdvance greatestAdvance slow fast widened aged
     grown disjoint explained learn learnt unexplained same meet met without betters stored heldAfter settled received
     strays aheadOf behindOf saving violates readingsFail violatedBy watched violated blamed swept judged
@@ -61,7 +68,7 @@ example-holds buffer h =
       ap (λ (ps : List Step). bookOf (opened exampleSetup) ps .lines) (run-steps r) ∙ example-states .1,
     )
 
--- the run in 5,236 zeros
+-- the run in 5,265 zeros
 pub example : Run
 unfolding Example
 example =

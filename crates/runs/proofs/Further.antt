@@ -10,14 +10,18 @@ use native.Mathlib.Nat.{le-trans}
 use lib.IntN.{ℤ}
 use Rattle.state.specs.Model.{Head}
 use Rattle.clocks.specs.declared.Readings.the-variants.{Without}
+use Rattle.epochs.specs.Epochs.{NotAbove}
 use Rattle.engine.specs.Receiving.{Delivery, grown}
+use Rattle.engine.specs.Hearing.{spokenBy, hearing, heeded}
 use Rattle.engine.specs.Calls.{Setup, Call, age, receive, clockOf, violated, moved}
 use Rattle.engine.proofs.WatchLaws.{watched-none, violated-none}
+use Rattle.engine.proofs.HearingLaws.{heeded-none, quiet-hearing}
+use Rattle.asking.specs.Instants.{Allowed}
 use Rattle.monitor.specs.Receive.{Delivered, refused, brings, delivered}
 use Rattle.monitor.proofs.FormKept.{brought-readings}
 use Rattle.runs.specs.Book.{Request, ageing, receipt, Step, Line, heard, Book, opened, linesOf, entered, enteredRequest, noted, bookOf, sees}
 use Rattle.runs.specs.Book.{enteredDelivery, EndsOn}
-use Rattle.runs.specs.Runs.{Run, stepsOf, book, ifTaken, takenOf, Extra, Further, Demand3·more, Demand3·whole}
+use Rattle.runs.specs.Runs.{Run, stepsOf, book, ifTaken, takenOf, Quiet, Extra, Further, Demand3·more, Demand3·whole}
 use Rattle.runs.proofs.Agreement.{ends-out, ends-in}
 use Rattle.runs.proofs.Demand3.{demand3}
 
@@ -54,15 +58,17 @@ less-call c b q l =
           ends-in v (b .lines) (linesOf (b .head) q) (w .0) x (l .ends v (w .0) (w .1)) (rw (← (l .head)) (w .2));
     }
 
--- a receipt in the first alone, without readings: it enters its own line, and nothing is saved
-less-receipt : (c b : Book) (g : Delivery) → g .readings ≡ Without → Less c b → Less (entered c (receive g)) b
+-- a receipt in the first alone, without readings and without an epoch above the known one: it enters its own line, nothing is saved, no epoch rises
+less-receipt : (c b : Book) (g : Delivery) → g .readings ≡ Without → NotAbove (spokenBy (c .head) g) (c .head .epochs) → Less c b
+    → Less (entered c (receive g)) b
 unfolding entered moved linesOf violated
-less-receipt c b g e l =
+less-receipt c b g e q l =
+    let none = heeded-none (c .head) g e in
     record {
-      head = rw (watched-none (g .readings) (g .sender) (c .head .clocks) e) (l .head);
+      head = rw (quiet-hearing (c .head) g q, watched-none (heeded (c .head) g) (g .sender) (c .head .clocks) none) (l .head);
       ends = λ v x p.
-          let own-line = rw (violated-none (c .head .drift) (clockOf (c .head) (g .sender)) (g .readings) e) at p in
-          let w = ends-out v (c .lines) (heard (grown (c .head) g) ∷ []) x own-line in
+          let own-line = rw (violated-none (c .head .drift) (clockOf (hearing (c .head) g) (g .sender)) (heeded (c .head) g) none) at p in
+          let w = ends-out v (c .lines) (heard (spokenBy (c .head) g) (grown (c .head) g) ∷ []) x own-line in
           rw (w .2 .1) at (l .ends v (w .0) (w .1));
     }
 
@@ -76,16 +82,16 @@ module _ (c b : Book) (l : Less c b) where
       go (refused number) = l
       go (brings d) = less-call c b _ l
 
-  less-more : (q : Request) → Extra q → Less (enteredRequest c q) b
+  less-more : (q : Request) → Extra c q → Less (enteredRequest c q) b
   unfolding enteredRequest enteredDelivery
   less-more (ageing reading) e = absurd e
-  less-more (receipt g) e = go (delivered g) refl
+  less-more (receipt g) e = go (delivered g) refl (e .1)
     where
-      go : (d : Delivered) → delivered g ≡ d → Less (enteredDelivery c d) b
-      go (refused number) p = l
-      go (brings d) p = less-receipt c b d (brought-readings g d p ∙ e) l
+      go : (d : Delivered) → delivered g ≡ d → Quiet (c .head) d → Less (enteredDelivery c d) b
+      go (refused number) p q = l
+      go (brings d) p q = less-receipt c b d (brought-readings g d p ∙ e .0) q l
 
-less-written : (qs ps : List Request) (c b : Book) → Less c b → Further ps qs → Less (written c qs) (written b ps)
+less-written : (qs ps : List Request) (c b : Book) → Less c b → Further c ps qs → Less (written c qs) (written b ps)
 unfolding written
 less-written [] [] c b l f = l
 less-written [] (p ∷ ps) c b l f = absurd f
@@ -96,7 +102,7 @@ less-written (q ∷ qs) (p ∷ ps) c b l (inr f) = less-written qs (p ∷ ps) (e
 
 -- ---- two runs
 
-books-less : (P Q : Run) → P .setup ≡ Q .setup → Further (takenOf (stepsOf P)) (takenOf (stepsOf Q)) → Less (book Q) (book P)
+books-less : (P Q : Run) → P .setup ≡ Q .setup → Further (opened (Q .setup)) (takenOf (stepsOf P)) (takenOf (stepsOf Q)) → Less (book Q) (book P)
 unfolding book
 books-less P Q e f =
     let b = opened (P .setup) in
@@ -108,7 +114,8 @@ pub demand3·more : Demand3·more
 unfolding Demand3·more
 demand3·more P Q e f limitP limitQ le x (s, a, p) =
     let l = books-less P Q e f in
-    (s, record { names = a .names; few = le-trans (a .few) le; others = rw (l .head) at (a .others) }, l .ends (sees s) x p)
+    let allowed : Allowed limitP (book P .head .own) s = record { names = a .names; few = le-trans (a .few) le; others = rw (l .head) at (a .others) } in
+    (s, allowed, subst (λ (h : Head). EndsOn (sees (h .epochs) s) (book P .lines) x) (l .head) (l .ends (sees (book Q .head .epochs) s) x p))
 
 -- ---- the whole demand
 

@@ -5,12 +5,14 @@ pub mod SameBytes
 pub mod PartsStay
 pub mod ReceiptMeaning
 pub mod BlameMeaning
+pub mod WithdrawnMeaning
 pub mod AgeingMeaning
 pub mod Agreement
 pub mod Runs
 pub mod Answers
 pub mod Demand3
 pub mod Further
+pub mod ByNames
 pub mod DecodedRuns
 pub mod WorkedCases
 pub mod Example

@@ -34,7 +34,7 @@ use Rattle.runs.specs.Book.{Request, ageing, receipt, Book, opened, ente
 use Rattle.runs.specs.Runs.{requestNumber}
 use Rattle.runs.specs.Runs.{bytesAfter, bytesRun, steps, Run, begin, stateAfter, stepsOf, book, SetBySet}
 use Rattle.monitor.proofs.FormKept.{heard-in, receive-passed}
-use Rattle.runs.proofs.Agreement.{Agrees, agrees-none, Given, call-agrees}
+use Rattle.runs.proofs.Agreement.{Agrees, agrees-none, Given, Known, call-known, call-agrees}
 
 -- ---- the invariant
 
@@ -42,20 +42,22 @@ pub record Sound (s : List ℕ) (b : Book) : Type 0 where
   pub long : stateSize ≤ length s
   pub form : T (inForm s)
   pub head : b .head ≡ headOf s
-  pub each : (f : ℕ) → Agrees (sees f) f (storeOf s) (b .lines)
+  pub known : Known (b .head .epochs) (b .lines)
+  pub each : (f : ℕ) → Agrees (sees (b .head .epochs) f) f (storeOf s) (b .lines)
 
 -- a right state that agrees with the book, stored in front
 put-sound : (st : State) (s : List ℕ) (b : Book) → T (stateOk st) → stateSize ≤ length s → b .head ≡ st .head
-    → ((f : ℕ) → Agrees (sees f) f (st .store) (b .lines)) → Sound (put 0 (stateBytes st) s) b
+    → Known (b .head .epochs) (b .lines) → ((f : ℕ) → Agrees (sees (b .head .epochs) f) f (st .store) (b .lines)) → Sound (put 0 (stateBytes st) s) b
 unfolding stateOf
-put-sound st s b t h e ag =
+put-sound st s b t h e known ag =
     let u = put 0 (stateBytes st) s in
     let same : stateOf u ≡ st = put-state st s t h in
     record {
       long = rw length-put h;
       form = put-form st s t h;
       head = e ∙ sym (ap (λ (z : State). z .head) same);
-      each = λ f. subst (λ (z : State). Agrees (sees f) f (z .store) (b .lines)) (sym same) (ag f);
+      known = known;
+      each = λ f. subst (λ (z : State). Agrees (sees (b .head .epochs) f) f (z .store) (b .lines)) (sym same) (ag f);
     }
 
 -- ---- a call
@@ -66,7 +68,8 @@ module _ (s : List ℕ) (b : Book) (so : Sound s b) where
   unfolding done entered stateOf
   taken-sound c g t =
       put-sound (done (stateOf s) c) s (entered b c) t (so .long) (ap (λ (h : Head). moved h c) (so .head))
-      (λ f. rw (so .head) (call-agrees (headOf s) c g f (storeOf s) (b .lines) (so .each f)))
+      (call-known (b .head) c (b .lines) (so .known))
+      (λ f. rw (← (so .head)) (call-agrees (b .head) c g (storeOf s) (b .lines) (so .known) (so .each) f))
 
   -- what a call leaves and what the book has then
   abbrev Noted : Request → ℕ → List ℕ → Type 0
@@ -86,7 +89,7 @@ module _ (s : List ℕ) (b : Book) (so : Sound s b) where
     where
       go : (r : Reading) → readBytes (g .message) ≡ r → deliveredNumber (stateOf s) (deliveredAs g r) ≡ 0
           → Sound (put 0 (stateBytes (deliveredState (stateOf s) (deliveredAs g r))) s) (enteredDelivery b (deliveredAs g r))
-      go (Refused number) e z = put-sound (stateOf s) s b (form-ok s (so .form)) (so .long) (so .head) (so .each)
+      go (Refused number) e z = put-sound (stateOf s) s b (form-ok s (so .form)) (so .long) (so .head) (so .known) (so .each)
       go (Message sender left right n) e z =
           let heard = heard-in (g .least) (g .greatest) (g .readings) (g .message) d f e in
           taken-sound (receive _) heard (receive-ok (stateOf s) _ (form-ok s (so .form)) heard z)
@@ -114,8 +117,8 @@ begin-sound r =
     let s = r .buffer in
     let a = refuse-none (ltb (length s) stateSize) 24 (setUpRefusal (r .setup)) (omega arith) (r .taken) in
     rw (r .taken)
-    (put-sound (setUp (r .setup)) s (opened (r .setup)) (set-up-ok (r .setup) (a .1)) (nltb→le (length s) stateSize (a .0)) refl
-    (λ f. agrees-none (sees f) f))
+    (put-sound (setUp (r .setup)) s (opened (r .setup)) (set-up-ok (r .setup) (a .1)) (nltb→le (length s) stateSize (a .0)) refl tt
+    (λ f. agrees-none (sees (begun (r .setup) .epochs) f) f))
 
 pub reached : (r : Run) → Sound (stateAfter r) (book r)
 unfolding stateAfter book stepsOf

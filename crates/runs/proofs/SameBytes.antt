@@ -1,4 +1,5 @@
--- Two taken calls that leave every byte: an ageing to an equal reading, and a receipt without readings whose predicate is true.
+-- Two taken calls that leave every byte: an ageing to an equal reading, and a receipt without readings and without a rise, whose predicate
+-- is true.
 -- The idea: the crate `engine` has that the state stays (`age-same`, `receive-same`), and storing the state that is there changes nothing
 -- (`put-state-same`). Assumes nothing.
 use Prim.Native.Nat.{ℕ, _≤_}
@@ -45,11 +46,11 @@ readings-none r e = subst (λ (x : Readings). readingsFail x ≡ false) (sym e) 
 
 pub true-receipt : TrueReceipt
 unfolding TrueReceipt receiveNumber receiveState deliveredNumber deliveredState stateOf
-true-receipt s b h t g d w e true =
+true-receipt s b h t g d w e q true =
     let none = brought-readings g d e ∙ w in (
-      after-same _ (deliveredState (stateOf s) (delivered g)) s b h t (rw e (receive-same (stateOf s) (form-ok s t) d none true)),
+      after-same _ (deliveredState (stateOf s) (delivered g)) s b h t (rw e (receive-same (stateOf s) (form-ok s t) d none q true)),
       λ delays other below.
           lent-next s _ h t
           ∙ rw (T-false (delaysFail (g .least) (g .greatest)) delays, readings-none (g .readings) w, e)
-          (receive-true (stateOf s) (form-ok s t) d none true other below),
+          (receive-true (stateOf s) (form-ok s t) d none q true other below),
     )

@@ -7,25 +7,30 @@ use mathlib.Core.Bool.{Bool, true, false, _&&_}
 use mathlib.Core.List.{List, [], _∷_}
 use native.Mathlib.Omega.{arith}
 use lib.Dec.{T, eqb, eqb→eq, nltb→le}
-use lib.ListN.{length}
-use Rattle.names.specs.Sets.{subset, union, has}
+use lib.ListN.{length, getD}
+use Rattle.names.specs.Sets.{subset, union, minus, has}
 use Rattle.numbers.specs.Numbers.{num, bytes, tab, wordsOf, bytesOf}
 use Rattle.predicates.specs.Lists.{all}
 use Rattle.predicates.specs.Predicates.{holds, implies, isTrue, isNormal, struck, insert, rising, minimal, normal, formed}
 use Rattle.predicates.proofs.ListLaws.{both-l, both-r, T-true, all-out}
 use Rattle.message.specs.Words.{ofKind, masks, wordSum, check}
-use Rattle.message.specs.Read.{headWordFits, isEnds, opens, width, spanKinds, middle, kindsFit, checkFits, pair, span, withSpan, readForm, readFrom}
-use Rattle.message.specs.Read.{readWords, termWords}
+use Rattle.message.specs.Read.{headWordFits, isEnds, opens, width, spanKinds, middle, kindsFit, checkFits, pair, span, withSpan}
+use Rattle.message.specs.Read.{shapeRefusal, contents, termWords}
+use Rattle.epochs.specs.Epochs.{withdraw, older, raised, told, spoken}
+use Rattle.radio.specs.Names.{named, wanted, rises, namesFit, namesOf}
+use Rattle.radio.specs.Read.{leading, epochCount, epochPart, epochsFit, readWords, epochWords}
 use Rattle.message.specs.Write.{endWords, front, body, messageWords}
 use Rattle.state.specs.Model.{Datum, datum, State}
 use Rattle.state.specs.Layout.{stateSize, headOf, storeOf, stateOf}
 use Rattle.state.specs.Form.{inForm}
 use Rattle.state.proofs.LentLaws.{refuse-none, lent-next}
-use Rattle.entries.specs.Entries.{explained, learn}
+use Rattle.entries.specs.Entries.{explained, learn, withdrawnEntries}
 use Rattle.steps.specs.Steps.{disjoint, learnt, unexplained, same, meet, met, without, betters, stored, heldAfter, settled, received, blamed, swept, judged, tooMany}
+use Rattle.steps.specs.Withdrawn.{withdrawnDatum, withdrawnData, withdrawn}
 use Rattle.steps.proofs.ReceiveLaws.{same-out}
 use Rattle.engine.specs.Ageing.{leastAdvance, greatestAdvance, slow, fast, widened, aged}
 use Rattle.engine.specs.Receiving.{grown}
+use Rattle.engine.specs.Hearing.{spokenBy, risen, late, cleared, hearing, heeded, arrived}
 use Rattle.clocks.specs.declared.Triple.{Triple}
 use Rattle.clocks.specs.Clocks.{strays, aheadOf, behindOf, Saved, nothing, three, saving as Clocks·saving, violates, readingsFail, violatedBy, watched}
 use Rattle.clocks.specs.Worked.{triple}
@@ -40,7 +45,7 @@ use Rattle.monitor.specs.Calls.{ageNumber}
 use Rattle.monitor.specs.Ask.{limitMost, limitFails, limitRefusal, askNumber}
 use Rattle.runs.specs.Book.{Step}
 use Rattle.runs.specs.Runs.{stateAfter}
-use Rattle.runs.specs.Cases.{Question, asking, refusing, holding, knowing, saving, forming, advancing, returning, Case, Comes, runOf, CaseComes, cases, EachCase}
+use Rattle.runs.specs.Cases.{Question, asking, refusing, holding, knowing, saving, dating, forming, advancing, returning, Case, Comes, runOf, CaseComes, cases, EachCase}
 use Rattle.runs.proofs.DecodedRuns.{numberOn, doneBy, next, stepsFrom, stateFrom, set-up-taken, number-on, run-steps, run-state}
 use Rattle.runs.proofs.Runs.{reached}
 use Rattle.runs.proofs.Demand3.{ask-answers}
@@ -84,6 +89,7 @@ meets st (refusing limit number) = limitFails limit && eqb (limitRefusal limit 0
 meets st (holding ds) = alike sameDatum (st .store .held) ds
 meets st (knowing es) = alike same (st .store .entries) es
 meets st (saving name v) = sameSaved (clockOf (st .head) name) v
+meets st (dating identifier epoch) = eqb (getD (st .head .epochs) identifier 0) epoch
 meets st (forming sender terms p) = same (formed (st .head .own) sender terms) p
 meets st (advancing reading lo hi) = eqb (ageRefusal st reading) 0 && (eqb (slow (st .head) reading) lo && eqb (fast (st .head) reading) hi)
 meets st (returning q number) = eqb (numberOn st q) number
@@ -98,8 +104,10 @@ each-passes : T (all passes cases)
 unfolding subset union has holds implies isTrue isNormal struck insert rising minimal normal formed
     num bytes tab wordsOf bytesOf
     ofKind masks wordSum check headWordFits isEnds opens width spanKinds middle kindsFit checkFits
-    pair span withSpan readForm readFrom readWords termWords
+    pair span withSpan shapeRefusal contents readWords termWords
     endWords front body messageWords readBytes
+    minus withdraw older raised told spoken named wanted rises namesFit namesOf leading epochCount epochPart epochsFit epochWords
+    spokenBy risen late cleared hearing heeded arrived withdrawnData withdrawnEntries withdrawn
     leastAdvance greatestAdvance slow fast widened aged
     grown disjoint explained learn learnt unexplained same meet met without betters stored heldAfter settled received
     strays aheadOf behindOf Clocks·saving violates readingsFail violatedBy watched violated blamed swept judged
@@ -170,6 +178,7 @@ module _ (s : List ℕ) (h : stateSize ≤ length s) (t : T (inForm s)) where
   question-comes (holding ds) p = alike-out sameDatum same-datum-out (storeOf s .held) ds p
   question-comes (knowing es) p = alike-out same same-out (storeOf s .entries) es p
   question-comes (saving name v) p = same-saved-out (clockOf (headOf s) name) v p
+  question-comes (dating identifier epoch) p = eqb→eq (getD (headOf s .epochs) identifier 0) epoch p
   question-comes (forming sender terms q) p = same-out (formed (headOf s .own) sender terms) q p
   question-comes (advancing reading lo hi) p = (
     lent-next s (ageRefusal (stateOf s) reading) h t ∙ eqb→eq (ageRefusal (stateOf s) reading) 0 (search both-l),

@@ -4,14 +4,16 @@ use Prim.Native.Nat.{ℕ, _+_, _-_, _^_, _≤_}
 use mathlib.Core.Path.{_≡_}
 use mathlib.Core.List.{List, [], _∷_, _++_}
 use lib.Dec.{T, eqb}
-use lib.ListN.{length}
+use lib.ListN.{length, getD, replicate}
 use Rattle.numbers.specs.Numbers.{bytesOf}
 use Rattle.predicates.specs.Lists.{all, In}
 use Rattle.predicates.specs.Predicates.{formed}
 use Rattle.message.specs.Write.{messageWords}
+use Rattle.epochs.specs.Epochs.{epochsMost, name}
+use Rattle.radio.specs.Names.{wanted, namesOf}
 use Rattle.clocks.specs.declared.Triple.{Triple}
 use Rattle.clocks.specs.declared.Readings.the-variants.{With}
-use Rattle.clocks.specs.Clocks.{Saved, three}
+use Rattle.clocks.specs.Clocks.{Saved, nothing, three}
 use Rattle.clocks.specs.Worked.{triple}
 use Rattle.state.specs.Model.{Datum, datum}
 use Rattle.state.specs.Layout.{stateSize, headOf, storeOf}
@@ -41,6 +43,8 @@ pub data Question : Type 0 where
   forming : ℕ → List ℕ → List ℕ → Question
   -- of the name's clock this is saved
   saving : ℕ → Saved → Question
+  -- of the identifier this epoch is known
+  dating : ℕ → ℕ → Question
   -- an ageing to the reading has this least and this greatest advance
   advancing : ℕ → ℕ → ℕ → Question
   -- a request returns the number
@@ -61,6 +65,7 @@ Comes s (refusing limit number) = (out : List ℕ) → askNumber s limit out ≡
 Comes s (holding ds) = storeOf s .held ≡ ds
 Comes s (knowing es) = storeOf s .entries ≡ es
 Comes s (saving name v) = clockOf (headOf s) name ≡ v
+Comes s (dating identifier epoch) = getD (headOf s .epochs) identifier 0 ≡ epoch
 Comes s (forming sender terms p) = formed (headOf s .own) sender terms ≡ p
 Comes s (advancing reading lo hi) = (ageNumber s reading ≡ 0) × (slow (headOf s) reading ≡ lo) × (fast (headOf s) reading ≡ hi)
 Comes s (returning q number) = requestNumber s q ≡ number
@@ -80,32 +85,52 @@ pub record CaseComes (c : Case) (buffer : List ℕ) : Type 0 where
 abbrev pub given : Setup → List Request → Question → Case
 given u qs q = record { setup = u; requests = qs; question = q }
 
--- a monitor with this own name, drift 100 and reading 0, as the listing's `set 5 100 0`
+-- a monitor with this own name, drift 100, reading 0 and epoch 0, as the listing's `set 5 100 0 0`
 abbrev pub named : ℕ → Setup
-named own = record { own = own; drift = 100; reading = 0 }
+named own = record { own = own; drift = 100; reading = 0; epoch = 0 }
 
 -- the same without drift, and with the greatest
 abbrev pub steady : ℕ → Setup
-steady own = record { own = own; drift = 0; reading = 0 }
+steady own = record { own = own; drift = 0; reading = 0; epoch = 0 }
 
 abbrev pub hasty : ℕ → Setup
-hasty own = record { own = own; drift = 1_000; reading = 0 }
+hasty own = record { own = own; drift = 1_000; reading = 0; epoch = 0 }
+
+-- a mended one, under epoch 2
+abbrev pub renewed : ℕ → Setup
+renewed own = record { own = own; drift = 100; reading = 0; epoch = 2 }
 
 -- a receipt of a message of these words, "four bytes make a word", as the listing's `get`
 abbrev pub get : ℕ → ℕ → List ℕ → Request
 get least greatest words = receipt (receiptOf least greatest (bytesOf words))
 
+-- the words of a sender's message of an interval and terms, all under epoch 0
+abbrev pub said : ℕ → ℕ → ℕ → List ℕ → List ℕ
+said sender left right terms = messageWords sender (namesOf (replicate epochsMost 0) (wanted sender terms)) left right terms
+
 -- a receipt of sender 1's message of an interval, over a channel with these delays
 abbrev pub delayed : ℕ → ℕ → ℕ → ℕ → Request
-delayed least greatest left right = get least greatest (messageWords 1 [] left right [])
+delayed least greatest left right = get least greatest (said 1 left right [])
 
 -- a receipt of a sender's message of an interval and terms, over a channel without delay
 abbrev pub hear : ℕ → ℕ → ℕ → List ℕ → Request
-hear sender left right terms = get 0 0 (messageWords sender [] left right terms)
+hear sender left right terms = get 0 0 (said sender left right terms)
+
+-- the same under other names, given as epoch words
+abbrev pub hearNamed : List ℕ → ℕ → ℕ → ℕ → List ℕ → Request
+hearNamed names sender left right terms = get 0 0 (messageWords sender names left right terms)
+
+-- sender 1 mended, under epoch 1
+abbrev pub mended : ℕ → ℕ → Request
+mended left right = hearNamed (name 1 1 ∷ []) 1 left right []
 
 -- the same with the sender's clock reading, the own one, a half width and the sender's drift
 abbrev pub tick : ℕ → ℕ → ℕ → List ℕ → Triple → ℕ → Request
-tick sender left right terms t drift = receipt (receiptWith 0 0 (With t drift) (bytesOf (messageWords sender [] left right terms)))
+tick sender left right terms t drift = receipt (receiptWith 0 0 (With t drift) (bytesOf (said sender left right terms)))
+
+-- and under another name
+abbrev pub tickNamed : List ℕ → ℕ → ℕ → ℕ → List ℕ → Triple → ℕ → Request
+tickNamed names sender left right terms t drift = receipt (receiptWith 0 0 (With t drift) (bytesOf (messageWords sender names left right terms)))
 
 -- [0,10] from sender 1 with these readings and no drift
 abbrev pub one : ℕ → ℕ → ℕ → Request
@@ -117,13 +142,17 @@ drifting a b w = tick 1 0 10 [] (triple a b w) 100
 
 -- the requests of the listing, up to its first message, its ageing and its second message
 abbrev pub listingFirst : List Request
-listingFirst = get 0 50 (536870913 ∷ 1073741824 ∷ 1074741824 ∷ 1610612736 ∷ 1611612936 ∷ 3760096585 ∷ []) ∷ []
+listingFirst = get 0 50 (536870913 ∷ 1 ∷ 1073741824 ∷ 1074741824 ∷ 1610612736 ∷ 1611612936 ∷ 3760096586 ∷ []) ∷ []
 
 abbrev pub listingAged : List Request
 listingAged = listingFirst ++ (ageing 2_000_000 ∷ [])
 
 abbrev pub listingSecond : List Request
-listingSecond = listingAged ++ (get 0 0 (536870914 ∷ 1073741824 ∷ 1076742824 ∷ 1610612736 ∷ 1613613736 ∷ 3764098386 ∷ []) ∷ [])
+listingSecond = listingAged ++ (get 0 0 (536870914 ∷ 2 ∷ 1073741824 ∷ 1076742824 ∷ 1610612736 ∷ 1613613736 ∷ 3764098388 ∷ []) ∷ [])
+
+-- the terms {6} to {13}
+abbrev pub eightTerms : List ℕ
+eightTerms = 2 ^ 6 ∷ 2 ^ 7 ∷ 2 ^ 8 ∷ 2 ^ 9 ∷ 2 ^ 10 ∷ 2 ^ 11 ∷ 2 ^ 12 ∷ 2 ^ 13 ∷ []
 
 -- "name n being the bit of value 2^n": the predicate 1+3 is `2 ^ 1 ∷ 2 ^ 3 ∷ []`. "Under 1" is sender 1 without terms, "under 1+3" with the term {3}
 unfoldable pub cases : List Case
@@ -206,6 +235,38 @@ cases =
     -- the end so grown is the greatest, and one beyond it
     ∷ given (named 5) (delayed 0 1 0 (2 ^ 58 - 3) ∷ []) (holding (datum 0 (2 ^ 58 - 1) (2 ^ 1 ∷ []) ∷ []))
     ∷ given (named 5) [] (returning (delayed 0 1 0 (2 ^ 58 - 2)) 30)
+    -- document 02, W-204. A mended monitor is believed, and what its old name said or was blamed for no longer binds it, whichever comes first
+    ∷ given (named 5) (hear 1 0 10 [] ∷ hear 2 20 30 [] ∷ mended 22 40 ∷ []) (asking 0 (Between 22 30))
+    ∷ given (named 5) (hear 1 0 10 [] ∷ hear 2 20 30 [] ∷ mended 22 40 ∷ []) (knowing [])
+    ∷ given (named 5) (hear 1 0 10 [] ∷ hear 2 20 30 [] ∷ mended 22 40 ∷ []) (holding (datum 20 30 (2 ^ 2 ∷ []) ∷ datum 22 40 (2 ^ 1 ∷ []) ∷ []))
+    ∷ given (named 5) (mended 22 40 ∷ hear 1 0 10 [] ∷ hear 2 20 30 [] ∷ []) (asking 0 (Between 22 30))
+    -- its epoch is heard in a term, in a term that is struck, and from an old sender
+    ∷ given (named 5) (hear 1 0 10 [] ∷ hearNamed (name 1 1 ∷ name 2 0 ∷ []) 2 0 5 (2 ^ 1 ∷ []) ∷ []) (holding (datum 0 5 (2 ^ 1 ∷ 2 ^ 2 ∷ []) ∷ []))
+    ∷ given (named 5) (hear 1 0 10 [] ∷ hearNamed (name 1 1 ∷ name 2 0 ∷ name 5 0 ∷ []) 2 0 5 ((2 ^ 1 + 2 ^ 5) ∷ []) ∷ []) (holding (datum 0 5 (2 ^ 2 ∷ []) ∷ []))
+    ∷ given (named 5) (mended 0 10 ∷ hear 3 0 9 [] ∷ hearNamed (name 1 0 ∷ name 3 1 ∷ []) 1 0 5 (2 ^ 3 ∷ []) ∷ []) (holding (datum 0 10 (2 ^ 1 ∷ []) ∷ []))
+    -- a late name in a term counts as failed; alone in it, it makes the predicate true
+    ∷ given (named 5) (mended 0 10 ∷ hear 2 0 9 ((2 ^ 1 + 2 ^ 3) ∷ []) ∷ []) (holding (datum 0 10 (2 ^ 1 ∷ []) ∷ datum 0 9 (2 ^ 2 ∷ 2 ^ 3 ∷ []) ∷ []))
+    ∷ given (named 5) (mended 0 10 ∷ hear 2 0 9 (2 ^ 1 ∷ []) ∷ []) (holding (datum 0 10 (2 ^ 1 ∷ []) ∷ []))
+    -- two data of one predicate are not merged, and one that an entry implies stays
+    ∷ given (named 5) (hear 2 0 9 ((2 ^ 1 + 2 ^ 3) ∷ []) ∷ hear 2 3 20 (2 ^ 3 ∷ []) ∷ hearNamed (name 1 1 ∷ []) 1 0 30 [] ∷ [])
+    (holding (datum 0 9 (2 ^ 2 ∷ 2 ^ 3 ∷ []) ∷ datum 3 20 (2 ^ 2 ∷ 2 ^ 3 ∷ []) ∷ datum 0 30 (2 ^ 1 ∷ []) ∷ []))
+    ∷ given (named 5) (hear 2 0 9 ((2 ^ 1 + 2 ^ 3) ∷ []) ∷ hear 3 0 1 [] ∷ hear 3 5 6 [] ∷ hearNamed (name 1 1 ∷ []) 1 0 30 (0 ∷ []) ∷ [])
+    (holding (datum 0 9 (2 ^ 2 ∷ 2 ^ 3 ∷ []) ∷ []))
+    -- a violation's entry goes with the name, and so do its triples; an older name's readings are not heeded
+    ∷ given (steady 5) (one 0 0 1 ∷ one 100 103 1 ∷ mended 0 10 ∷ []) (knowing [])
+    ∷ given (steady 5) (one 0 0 1 ∷ one 100 103 1 ∷ mended 0 10 ∷ []) (saving 1 nothing)
+    ∷ given (steady 5) (one 0 0 1 ∷ tickNamed (name 1 1 ∷ []) 1 0 10 [] (triple 100 500 1) 0 ∷ [])
+    (saving 1 (three (triple 100 500 1) (triple 100 500 1) (triple 100 500 1)))
+    ∷ given (steady 5) (tickNamed (name 1 1 ∷ []) 1 0 10 [] (triple 0 0 1) 0 ∷ one 100 500 1 ∷ [])
+    (saving 1 (three (triple 0 0 1) (triple 0 0 1) (triple 0 0 1)))
+    -- "a message never changes the own epoch", and 18 comes under any
+    ∷ given (renewed 5) (hearNamed (name 1 0 ∷ name 2 0 ∷ name 5 9 ∷ []) 1 0 10 ((2 ^ 2 + 2 ^ 5) ∷ []) ∷ []) (dating 5 2)
+    ∷ given (renewed 5) (hearNamed (name 1 0 ∷ name 2 0 ∷ name 5 9 ∷ []) 1 0 10 ((2 ^ 2 + 2 ^ 5) ∷ []) ∷ []) (holding (datum 0 10 (2 ^ 1 ∷ []) ∷ []))
+    ∷ given (renewed 5) [] (returning (hearNamed (name 5 9 ∷ []) 5 0 10 []) 18)
+    ∷ given (named 5) (mended 0 10 ∷ []) (dating 1 1)
+    -- 31 counts after late names have left: nine terms, and with 6 old none but the empty one
+    ∷ given (named 5) [] (returning (hear 2 0 10 eightTerms) 31)
+    ∷ given (named 5) (hearNamed (name 6 1 ∷ []) 6 0 5 [] ∷ []) (returning (hear 2 0 10 eightTerms) 0)
     ∷ []
 
 -- "The cases marked P are proved together, as one table with a common statement": each row holds of the exported calls, in every buffer that has room

@@ -7,22 +7,26 @@ use mathlib.Core.Bool.{Bool, false, not, cond, _||_}
 use mathlib.Core.List.{List, [], _∷_, _++_, map}
 use lib.ListN.{length, getD, take, drop}
 use lib.Dec.{T, ltb, leb, eqb}
-use Rattle.numbers.specs.Numbers.{Bytes, wordsOf}
+use Rattle.numbers.specs.Numbers.{Bytes, num, wordsOf}
 use Rattle.predicates.specs.Lists.{any}
 use Rattle.predicates.specs.Predicates.{isTrue, isNormal}
-use Rattle.message.specs.Words.{payload, masks, endsLimit, wordsLeast, wordsMost}
+use Rattle.epochs.specs.Epochs.{NotAbove, epochsIn}
+use Rattle.message.specs.Words.{payload, masks, endsLimit}
 use Rattle.message.specs.Read.{countOf, headWordFits, isEnds, opens, start, middle, kindsFit, checkFits, pair}
+use Rattle.radio.specs.Names.{wanted, namesOf}
+use Rattle.radio.specs.Read.{wordsLeast, wordsMost, epochCount, opening, epochsFit}
 use Rattle.clocks.specs.declared.Triple.{Triple}
 use Rattle.clocks.specs.declared.Readings.the-variants.{Without, With}
 use Rattle.clocks.specs.Clocks.{fails}
 use Rattle.state.specs.Model.{State}
-use Rattle.state.specs.Layout.{stateSize, heldAt, entriesAt, clocksAt, headOf, storeOf, stateOf, datumAt}
+use Rattle.state.specs.Layout.{stateSize, ownAt, heldAt, entriesAt, clocksAt, epochsAt, headOf, storeOf, stateOf, datumAt}
 use Rattle.state.specs.Form.{inForm}
 use Rattle.state.specs.Refusal.{refuse}
 use Rattle.engine.specs.Ageing.{slow, fast, aged}
 use Rattle.engine.specs.Receiving.{Delivery, grown}
+use Rattle.engine.specs.Hearing.{spokenBy, arrived}
 use Rattle.engine.specs.Calls.{Setup}
-use Rattle.engine.specs.Refusals.{ownFails, driftFails, readingFails, goesBack, anEndPasses, delaysFail, fromSelf, growsPast, termsFail, overfills}
+use Rattle.engine.specs.Refusals.{ownFails, epochFails, driftFails, readingFails, goesBack, anEndPasses, delaysFail, fromSelf, growsPast, termsFail, overfills}
 use Rattle.monitor.specs.Messages.{readNumber, readOutput, rewriteNumber, rewriteOutput}
 use Rattle.monitor.specs.Calls.{setUpNumber, setUpState, ageNumber, ageState, noDatumAt, writeNumber, writeOutput}
 use Rattle.monitor.specs.Receive.{Receipt, receiptOf, receiptWith, Delivered, refused, brings, delivered, receiveNumber, receiveState}
@@ -83,18 +87,18 @@ leftBytes (messageRewrite m out) = rewriteOutput m out
 
 -- "Order: setting up 24, 1, 2, 3. Ageing 24, 25, 3, 20, 30. Reading a message alone, or rewriting it, 10, 12, 11, 13 to 17. Receiving 24, 25, 21, 10,
 -- 12, 11, 13 to 18, 30, 31, 32; [..] Asking 24, 25, 22; fewest 24, 25. Where an output is lent, 24 for it comes last. Writing 24 (state), 25, 23, 24
--- (output)." With readings 40 comes "after 21"
+-- (output)." With readings 40 comes "after 21"; by document 02, W-204, 41 comes "after 1" and 42 "after 14"
 unfoldable pub listed : Exported → List ℕ
-listed (monitorSetUp s u) = 24 ∷ 1 ∷ 2 ∷ 3 ∷ []
+listed (monitorSetUp s u) = 24 ∷ 1 ∷ 41 ∷ 2 ∷ 3 ∷ []
 listed (monitorAge s reading) = 24 ∷ 25 ∷ 3 ∷ 20 ∷ 30 ∷ []
-listed (monitorReceive s least greatest m) = 24 ∷ 25 ∷ 21 ∷ 10 ∷ 12 ∷ 11 ∷ 13 ∷ 14 ∷ 15 ∷ 16 ∷ 17 ∷ 18 ∷ 30 ∷ 31 ∷ 32 ∷ []
+listed (monitorReceive s least greatest m) = 24 ∷ 25 ∷ 21 ∷ 10 ∷ 12 ∷ 11 ∷ 13 ∷ 14 ∷ 42 ∷ 15 ∷ 16 ∷ 17 ∷ 18 ∷ 30 ∷ 31 ∷ 32 ∷ []
 listed (monitorReceiveWithReadings s least greatest t drift m) =
-    24 ∷ 25 ∷ 21 ∷ 40 ∷ 10 ∷ 12 ∷ 11 ∷ 13 ∷ 14 ∷ 15 ∷ 16 ∷ 17 ∷ 18 ∷ 30 ∷ 31 ∷ 32 ∷ []
+    24 ∷ 25 ∷ 21 ∷ 40 ∷ 10 ∷ 12 ∷ 11 ∷ 13 ∷ 14 ∷ 42 ∷ 15 ∷ 16 ∷ 17 ∷ 18 ∷ 30 ∷ 31 ∷ 32 ∷ []
 listed (monitorAsk s limit out) = 24 ∷ 25 ∷ 22 ∷ 24 ∷ []
 listed (monitorFewest s out) = 24 ∷ 25 ∷ 24 ∷ []
 listed (monitorWrite s position out) = 24 ∷ 25 ∷ 23 ∷ 24 ∷ []
-listed (messageRead m out) = 10 ∷ 12 ∷ 11 ∷ 13 ∷ 14 ∷ 15 ∷ 16 ∷ 17 ∷ 24 ∷ []
-listed (messageRewrite m out) = 10 ∷ 12 ∷ 11 ∷ 13 ∷ 14 ∷ 15 ∷ 16 ∷ 17 ∷ 24 ∷ []
+listed (messageRead m out) = 10 ∷ 12 ∷ 11 ∷ 13 ∷ 14 ∷ 42 ∷ 15 ∷ 16 ∷ 17 ∷ 24 ∷ []
+listed (messageRewrite m out) = 10 ∷ 12 ∷ 11 ∷ 13 ∷ 14 ∷ 42 ∷ 15 ∷ 16 ∷ 17 ∷ 24 ∷ []
 
 -- ---- the tests
 
@@ -119,34 +123,36 @@ tooShort n buffer = ltb (length buffer) n
 abbrev pub stateTests : List ℕ → List Test
 stateTests s = test (tooShort stateSize s) 24 ∷ test (not (inForm s)) 25 ∷ []
 
--- 10: "word count outside 5 to 14", and "a byte length that is not a multiple of 4 is number 10"
+-- 10: word count outside 6 to 43, and "a byte length that is not a multiple of 4 is number 10"
 unfoldable pub wordsFail : List ℕ → Bool
 wordsFail m = not (eqb (length m % 4) 0) || (ltb (length (wordsOf m)) wordsLeast || ltb wordsMost (length (wordsOf m)))
 
--- 13: "word count not that of head and form"
+-- 13: "word count not that of head and form"; it "counts" the epoch words
 unfoldable pub countFails : List ℕ → Bool
-countFails ws = not (eqb (length ws) (start 1 (isEnds 1 ws) + countOf (getD ws 0 0) + 1))
+countFails ws = not (eqb (length ws) (start (opening ws) (isEnds (opening ws) ws) + countOf (getD ws 0 0) + 1))
 
 -- 16: "left above right, or an end below 0 or above 2^58 − 1". In ends form the two words of an end never pass that; in centre form the ends are
 -- "centre less and plus half width"
 unfoldable pub endsFail : List ℕ → Bool
 endsFail ws =
-    let half = payload (getD ws 3 0) in
-    cond (isEnds 1 ws) (ltb (pair ws 3) (pair ws 1)) (ltb (pair ws 1) half || leb endsLimit (pair ws 1 + half))
+    let at = opening ws in
+    let half = payload (getD ws (at + 2) 0) in
+    cond (isEnds at ws) (ltb (pair ws (at + 2)) (pair ws at)) (ltb (pair ws at) half || leb endsLimit (pair ws at + half))
 
--- the words of a message: "10 word count outside 5 to 14; 11 second word neither kind 2 nor 4; 12 head not of kind 1, sender above 28, term count
+-- the words of a message: "10 word count outside" 6 to 43; "11 second word neither kind 2 nor 4", which is the one behind the epoch words; 12 head not of kind 1, sender above 28, term count
 -- above 8 or bits 10–28 not zero; 13 word count not that of head and form; 14 a later word of the wrong kind; 15 check word; 16 left above right, or
--- an end below 0 or above 2^58 − 1; 17 terms not in normal form"
+-- an end below 0 or above 2^58 − 1; 17 terms not in normal form"; "42 epoch words missing, unordered, too many or ill formed"
 abbrev pub wordTests : List ℕ → List ℕ → List Test
 wordTests m ws =
     test (wordsFail m) 10
     ∷ test (not (headWordFits (getD ws 0 0))) 12
-    ∷ test (not (opens 1 ws)) 11
+    ∷ test (not (opens (opening ws) ws)) 11
     ∷ test (countFails ws) 13
-    ∷ test (not (kindsFit 1 (isEnds 1 ws) ws)) 14
+    ∷ test (not (kindsFit (opening ws) (isEnds (opening ws) ws) ws)) 14
+    ∷ test (not (epochsFit ws)) 42
     ∷ test (not (checkFits ws)) 15
     ∷ test (endsFail ws) 16
-    ∷ test (not (isNormal (masks (middle 1 (isEnds 1 ws) ws)))) 17
+    ∷ test (not (isNormal (masks (middle (opening ws) (isEnds (opening ws) ws) ws)))) 17
     ∷ []
 
 -- of a message m, "four bytes make a word"
@@ -174,11 +180,15 @@ receiptTests s g = messageTests (g .message) ++ deliveryTests (stateOf s) (deliv
 
 -- ---- what a taken call may write
 
--- how many bytes a message in ends form with so many terms has: head, four words of the ends, the terms and the check word
-abbrev pub endsFormSize : ℕ → ℕ
-endsFormSize terms = 4 * (6 + terms)
+-- how many bytes a message in ends form with so many epoch words and terms has: head, epoch words, four words of the ends, the terms and the check word
+abbrev pub endsFormSize : ℕ → ℕ → ℕ
+endsFormSize names terms = 4 * (6 + names + terms)
 
--- the bytes at the front that the call's layout names: a state's 5,236; "asking writes 24 bytes", "fewest 16", "reading 32"; a message
+-- the epoch words of a held datum's message: one for the own name and for each identifier in its terms
+abbrev pub namesWritten : List ℕ → ℕ → ℕ
+namesWritten s position = length (namesOf (epochsIn epochsAt s) (wanted (num ownAt 4 s) (datumAt s position .terms)))
+
+-- the bytes at the front that the call's layout names: a state's 5,265; "asking writes 24 bytes", "fewest 16", "reading 32"; a message
 unfoldable pub layoutSize : Exported → ℕ
 layoutSize (monitorSetUp s u) = stateSize
 layoutSize (monitorAge s reading) = stateSize
@@ -186,9 +196,9 @@ layoutSize (monitorReceive s least greatest m) = stateSize
 layoutSize (monitorReceiveWithReadings s least greatest t drift m) = stateSize
 layoutSize (monitorAsk s limit out) = 24
 layoutSize (monitorFewest s out) = 16
-layoutSize (monitorWrite s position out) = endsFormSize (length (datumAt s position .terms))
+layoutSize (monitorWrite s position out) = endsFormSize (namesWritten s position) (length (datumAt s position .terms))
 layoutSize (messageRead m out) = 32
-layoutSize (messageRewrite m out) = endsFormSize (countOf (getD (wordsOf m) 0 0))
+layoutSize (messageRewrite m out) = endsFormSize (epochCount (wordsOf m)) (countOf (getD (wordsOf m) 0 0))
 
 -- ---- the tests of each call, in document 01's order
 
@@ -198,7 +208,12 @@ outputTests n out = test (tooShort n out) 24 ∷ []
 
 unfoldable pub tests : Exported → List Test
 tests (monitorSetUp s u) =
-    test (tooShort stateSize s) 24 ∷ test (ownFails (u .own)) 1 ∷ test (driftFails (u .drift)) 2 ∷ test (readingFails (u .reading)) 3 ∷ []
+    test (tooShort stateSize s) 24
+    ∷ test (ownFails (u .own)) 1
+    ∷ test (epochFails (u .epoch)) 41
+    ∷ test (driftFails (u .drift)) 2
+    ∷ test (readingFails (u .reading)) 3
+    ∷ []
 tests (monitorAge s reading) =
     stateTests s
     ++ (test (readingFails reading) 3
@@ -245,12 +260,12 @@ EqualReading =
     (s : List ℕ) → Bytes s → stateSize ≤ length s → T (inForm s)
     → (ageNumber s (headOf s .reading) ≡ 0) × (ageState s (headOf s .reading) ≡ s)
 
--- "If it is true, the receipt is taken and changes nothing", where it comes without readings: every byte stays, and only 21, 18
--- and 30 can refuse it, since "30 comes also for a predicate that is true"
+-- "If it is true, the receipt is taken and changes nothing", where it comes without readings and brings no epoch above the known one: every byte
+-- stays, and only 21, 18 and 30 can refuse it, since "30 comes also for a predicate that is true"
 unfoldable pub TrueReceipt : Type 0
 TrueReceipt =
     (s : List ℕ) → Bytes s → stateSize ≤ length s → T (inForm s) → (g : Receipt) (d : Delivery) → g .readings ≡ Without → delivered g ≡ brings d
-    → T (isTrue (grown (headOf s) d .terms))
+    → NotAbove (spokenBy (headOf s) d) (headOf s .epochs) → T (isTrue (arrived (headOf s) d .terms))
     → (receiveState s g ≡ s)
     × (T (not (delaysFail (g .least) (g .greatest))) → T (not (fromSelf (stateOf s) d)) → T (not (growsPast (stateOf s) d)) → receiveNumber s g ≡ 0)
 
@@ -260,9 +275,18 @@ TrueReceipt =
 unfoldable pub EntriesStay : Type 0
 EntriesStay = (s : List ℕ) → Bytes s → (reading : ℕ) → drop entriesAt (ageState s reading) ≡ drop entriesAt s
 
--- a receipt without readings leaves the names' clocks
+-- a receipt without readings that brings no epoch above the known one leaves the names' clocks and the epochs
 unfoldable pub ClocksStay : Type 0
-ClocksStay = (s : List ℕ) → Bytes s → (g : Receipt) → g .readings ≡ Without → drop clocksAt (receiveState s g) ≡ drop clocksAt s
+ClocksStay =
+    (s : List ℕ) → Bytes s → (g : Receipt) → g .readings ≡ Without
+    → ((d : Delivery) → delivered g ≡ brings d → NotAbove (spokenBy (headOf s) d) (headOf s .epochs))
+    → drop clocksAt (receiveState s g) ≡ drop clocksAt s
+
+-- a receipt leaves the own epoch: "a message never changes the own epoch"
+unfoldable pub OwnEpochStays : Type 0
+OwnEpochStays =
+    (s : List ℕ) (g : Receipt) → T (inForm s) → stateSize ≤ length s
+    → getD (headOf (receiveState s g) .epochs) (headOf s .own) 0 ≡ getD (headOf s .epochs) (headOf s .own) 0
 
 -- a receipt leaves own name, drift and reading
 unfoldable pub HeadStays : Type 0

@@ -2,8 +2,9 @@
 use Prim.Native.Nat.{ℕ, _+_, _^_, _≤_}
 use mathlib.Core.Path.{_≡_}
 use mathlib.Core.List.{List, [], _∷_, map}
-use lib.ListN.{length}
+use lib.ListN.{length, set, replicate}
 use Rattle.message.specs.Write.{messageWords}
+use Rattle.epochs.specs.Epochs.{epochsMost, name}
 use Rattle.clocks.specs.Worked.{triple}
 use Rattle.state.specs.Model.{datum}
 use Rattle.state.specs.Layout.{stateSize}
@@ -11,24 +12,24 @@ use Rattle.engine.specs.Calls.{Setup}
 use Rattle.monitor.specs.Calls.{setUpNumber}
 use Rattle.runs.specs.Book.{Request, ageing, Step, Line, advanced, heard, blames}
 use Rattle.runs.specs.Runs.{Run, stepsOf, book}
-use Rattle.runs.specs.Cases.{get, hear, tick}
+use Rattle.runs.specs.Cases.{get, said, hear, hearNamed, tick, eightTerms}
 
--- monitor 5, drift 100, reading 1,000,000
+-- monitor 5, drift 100, reading 1,000,000, epoch 3
 abbrev pub exampleSetup : Setup
-exampleSetup = record { own = 5; drift = 100; reading = 1_000_000 }
+exampleSetup = record { own = 5; drift = 100; reading = 1_000_000; epoch = 3 }
 
 unfoldable pub exampleRequests : List Request
 exampleRequests =
     -- one word is no message
     get 0 0 (536870913 ∷ [])
     -- over a channel with a delay of at most 50
-    ∷ get 0 50 (messageWords 1 [] 1_000_000 1_000_200 [])
+    ∷ get 0 50 (said 1 1_000_000 1_000_200 [])
     -- a reading below the last
     ∷ ageing 999_999
     -- from the own name
     ∷ hear 5 0 10 []
     -- the least delay is above the greatest
-    ∷ get 10 5 (messageWords 2 [] 3_001_000 3_001_000 [])
+    ∷ get 10 5 (said 2 3_001_000 3_001_000 [])
     ∷ ageing 3_000_000
     -- name 5, the receiver, is in its second term, which is struck out
     ∷ hear 2 3_001_000 3_001_000 (2 ^ 3 ∷ (2 ^ 4 + 2 ^ 5) ∷ [])
@@ -39,21 +40,32 @@ exampleRequests =
     -- two readings of sender 1's clock: the second violates the test
     ∷ tick 1 3_000_000 3_000_400 [] (triple 0 0 1) 0
     ∷ tick 1 3_000_000 3_000_400 [] (triple 100 103 1) 0
+    -- without an epoch word
+    ∷ get 0 0 (messageWords 1 [] 3_000_000 3_000_400 [])
+    -- sender 2 under epoch 1, with nine terms: no epoch is heard in what is refused
+    ∷ hearNamed (name 2 1 ∷ map (λ n. name n 0) (6 ∷ 7 ∷ 8 ∷ 9 ∷ 10 ∷ 11 ∷ 12 ∷ 13 ∷ [])) 2 3_000_000 3_000_400 eightTerms
+    -- sender 1 mended, under epoch 1
+    ∷ hearNamed (name 1 1 ∷ []) 1 3_000_000 3_000_400 []
     ∷ []
 
 unfoldable pub exampleNumbers : List ℕ
-exampleNumbers = 10 ∷ 0 ∷ 20 ∷ 18 ∷ 21 ∷ 0 ∷ 0 ∷ 0 ∷ 40 ∷ 0 ∷ 0 ∷ []
+exampleNumbers = 10 ∷ 0 ∷ 20 ∷ 18 ∷ 21 ∷ 0 ∷ 0 ∷ 0 ∷ 40 ∷ 0 ∷ 0 ∷ 42 ∷ 31 ∷ 0 ∷ []
+
+-- the epochs known at first: the own one, and 0
+abbrev pub atFirst : List ℕ
+atFirst = set (replicate epochsMost 0) 5 3
 
 -- the lines of the taken ones: "A refused call enters nothing", "a true one too"
 unfoldable pub exampleLines : List Line
 exampleLines =
-    heard (datum 1_000_000 1_000_251 (2 ^ 1 ∷ []))
+    heard atFirst (datum 1_000_000 1_000_251 (2 ^ 1 ∷ []))
     ∷ advanced 1_999_800 2_000_200
-    ∷ heard (datum 3_001_000 3_001_000 (2 ^ 2 ∷ 2 ^ 3 ∷ []))
-    ∷ heard (datum 0 0 (0 ∷ []))
-    ∷ heard (datum 3_000_000 3_000_400 (2 ^ 1 ∷ []))
-    ∷ blames 1
-    ∷ heard (datum 3_000_000 3_000_400 (2 ^ 1 ∷ []))
+    ∷ heard atFirst (datum 3_001_000 3_001_000 (2 ^ 2 ∷ 2 ^ 3 ∷ []))
+    ∷ heard atFirst (datum 0 0 (0 ∷ []))
+    ∷ heard atFirst (datum 3_000_000 3_000_400 (2 ^ 1 ∷ []))
+    ∷ blames atFirst 1
+    ∷ heard atFirst (datum 3_000_000 3_000_400 (2 ^ 1 ∷ []))
+    ∷ heard (set atFirst 1 1) (datum 3_000_000 3_000_400 (2 ^ 1 ∷ []))
     ∷ []
 
 -- the run in a buffer in which its setting up is taken

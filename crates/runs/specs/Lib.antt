@@ -1,5 +1,6 @@
 pub mod Demand1
 pub mod Book
 pub mod Runs
+pub mod ByNames
 pub mod Cases
 pub mod Example

@@ -10,15 +10,18 @@ use lib.ListN.{length}
 use lib.IntN.{ℤ, pos, negsuc}
 use Rattle.clocks.specs.declared.Readings.the-variants.{Without}
 use Rattle.state.specs.Layout.{storeOf}
+use Rattle.epochs.specs.Epochs.{NotAbove}
+use Rattle.state.specs.Model.{Head}
+use Rattle.engine.specs.Hearing.{spokenBy}
 use Rattle.engine.specs.Calls.{Setup}
 use Rattle.asking.specs.declared.Answer.{Answer}
 use Rattle.asking.specs.declared.Answer.the-variants.{Contradicted, Open, Between}
 use Rattle.asking.specs.Instants.{Allowed, Fine}
 use Rattle.asking.specs.Fewest.{FewestOf}
 use Rattle.monitor.specs.Calls.{setUpNumber, setUpState, ageNumber, ageState}
-use Rattle.monitor.specs.Receive.{receiveNumber, receiveState}
+use Rattle.monitor.specs.Receive.{Delivered, refused, brings, delivered, receiveNumber, receiveState}
 use Rattle.monitor.specs.Ask.{limitMost, answerSize, fewestSize, answerIn, fewestIn, askNumber, askOutput, fewestNumber, fewestOutput}
-use Rattle.runs.specs.Book.{Request, ageing, receipt, Step, Book, opened, bookOf, sees, EndsOn, Possible}
+use Rattle.runs.specs.Book.{Request, ageing, receipt, Step, Book, opened, enteredRequest, bookOf, sees, EndsOn, Possible}
 
 -- ---- a run
 
@@ -102,23 +105,30 @@ unfoldable pub takenOf : List Step → List Request
 takenOf [] = []
 takenOf (p ∷ ps) = ifTaken (p .number) (p .request) (takenOf ps)
 
--- what a further step may be: a receipt, and "Q's further receipts come without readings"
-abbrev pub Extra : Request → Type 0
-Extra (ageing reading) = ⊥
-Extra (receipt g) = g .readings ≡ Without
+-- what a message delivers brings "no epoch above the one known"
+abbrev pub Quiet : Head → Delivered → Type 0
+Quiet h (refused number) = Unit {0}
+Quiet h (brings d) = NotAbove (spokenBy h d) (h .epochs)
 
--- "Q's taken steps are P's taken steps in order with further receipts before, between or after them"
-abbrev pub Further : List Request → List Request → Type 0
-Further [] [] = Unit {0}
-Further (p ∷ ps) [] = ⊥
-Further [] (q ∷ qs) = Extra q × Further [] qs
-Further (p ∷ ps) (q ∷ qs) = ((p ≡ q) × Further ps qs) ⊎ (Extra q × Further (p ∷ ps) qs)
+-- what a further step may be, where the book is b: a receipt; "Q's further receipts come without readings", and they "bring no epoch above the one
+-- known"
+abbrev pub Extra : Book → Request → Type 0
+Extra b (ageing reading) = ⊥
+Extra b (receipt g) = (g .readings ≡ Without) × Quiet (b .head) (delivered g)
+
+-- "Q's taken steps are P's taken steps in order with further receipts before, between or after them"; the book is Q's so far
+abbrev pub Further : Book → List Request → List Request → Type 0
+Further b [] [] = Unit {0}
+Further b (p ∷ ps) [] = ⊥
+Further b [] (q ∷ qs) = Extra b q × Further (enteredRequest b q) [] qs
+Further b (p ∷ ps) (q ∷ qs) = ((p ≡ q) × Further (enteredRequest b q) ps qs) ⊎ (Extra b q × Further (enteredRequest b q) (p ∷ ps) qs)
 
 -- "for every two such runs P and Q, set up alike, [..] and P is asked with a limit no smaller than Q's: each instant possible for Q is possible for
 -- P". "Set up alike means with the same numbers"
 unfoldable pub Demand3·more : Type 0
 Demand3·more =
-    (P Q : Run) → P .setup ≡ Q .setup → Further (takenOf (stepsOf P)) (takenOf (stepsOf Q)) → (limitP limitQ : ℕ) → limitQ ≤ limitP
+    (P Q : Run) → P .setup ≡ Q .setup → Further (opened (Q .setup)) (takenOf (stepsOf P)) (takenOf (stepsOf Q)) → (limitP limitQ : ℕ)
+    → limitQ ≤ limitP
     → (x : ℤ) → Possible limitQ (book Q) x → Possible limitP (book P) x
 
 -- "The demand is one statement about the whole list": both halves
@@ -127,14 +137,16 @@ Demand3·whole = Demand3 × Demand3·more
 
 -- ---- set by set
 
--- the law under it: for every set of names, of any size, the instants that the state leaves it are those on which the book's paths agreeing with it
+-- the law under it: for every set of current names, of any size, the instants that the state leaves it are those on which the book's paths agreeing with it
 -- end
 unfoldable pub SetBySet : Type 0
-SetBySet = (r : Run) (s : ℕ) (x : ℤ) → Fine s (storeOf (stateAfter r)) x ↔ EndsOn (sees s) (book r .lines) x
+SetBySet = (r : Run) (s : ℕ) (x : ℤ) → Fine s (storeOf (stateAfter r)) x ↔ EndsOn (sees (book r .head .epochs) s) (book r .lines) x
 
--- the fewest failures by the book: the sets of at most 4 names, without the own one, with which some path of the book agrees
+-- the fewest failures by the book: the sets of at most 4 current names, without the own one, with which some path of the book agrees
 unfoldable pub FewestByBook : Type 0
 FewestByBook =
     (r : Run) (out : List ℕ) → fewestSize ≤ length out
     → (fewestNumber (stateAfter r) out ≡ 0)
-    × FewestOf (λ s. Allowed 4 (book r .head .own) s × ((x : ℤ) × EndsOn (sees s) (book r .lines) x)) (fewestIn (fewestOutput (stateAfter r) out))
+    × FewestOf
+    (λ s. Allowed 4 (book r .head .own) s × ((x : ℤ) × EndsOn (sees (book r .head .epochs) s) (book r .lines) x))
+    (fewestIn (fewestOutput (stateAfter r) out))

@@ -21,10 +21,10 @@ use Rattle.entries.proofs.TableLaws.{table-appended, rows-before, row-last}
 
 -- ---- fewer rows, and rows left as they were
 
-pub columns-less : (h : ℕ) (c : Columns) → ColumnsFit (h + 1) c → ColumnsFit h c
-columns-less h c t =
+pub columns-less : (n m : ℕ) (c : Columns) → ColumnsFit n c → m ≤ n → ColumnsFit m c
+columns-less n m c t h =
     record {
-      table = table-less datumTerms (h + 1) h (c .counts) (c .masks) (t .table) (omega arith);
+      table = table-less datumTerms n m (c .counts) (c .masks) (t .table) h;
       lefts-long = omega (arith, t .lefts-long);
       rights-long = omega (arith, t .rights-long);
     }
@@ -72,25 +72,27 @@ module _ (h : ℕ) (lefts rights counts masks p : List ℕ) (a b : ℕ) (t : Col
   left-added old k i l f =
       rows-kept i l ∙ data-left h lefts rights old counts masks k i l (λ z. f (getD-set-other counts h i (length p) 0 (λ e. omega arith) ∙ z))
 
-  pub data-added : 0 < length p → dataIn (h + 1) added ≡ dataIn h (columns lefts rights counts masks) ++ (datum a b p ∷ [])
-  unfolding dataIn datumIn hasTerms
-  data-added some =
+  pub rows-added : tab (h + 1) (datumIn added) ≡ tab h (datumIn (columns lefts rights counts masks)) ++ (datum a b p ∷ [])
+  unfolding datumIn
+  rows-added =
       let near : h < length counts = omega (arith, t .table .counted) in
       let room : h * datumTerms + length p ≤ length masks = omega (arith, t .table .long, suc-mul h datumTerms) in
       let less = table-less datumTerms (h + 1) h counts masks (t .table) (omega arith) in
-      let same : tab h (datumIn added) ≡ tab h (datumIn (columns lefts rights counts masks)) =
-      tab-cong h (datumIn added) (datumIn (columns lefts rights counts masks))
-      rows-kept in
       let last : datumIn added h ≡ datum a b p =
       rw (
         getD-set-same lefts h a 0 (omega (arith, t .lefts-long)),
         getD-set-same rights h b 0 (omega (arith, t .rights-long)),
         row-last datumTerms h counts masks p less near room,
       ) in
-      ap (λ l. keep (λ d. hasTerms (d .terms)) l) (tab-suc h (datumIn added))
-      ∙ keep-append (λ d. hasTerms (d .terms)) (tab h (datumIn added)) (datumIn added h ∷ [])
-      ∙ ap₂ (λ (x y : List Datum). x ++ y) (ap (λ l. keep (λ d. hasTerms (d .terms)) l) same)
-      (ap (λ (d : Datum). keep (λ e. hasTerms (e .terms)) (d ∷ [])) last ∙ kept p some)
+      tab-suc h (datumIn added)
+      ∙ ap₂ (λ (x : List Datum) (d : Datum). x ++ (d ∷ [])) (tab-cong h (datumIn added) (datumIn (columns lefts rights counts masks)) rows-kept) last
+
+  pub data-added : 0 < length p → dataIn (h + 1) added ≡ dataIn h (columns lefts rights counts masks) ++ (datum a b p ∷ [])
+  unfolding dataIn hasTerms
+  data-added some =
+      ap (λ l. keep (λ d. hasTerms (d .terms)) l) rows-added
+      ∙ keep-append (λ d. hasTerms (d .terms)) (tab h (datumIn (columns lefts rights counts masks))) (datum a b p ∷ [])
+      ∙ ap (λ (x : List Datum). keep (λ d. hasTerms (d .terms)) (tab h (datumIn (columns lefts rights counts masks))) ++ x) (kept p some)
     where
       kept : (q : List ℕ) → 0 < length q → keep (λ d. hasTerms (d .terms)) (datum a b q ∷ []) ≡ datum a b q ∷ []
       kept [] h = absurd (omega arith)

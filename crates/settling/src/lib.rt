@@ -19,7 +19,7 @@ use state::Ends;
 use steps::Rows;
 
 // Puts a datum last, into row h.
-fn add_datum(
+pub fn add_datum(
     lefts: &mut [u64],
     rights: &mut [u64],
     held: &mut [u32],

@@ -121,7 +121,7 @@ module _ (own width at : ℕ) (p s : List ℕ) (w : width ≤ 16) (t : T (termsF
 
 -- a row that fits: what is read of it, and its bytes
 module _ (own width at : ℕ) (s : List ℕ) (t : T (rowFits own width at s)) where
-  row-le : num at 4 s ≤ width
+  pub row-le : num at 4 s ≤ width
   unfolding rowFits
   row-le = leb→le (num at 4 s) width (search (both-l, both-r) depth 9)
 
@@ -133,7 +133,7 @@ module _ (own width at : ℕ) (s : List ℕ) (t : T (rowFits own width at s)) wh
   unfolding rowFits termsFit
   row-out = rw length-row-at (search (both, both-l, both-r) depth 12)
 
-  row-padded : padded width (rowAt width at s) ≡ masksAt width at s
+  pub row-padded : padded width (rowAt width at s) ≡ masksAt width at s
   unfolding rowFits padded rowAt masksAt
   row-padded =
       let n = num at 4 s in

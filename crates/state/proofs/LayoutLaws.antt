@@ -9,12 +9,13 @@ use mathlib.Core.List.{List, [], _∷_, _++_, append-assoc, append-nil}
 use native.Mathlib.Nat.{zero-add, add-zero, add-suc, suc-add, suc-mul, zero-mul}
 use native.Mathlib.Omega.{arith}
 use lib.Dec.{T, eqb, eqb→eq}
-use lib.ListN.{length, getD, take, drop, length-append, length-replicate, length-drop}
+use lib.ListN.{length, getD, take, drop, List·getD-append, length-append, length-replicate, length-drop}
 use lib.Seq.{slice, take-nil, take-add, take-at, drop-at, drop-drop, getD-drop, length-take-le}
 use Rattle.numbers.specs.Numbers.{num, bytes, tab, bytesOf}
-use Rattle.numbers.proofs.NumberLaws.{num-bytes, length-bytes, length-bytesOf}
+use Rattle.numbers.proofs.NumberLaws.{num-bytes, length-bytes, length-bytesOf, tab-ext}
 use Rattle.predicates.specs.Lists.{all, padded}
 use Rattle.predicates.proofs.ListLaws.{both, both-l, both-r}
+use Rattle.epochs.specs.Epochs.{epochsMost, epochsIn}
 use Rattle.state.specs.Model.{Datum}
 use Rattle.state.specs.Layout.{zeros, joined, rowBytes, datumBytes, entryBytes}
 use Rattle.predicates.proofs.IndexLaws.{all-append}
@@ -135,3 +136,12 @@ length-datum d h = simp (length-append, length-bytes, length-row 8 (d .terms) h)
 pub length-entry : (e : List ℕ) → length e ≤ 16 → length (entryBytes e) ≡ 68
 unfolding entryBytes
 length-entry e h = length-row 16 e h
+
+-- ---- epochs
+
+-- those that stand at a place are read there
+pub known-at : (at : ℕ) (es s : List ℕ) → length es ≡ epochsMost → At at es s → epochsIn at s ≡ es
+unfolding epochsIn
+known-at at es s e h =
+    tab-ext 0 epochsMost (λ n. getD s (at + n) 0) es e
+    (λ n k. sym (getD-drop at s n 0) ∙ ap (λ (t : List ℕ). getD t n 0) (h .1) ∙ List·getD-append es (h .0) 0 n (omega (arith, k, e)))

@@ -11,4 +11,6 @@ pub mod RowLoops
 pub mod RowLaws
 pub mod OkLaws
 pub mod StoreLaws
+pub mod SeenLaws
 pub mod LentLaws
+pub mod StoredLaws

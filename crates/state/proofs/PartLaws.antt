@@ -12,6 +12,7 @@ use lib.ListN.{length, getD, set}
 use lib.Seq.{set-set}
 use Rattle.numbers.specs.Numbers.{put}
 use Rattle.numbers.proofs.NumberLaws.{put-append, set-put}
+use Rattle.epochs.specs.Epochs.{epochsMost}
 use Rattle.clocks.specs.Places.{placeSize}
 use Rattle.state.specs.Layout.{joined, dataMost, datumSize, entriesMost, entrySize, clocksMost, stateSize}
 use Rattle.state.proofs.LayoutLaws.{part, length-part, part-add, At, at-first, at-then}
@@ -109,7 +110,7 @@ part-put (n ∷ ns) (p ∷ ps) (suc k) at v s z l e =
 
 -- their sizes
 abbrev pub partSizes : List ℕ
-partSizes = 4 ∷ 4 ∷ 8 ∷ 4 ∷ 4 ∷ dataMost * datumSize ∷ entriesMost * entrySize ∷ clocksMost * placeSize ∷ []
+partSizes = 4 ∷ 4 ∷ 8 ∷ 4 ∷ 4 ∷ dataMost * datumSize ∷ entriesMost * entrySize ∷ clocksMost * placeSize ∷ epochsMost ∷ []
 
 -- s is s₀ with the parts stored in front
 pub record Begins (ps : List (List ℕ)) (s₀ s : List ℕ) : Type 0 where

@@ -24,15 +24,16 @@ pub row-empty : (w i : ℕ) (counts masks : List ℕ) → getD counts i 0 ≡ 0 
 unfolding rowOf hasTerms
 row-empty w i counts masks e = rw e
 
+pub has-some : (p : List ℕ) → 0 < length p → hasTerms p ≡ true
+unfolding hasTerms
+has-some [] h = absurd (omega arith)
+has-some (x ∷ p) h = refl
+
 pub row-full : (w i : ℕ) (counts masks : List ℕ) → (getD counts i 0 ≡ 0 → ⊥) → i * w + getD counts i 0 ≤ length masks → hasTerms (rowOf w (table counts masks) i) ≡ true
-unfolding rowOf hasTerms
+unfolding rowOf
 row-full w i counts masks f h =
-    nonempty (take (getD counts i 0) (drop (i * w) masks))
+    has-some (take (getD counts i 0) (drop (i * w) masks))
     (omega (arith, length-take-le (getD counts i 0) (drop (i * w) masks) (omega (arith, length-drop (i * w) masks)), f))
-  where
-    nonempty : (l : List ℕ) → 0 < length l → hasTerms l ≡ true
-    nonempty [] h = absurd (omega arith)
-    nonempty (x ∷ l) h = refl
 
 pub row-length : (w i : ℕ) (counts masks : List ℕ) → i * w + getD counts i 0 ≤ length masks → length (rowOf w (table counts masks) i) ≡ getD counts i 0
 unfolding rowOf

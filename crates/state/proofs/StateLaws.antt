@@ -2,25 +2,27 @@
 -- of that state. So bytes in form and right states are one and the same, and a call that changes bytes is compared by their state.
 -- The idea: the state is taken apart into its parts (`proofs.PartLaws`); the laws of data and entries are those of `proofs.FormLaws`.
 -- No contract cites this file. Assumes nothing.
-use Prim.Native.Nat.{ℕ, _+_, _*_, _≤_, _<_}
+use Prim.Native.Nat.{ℕ, zero, suc, _+_, _*_, _≤_, _<_}
 use mathlib.Core.Path.{_≡_, refl, sym, ap, _∙_}
 use mathlib.Core.Bool.{true, _&&_}
 use mathlib.Core.List.{List, [], _∷_, _++_}
 use native.Mathlib.Omega.{arith}
-use lib.Dec.{T, leb→le, ltb→lt, eqb, eqb→eq}
+use lib.Dec.{T, leb, leb→le, ltb→lt, eqb, eqb→eq}
 use lib.ListN.{length, getD, take, drop, set, length-set, take-append-drop}
 use Rattle.numbers.specs.Numbers.{num, put, tab, Bytes}
 use Rattle.numbers.proofs.NumberLaws.{bytes-num, put-front, length-bytes, length-tab, getD-tab}
 use Rattle.predicates.specs.Lists.{all, allBelow}
 use Rattle.predicates.proofs.ListLaws.{both, both-l, both-r}
+use Rattle.epochs.specs.Epochs.{epochMost, epochsMost, epochsIn}
+use Rattle.epochs.proofs.EpochLaws.{length-known, known-slice}
 use Rattle.clocks.specs.Clocks.{Saved, nothing, savedOk}
 use Rattle.clocks.specs.Places.{placeSize, savedBytes, savedAt, placeFits}
 use Rattle.clocks.proofs.PlaceLaws.{length-saved, saved-small}
 use Rattle.state.specs.Model.{State, withClocks, readingLimit, nameMost, driftMost}
-use Rattle.state.specs.Layout.{stateSize, ownAt, driftAt, readingAt, heldAt, knownAt, dataAt, dataMost, datumSize, entriesAt, entriesMost, entrySize, entryTerms, rowIn, datumTerms, clocksAt, clocksMost}
+use Rattle.state.specs.Layout.{stateSize, ownAt, driftAt, readingAt, heldAt, knownAt, dataAt, dataMost, datumSize, entriesAt, entriesMost, entrySize, entryTerms, rowIn, datumTerms, clocksAt, clocksMost, epochsAt}
 use Rattle.state.specs.Layout.{datumBytes, entryBytes, dataBytes, entriesBytes, parts, stateBytes, datumAt, entryAt, datumPlace, entryPlace, clockPlace, joined, heldCount, entryCount, headOf, storeOf, stateOf}
-use Rattle.state.specs.Form.{termsFit, isZero, rowFits, datumFits, entryFits, headFits, dataFit, entriesFit, clocksFit, inForm, headOk, datumOk, storeOk, countsOk, stateOk}
-use Rattle.state.proofs.LayoutLaws.{all-tab, part, At, num-at, joined-tab, length-joined}
+use Rattle.state.specs.Form.{termsFit, isZero, datumFits, entryFits, headFits, dataFit, entriesFit, clocksFit, epochsFit, inForm, headOk, datumOk, storeOk, countsOk, stateOk}
+use Rattle.state.proofs.LayoutLaws.{all-tab, part, slice-part, At, known-at, num-at, joined-tab, length-joined}
 use Rattle.state.proofs.ClockLaws.{clocks-in, saved-part}
 use Rattle.predicates.proofs.IndexLaws.{below-out}
 use Rattle.state.proofs.PutLaws.{part-stands, joined-set}
@@ -48,6 +50,8 @@ pub record OkState (st : State) : Type 0 where
   pub entries-le : length (st .store .entries) ≤ 32
   pub clocks-all : length (st .head .clocks) ≡ clocksMost
   pub clocks : T (all savedOk (st .head .clocks))
+  pub epochs-all : length (st .head .epochs) ≡ epochsMost
+  pub epochs : T (all (λ e. leb e epochMost) (st .head .epochs))
 
 pub state-out : (st : State) → T (stateOk st) → OkState st
 unfolding stateOk headOk storeOk countsOk
@@ -62,6 +66,8 @@ state-out st t =
       entries-le = leb→le _ 32 (search (both-l, both-r) depth 9);
       clocks-all = eqb→eq _ clocksMost (search (both-l, both-r) depth 9);
       clocks = search (both-l, both-r) depth 9;
+      epochs-all = eqb→eq _ epochsMost (search (both-l, both-r) depth 12);
+      epochs = search (both-l, both-r) depth 12;
     }
 
 module _ (st : State) (t : T (stateOk st)) where
@@ -89,7 +95,7 @@ module _ (st : State) (t : T (stateOk st)) where
               length-filled datumBytes datumSize dataMost dataAt (datumOk _) (datum-size _) (st .store .held) (ok .held) (ok .held-le),
               (
                 length-filled entryBytes entrySize entriesMost entriesAt (termsFit _ entryTerms) (entry-size _) (st .store .entries) (ok .entries) (ok .entries-le),
-                (clocks-sized, tt),
+                (clocks-sized, (ok .epochs-all, tt)),
               ),
             ),
           ),
@@ -139,17 +145,21 @@ module _ (st : State) (t : T (stateOk st)) where
     unfolding parts
     clocks-at = clocks-in (st .head .clocks) s (ok .clocks-all) (ok .clocks) (stands 7 (omega arith))
 
+    epochs-at : epochsIn epochsAt s ≡ st .head .epochs
+    unfolding parts
+    epochs-at = known-at epochsAt (st .head .epochs) s (ok .epochs-all) (stands 8 (omega arith))
+
     pub state-read : stateOf s ≡ st
     unfolding stateOf headOf storeOf
     state-read =
         let r = head-read in
-        rw (r .own, r .drift, r .reading, r .held, r .entries, data-in .0, entries-in .0, clocks-at .0)
+        rw (r .own, r .drift, r .reading, r .held, r .entries, data-in .0, entries-in .0, clocks-at .0, epochs-at)
 
     pub state-form : T (inForm s)
-    unfolding inForm headFits dataFit entriesFit clocksFit stateOk headOk countsOk
+    unfolding inForm headFits dataFit entriesFit clocksFit epochsFit stateOk headOk countsOk
     state-form =
         let r = head-read in
-        rw (r .own, r .drift, r .reading, r .held, r .entries) (search (both, both-l, both-r, data-in .1, entries-in .1, clocks-at .1) depth 12)
+        rw (r .own, r .drift, r .reading, r .held, r .entries, epochs-at) (search (both, both-l, both-r, data-in .1, entries-in .1, clocks-at .1) depth 12)
 
   -- what is written is read back, and in form
   pub decode-encode : (rest : List ℕ) → stateOf (stateBytes st ++ rest) ≡ st
@@ -207,12 +217,12 @@ module _ (s : List ℕ) (t : T (inForm s)) where
   unfolding inForm headFits
   entry-count-le = leb→le (entryCount s) 32 (search (both-l, both-r) depth 9)
 
-  form-datum : (i : ℕ) → i < heldCount s → T (datumFits (num ownAt 4 s) s i)
+  pub form-datum : (i : ℕ) → i < heldCount s → T (datumFits (num ownAt 4 s) s i)
   unfolding inForm dataFit
   form-datum i h = below-out (heldCount s) (datumFits (num ownAt 4 s) s) (search (both-l, both-r) depth 9) i h
 
-  pub form-entry : (i : ℕ) → i < entryCount s → T (rowFits (num ownAt 4 s) entryTerms (entryPlace i) s)
-  unfolding inForm entriesFit entryFits
+  pub form-entry : (i : ℕ) → i < entryCount s → T (entryFits (num ownAt 4 s) s i)
+  unfolding inForm entriesFit
   form-entry i h = below-out (entryCount s) (entryFits (num ownAt 4 s) s) (search (both-l, both-r) depth 9) i h
 
   -- each datum and each entry that is read
@@ -224,11 +234,11 @@ module _ (s : List ℕ) (t : T (inForm s)) where
   length-datum-at i h = length-row-at (num ownAt 4 s) datumTerms (datumPlace i + rowIn) s (datum-row (num ownAt 4 s) s i (form-datum i h))
 
   pub entry-at-ok : (i : ℕ) → i < entryCount s → T (termsFit (num ownAt 4 s) entryTerms (entryAt s i))
-  unfolding entryAt
+  unfolding entryAt entryFits
   entry-at-ok i h = row-out (num ownAt 4 s) entryTerms (entryPlace i) s (form-entry i h)
 
   pub length-entry-at : (i : ℕ) → i < entryCount s → length (entryAt s i) ≡ num (entryPlace i) 4 s
-  unfolding entryAt
+  unfolding entryAt entryFits
   length-entry-at i h = length-row-at (num ownAt 4 s) entryTerms (entryPlace i) s (form-entry i h)
 
   -- name i's place
@@ -238,11 +248,12 @@ module _ (s : List ℕ) (t : T (inForm s)) where
 
   -- bytes in form hold a right state
   pub form-ok : T (stateOk (stateOf s))
-  unfolding inForm headFits stateOf stateOk headOf headOk storeOf storeOk countsOk
+  unfolding inForm headFits epochsFit stateOf stateOk headOf headOk storeOf storeOk countsOk
   form-ok =
       let ds = all-tab (datumOk (num ownAt 4 s)) (heldCount s) (datumAt s) datum-at-ok in
       let es = all-tab (termsFit (num ownAt 4 s) entryTerms) (entryCount s) (entryAt s) entry-at-ok in
       let cs = all-tab savedOk clocksMost (λ i. savedAt (clockPlace i) s) (λ i h. saved-small (clockPlace i) s (form-place i h)) in
+      let known : T (eqb (length (epochsIn epochsAt s)) epochsMost) = rw (length-known epochsAt s) tt in
       let all-there : T (eqb (length (tab clocksMost (λ i. savedAt (clockPlace i) s))) clocksMost) = rw length-tab tt in
       rw (length-held s, length-entries s) (search (both, both-l, both-r) depth 12)
 
@@ -252,7 +263,7 @@ module _ (s : List ℕ) (t : T (inForm s)) where
     datum-bytes i k = let c = held-count-le in datum-part (num ownAt 4 s) s i (form-datum i k) b (omega arith)
 
     entry-bytes : (i : ℕ) → i < entryCount s → entryBytes (entryAt s i) ≡ part (entryPlace i) entrySize s
-    unfolding entryBytes entryAt
+    unfolding entryBytes entryAt entryFits
     entry-bytes i k = let c = entry-count-le in row-part (num ownAt 4 s) entryTerms (entryPlace i) s (form-entry i k) b (omega arith)
 
     -- each stands in its place
@@ -280,6 +291,10 @@ module _ (s : List ℕ) (t : T (inForm s)) where
         joined-tab savedBytes placeSize clocksAt clocksMost (λ i. savedAt (clockPlace i) s) s
         (λ i k. saved-part (clockPlace i) s (form-place i k) b (omega arith))
 
+    epochs-part : headOf s .epochs ≡ part epochsAt epochsMost s
+    unfolding headOf
+    epochs-part = known-slice epochsAt s h ∙ slice-part epochsAt epochsMost s
+
     -- part by part
     parts-are : parts (stateOf s) ≡ cutFrom 0 partSizes s
     unfolding parts cutFrom stateOf headOf
@@ -295,6 +310,7 @@ module _ (s : List ℕ) (t : T (inForm s)) where
           data-part,
           entries-part,
           clocks-part,
+          epochs-part,
         )
 
     pub encode-decode : stateBytes (stateOf s) ≡ take stateSize s
@@ -318,6 +334,16 @@ module _ (s : List ℕ) (t : T (inForm s)) where
 pub clock-read : (s : List ℕ) (i : ℕ) → i < clocksMost → getD (headOf s .clocks) i nothing ≡ savedAt (clockPlace i) s
 unfolding headOf
 clock-read s i h = getD-tab clocksMost i (λ k. savedAt (clockPlace k) s) nothing h
+
+-- the epochs of a state in form
+pub epochs-fit : (s : List ℕ) → T (inForm s) → (n : ℕ) → getD (epochsIn epochsAt s) n 0 ≤ epochMost
+unfolding inForm epochsFit
+epochs-fit s t n = all-places (epochsIn epochsAt s) (search (both-l, both-r) depth 9) n
+  where
+    all-places : (es : List ℕ) → T (all (λ e. leb e epochMost) es) → (n : ℕ) → getD es n 0 ≤ epochMost
+    all-places [] k n = omega arith
+    all-places (e ∷ es) k zero = leb→le e epochMost (both-l (leb e epochMost) _ k)
+    all-places (e ∷ es) k (suc n) = all-places es (both-r (leb e epochMost) _ k) n
 
 -- the own name of a state in form
 pub own-fits : (s : List ℕ) → T (inForm s) → num ownAt 4 s ≤ nameMost

@@ -424,7 +424,7 @@ columns-fresh n a b j k e f g h =
 -- ---- a state in form
 
 module _ {A : Type 0} where
-  keep-all : (f : A → Bool) (xs : List A) → T (all f xs) → keep f xs ≡ xs
+  pub keep-all : (f : A → Bool) (xs : List A) → T (all f xs) → keep f xs ≡ xs
   keep-all f [] t = refl
   keep-all f (x ∷ xs) t = rw (true-of (f x) (both-l (f x) (all f xs) t), keep-all f xs (both-r (f x) (all f xs) t))
     where

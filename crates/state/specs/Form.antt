@@ -11,11 +11,12 @@ use Rattle.numbers.specs.Numbers.{num}
 use Rattle.names.specs.Sets.{noSet, has}
 use Rattle.predicates.specs.Lists.{all, allBelow}
 use Rattle.predicates.specs.Predicates.{isNormal}
+use Rattle.epochs.specs.Epochs.{epochMost, epochsMost, epochsIn}
 use Rattle.clocks.specs.Clocks.{savedOk}
 use Rattle.clocks.specs.Places.{placeFits}
 use Rattle.state.specs.Model.{Datum, Head, Store, State, nameMost, driftMost, endLimit, readingLimit}
 use Rattle.state.specs.Layout.{ownAt, driftAt, readingAt, rightIn, rowIn, dataMost, datumTerms, entriesMost, entryTerms}
-use Rattle.state.specs.Layout.{datumPlace, entryPlace, masksAt, rowAt, heldCount, entryCount, clocksMost, clockPlace}
+use Rattle.state.specs.Layout.{datumPlace, entryPlace, masksAt, rowAt, heldCount, entryCount, clocksMost, clockPlace, epochsAt}
 
 -- ---- terms and predicates
 
@@ -66,16 +67,23 @@ entriesFit s = allBelow (entryCount s) (entryFits (num ownAt 4 s) s) && isZero (
 unfoldable pub clocksFit : List ℕ → Bool
 clocksFit s = allBelow clocksMost (λ i. placeFits (clockPlace i) s)
 
+-- each epoch is one, "0 to 15", the own one too
+unfoldable pub epochsFit : List ℕ → Bool
+epochsFit s = all (λ e. leb e epochMost) (epochsIn epochsAt s)
+
 -- "In form", of a buffer of at least a state's size
 unfoldable pub inForm : List ℕ → Bool
-inForm s = headFits s && (dataFit s && (entriesFit s && clocksFit s))
+inForm s = headFits s && (dataFit s && (entriesFit s && (clocksFit s && epochsFit s)))
 
 -- ---- the state: what being in form means of it. The head, the store and the counts stand apart, since later parts join them one by one
 
 unfoldable pub headOk : Head → Bool
 headOk h =
     leb (h .own) nameMost
-    && (leb (h .drift) driftMost && (ltb (h .reading) readingLimit && (eqb (length (h .clocks)) clocksMost && all savedOk (h .clocks))))
+    && (leb (h .drift) driftMost
+    && (ltb (h .reading) readingLimit
+    && (eqb (length (h .clocks)) clocksMost
+    && (all savedOk (h .clocks) && (eqb (length (h .epochs)) epochsMost && all (λ e. leb e epochMost) (h .epochs))))))
 
 unfoldable pub datumOk : ℕ → Datum → Bool
 datumOk own d = leb (d .left) (d .right) && (ltb (d .right) endLimit && termsFit own datumTerms (d .terms))

@@ -1,16 +1,17 @@
--- The 5,236 bytes of a state (document 01, "State bytes", and document 02's later parts), both ways: `stateBytes` writes a state, `stateOf` reads one.
+-- The 5,265 bytes of a state (document 01, "State bytes", and document 02's later parts), both ways: `stateBytes` writes a state, `stateOf` reads one.
 -- Assumes nothing: these are definitions.
 use Prim.Native.Nat.{ℕ, _+_, _*_, _-_}
 use mathlib.Core.List.{List, [], _∷_, _++_}
 use lib.ListN.{length, take, replicate}
 use Rattle.numbers.specs.Numbers.{num, bytes, bytesOf, tab}
 use Rattle.predicates.specs.Lists.{padded}
+use Rattle.epochs.specs.Epochs.{epochsIn}
 use Rattle.clocks.specs.Places.{placeSize, savedBytes, savedAt}
 use Rattle.state.specs.Model.{Datum, Head, Store, State}
 
 -- how many bytes a state has
 abbrev pub stateSize : ℕ
-stateSize = 5236
+stateSize = 5265
 
 -- where the numbers of the head stand: "own name (4 bytes), drift (4), reading (8), held count (4), entry count (4)"
 abbrev pub ownAt : ℕ
@@ -68,6 +69,10 @@ clocksAt = 3032
 abbrev pub clocksMost : ℕ
 clocksMost = 29
 
+-- "29 bytes of epochs by identifier, the own one among them" (document 02, W-204): where they begin
+abbrev pub epochsAt : ℕ
+epochsAt = 5236
+
 -- the rows of data and entries
 abbrev pub rowsMost : ℕ
 rowsMost = dataMost + entriesMost
@@ -111,7 +116,7 @@ unfoldable pub entriesBytes : List (List ℕ) → List ℕ
 entriesBytes es = joined entryBytes es ++ zeros ((entriesMost - length es) * entrySize)
 
 -- the parts of a state in their order, "own name (4 bytes), drift (4), reading (8), held count (4), entry count (4)", the data, the entries; "last
--- as later parts do" the clocks
+-- as later parts do" the clocks, and behind them the epochs, a byte for each
 unfoldable pub parts : State → List (List ℕ)
 parts st =
     bytes 4 (st .head .own)
@@ -122,6 +127,7 @@ parts st =
     ∷ dataBytes (st .store .held)
     ∷ entriesBytes (st .store .entries)
     ∷ joined savedBytes (st .head .clocks)
+    ∷ st .head .epochs
     ∷ []
 
 unfoldable pub stateBytes : State → List ℕ
@@ -157,7 +163,13 @@ entryCount s = num knownAt 4 s
 
 unfoldable pub headOf : List ℕ → Head
 headOf s =
-    record { own = num ownAt 4 s; drift = num driftAt 4 s; reading = num readingAt 8 s; clocks = tab clocksMost (λ i. savedAt (clockPlace i) s) }
+    record {
+      own = num ownAt 4 s;
+      drift = num driftAt 4 s;
+      reading = num readingAt 8 s;
+      clocks = tab clocksMost (λ i. savedAt (clockPlace i) s);
+      epochs = epochsIn epochsAt s;
+    }
 
 unfoldable pub storeOf : List ℕ → Store
 storeOf s = record { held = tab (heldCount s) (datumAt s); entries = tab (entryCount s) (entryAt s) }

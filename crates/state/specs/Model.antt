@@ -20,10 +20,12 @@ pub record Head : Type 0 where
   pub reading : ℕ
   -- what is saved of each name's clock readings, by name (document 02, W-201)
   pub clocks : List Saved
+  -- the known epoch of each identifier, "the own one among them" (document 02, W-204)
+  pub epochs : List ℕ
 
 -- the head with other clocks
 abbrev pub withClocks : Head → List Saved → Head
-withClocks h cs = record { own = h .own; drift = h .drift; reading = h .reading; clocks = cs }
+withClocks h cs = record { own = h .own; drift = h .drift; reading = h .reading; clocks = cs; epochs = h .epochs }
 
 -- the held data and the failure knowledge, a list of predicates
 pub record Store : Type 0 where

@@ -191,7 +191,9 @@ fn in_form(s: &[u8]) -> bool
     let own = numbers::get32(s, super::OWN_AT);
     let held = numbers::get32(s, super::HELD_AT);
     let entries = numbers::get32(s, super::KNOWN_AT);
-    data_fit(s, own, held as usize) & (entries_fit(s, own, entries as usize) & clocks_fit(s))
+    data_fit(s, own, held as usize)
+        & (entries_fit(s, own, entries as usize)
+            & (clocks_fit(s) & epochs::known::fits(s, super::EPOCHS_AT)))
 }
 
 // The first tests of every call on a lent state: 24 where it is too short, 25 where it is out of form, else 0.

@@ -9,7 +9,7 @@ pub mod store;
 // The layout, as `specs/Layout.antt` names it: a size or a place that changes is changed here and there.
 
 // How many bytes a state has.
-pub const STATE_SIZE: usize = 5_236;
+pub const STATE_SIZE: usize = 5_265;
 
 // Where the numbers of the head stand: own name, drift, reading, held count, entry count.
 pub const OWN_AT: usize = 0;
@@ -48,6 +48,9 @@ pub const ENTRY_TERMS: usize = 16;
 pub const CLOCKS_AT: usize = 3_032;
 
 pub const CLOCKS_MOST: usize = 29;
+
+// Where the epochs begin, a byte for each identifier.
+pub const EPOCHS_AT: usize = 5_236;
 
 // Where the places of data end, how many words a datum and an entry have, and how many rows both have together.
 pub const DATA_END: usize = DATA_AT + DATA_MOST * DATUM_SIZE;

@@ -6,12 +6,14 @@ ghost use Prim.Native.Nat.{ℕ, _+_, _*_, _≤_, _<_};
 ghost use lib.Dec.{T};
 ghost use lib.ListN.{length, getD, take, drop};
 ghost use Rattle.numbers.specs.Numbers.{num, bytes, put, tab};
-ghost use Rattle.state.specs.Layout.{stateSize, heldAt, knownAt, dataAt, dataMost, datumSize, datumTerms, rightIn, rowIn};
+ghost use Rattle.predicates.specs.Lists.{padded};
+ghost use Rattle.epochs.specs.Epochs.{withdraw};
+ghost use Rattle.state.specs.Layout.{stateSize, ownAt, heldAt, knownAt, dataAt, dataMost, datumSize, datumTerms, rightIn, rowIn};
 ghost use Rattle.state.specs.Layout.{entriesAt, entriesMost, entrySize, entryTerms, rowsMost};
-ghost use Rattle.state.specs.Layout.{datumPlace, entryPlace, entryCount, masksAt, headOf};
+ghost use Rattle.state.specs.Layout.{datumPlace, entryPlace, entryCount, rowAt, masksAt, headOf};
 ghost use Rattle.state.specs.Layout.{datumBytes, entryBytes, dataBytes, entriesBytes, joined, stateBytes};
-ghost use Rattle.state.specs.Form.{isZero, inForm};
-ghost use Rattle.state.specs.code.Tables.{Columns, Table, columns, tableFrom, ColumnsFit, TableFits, DataStand, EntriesStand};
+ghost use Rattle.state.specs.Form.{isZero, rowFits, inForm};
+ghost use Rattle.state.specs.code.Tables.{Columns, Table, table, columns, tableFrom, ColumnsFit, TableFits, DataStand, EntriesStand};
 ghost use Rattle.state.specs.code.Tables.{rowOf, entriesIn, datumIn, dataIn, storeIn};
 use super::Ends;
 
@@ -61,8 +63,8 @@ pub fn get_data(
     }
 }
 
-// Writes the data that have terms into the places from the front, in order. Answers how many there are. The first `used` rows came from these very
-// places, so what still stands in its own is not written again.
+// Writes the data that have terms into the places from the front, in order. Answers how many there are. The first `standing` rows are as these very
+// places have them, so what still stands in its own is not written again.
 fn put_data(
     s: &mut [u8],
     lefts: &[u64],
@@ -70,12 +72,12 @@ fn put_data(
     counts: &[u32],
     masks: &[u32],
     n: usize,
-    used: usize,
+    standing: usize,
 ) -> usize
     requires { ⌜ ColumnsFit n (columns (now lefts) (now rights) (now counts) (now masks)) ⌝ }
     requires { ⌜ length (dataIn n (columns (now lefts) (now rights) (now counts) (now masks))) ≤ dataMost ⌝ }
     requires { ⌜ (n ≤ dataMost + 1) × (stateSize ≤ length (now s)) ⌝ }
-    requires { ⌜ ((i : ℕ) → i < used → (getD (now counts) i 0 ≡ 0 → ⊥)
+    requires { ⌜ ((i : ℕ) → i < standing → (getD (now counts) i 0 ≡ 0 → ⊥)
         → put (datumPlace i) (datumBytes (datumIn (columns (now lefts) (now rights) (now counts) (now masks)) i)) (now s) ≡ now s) ⌝ }
     ensures { λ r. ⌜ (let c : Columns = columns (now (lefts .entry)) (now (rights .entry)) (now (counts .entry)) (now (masks .entry)) in
         (r ≡ length (dataIn n c)) × (length (joined datumBytes (dataIn n c)) ≡ r * datumSize)) ⌝ }
@@ -87,7 +89,7 @@ fn put_data(
     while i < n {
         let count = counts[i] as usize;
         if 0 < count {
-            if (r < i) | (used <= i) {
+            if (r < i) | (standing <= i) {
                 let from = i * super::DATUM_TERMS;
                 let to = from + count;
                 let ends = Ends {
@@ -101,6 +103,22 @@ fn put_data(
         i += 1;
     }
     r
+}
+
+// Reads the row at `at`, which is in form, where the names of `risen` count as failed: its masks, with zeros behind those in use. Answers how many
+// are.
+pub fn get_seen(s: &[u8], at: usize, width: usize, risen: u32, row: &mut [u32]) -> usize
+    requires { ⌜ (at + 4 + width * 4 ≤ length (now s)) × (length (now row) ≡ width) × (width ≤ entryTerms) ⌝ }
+    requires { ⌜ T (rowFits (num ownAt 4 (now s)) width at (now s)) ⌝ }
+    ensures { λ r. ⌜ (r ≡ length (withdraw risen (rowAt width at (now (s .entry))))) × (r ≤ width) ⌝ }
+    ensures { λ _. ⌜ now (row .exit) ≡ padded width (withdraw risen (rowAt width at (now (s .entry)))) ⌝ }
+{
+    let used = numbers::get32(s, at) as usize;
+    numbers::get_words(s, at + 4, row, width);
+    if risen == 0 {
+        return used;
+    }
+    epochs::withdraw::withdraw(row, used, risen)
 }
 
 // Writes the entry in place i, of `count` terms, into place r.
@@ -152,27 +170,28 @@ fn put_entries(s: &mut [u8], first: usize, counts: &[u32], masks: &[u32], n: usi
     r
 }
 
-// Writes the data that have terms, zeros into the places left over, and the held count. The first `used` rows came from these very places, and the
-// places behind those are zero already.
-fn put_held(
+// Writes the data that have terms, zeros into the places left over, and the held count. The first `standing` rows are as these very places have
+// them; the places from `used` on are zero already.
+pub fn put_held(
     s: &mut [u8],
     lefts: &[u64],
     rights: &[u64],
     counts: &[u32],
     masks: &[u32],
     n: usize,
+    standing: usize,
     used: usize,
 )
     requires { ⌜ ColumnsFit n (columns (now lefts) (now rights) (now counts) (now masks)) ⌝ }
     requires { ⌜ length (dataIn n (columns (now lefts) (now rights) (now counts) (now masks))) ≤ dataMost ⌝ }
     requires { ⌜ (n ≤ dataMost + 1) × (stateSize ≤ length (now s)) ⌝ }
     requires { ⌜ (used ≤ dataMost) × T (isZero (datumPlace used) (datumPlace dataMost) (now s)) ⌝ }
-    requires { ⌜ ((i : ℕ) → i < used → (getD (now counts) i 0 ≡ 0 → ⊥)
+    requires { ⌜ ((i : ℕ) → i < standing → (getD (now counts) i 0 ≡ 0 → ⊥)
         → put (datumPlace i) (datumBytes (datumIn (columns (now lefts) (now rights) (now counts) (now masks)) i)) (now s) ≡ now s) ⌝ }
     ensures { λ _. ⌜ (let c : Columns = columns (now (lefts .entry)) (now (rights .entry)) (now (counts .entry)) (now (masks .entry)) in
         now (s .exit) ≡ put heldAt (bytes 4 (length (dataIn n c))) (put dataAt (dataBytes (dataIn n c)) (now (s .entry)))) ⌝ }
 {
-    let places = put_data(s, lefts, rights, counts, masks, n, used);
+    let places = put_data(s, lefts, rights, counts, masks, n, standing);
     super::rows::clear(
         s,
         super::DATA_AT + places * super::DATUM_SIZE,
@@ -226,7 +245,33 @@ pub fn put_store(
         now (s .exit) ≡ put 0 (stateBytes (record { head = headOf (now (s .entry)); store = storeIn h c n t })) (now (s .entry))) ⌝ }
 {
     let data = numbers::get32(s, super::HELD_AT) as usize;
-    put_held(s, lefts, rights, held, terms, h, data);
+    put_held(s, lefts, rights, held, terms, h, data, data);
     let entries = numbers::get32(s, super::KNOWN_AT) as usize;
     put_known(s, entries, counts, masks, n, entries);
+}
+
+// Writes what h rows of data and n rows of entries hold into a state in form, whatever stood there; its head stays.
+pub fn put_rows(
+    s: &mut [u8],
+    lefts: &[u64],
+    rights: &[u64],
+    held: &[u32],
+    terms: &[u32],
+    h: usize,
+    counts: &[u32],
+    masks: &[u32],
+    n: usize,
+)
+    requires { ⌜ ColumnsFit h (columns (now lefts) (now rights) (now held) (now terms)) × TableFits entryTerms n (table (now counts) (now masks)) ⌝ }
+    requires { ⌜ length (dataIn h (columns (now lefts) (now rights) (now held) (now terms))) ≤ dataMost ⌝ }
+    requires { ⌜ length (entriesIn n (table (now counts) (now masks))) ≤ entriesMost ⌝ }
+    requires { ⌜ (h ≤ dataMost + 1) × (n ≤ rowsMost) × (stateSize ≤ length (now s)) × T (inForm (now s)) ⌝ }
+    ensures { λ _. ⌜ (let c : Columns = columns (now (lefts .entry)) (now (rights .entry)) (now (held .entry)) (now (terms .entry)) in
+        let t : Table = table (now (counts .entry)) (now (masks .entry)) in
+        now (s .exit) ≡ put 0 (stateBytes (record { head = headOf (now (s .entry)); store = storeIn h c n t })) (now (s .entry))) ⌝ }
+{
+    let data = numbers::get32(s, super::HELD_AT) as usize;
+    put_held(s, lefts, rights, held, terms, h, 0, data);
+    let entries = numbers::get32(s, super::KNOWN_AT) as usize;
+    put_known(s, 0, counts, masks, n, entries);
 }

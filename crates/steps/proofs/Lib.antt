@@ -2,3 +2,4 @@
 pub mod StepLaws
 pub mod ReceiveLaws
 pub mod BlameLaws
+pub mod WithdrawnLaws

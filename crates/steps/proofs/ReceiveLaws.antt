@@ -39,14 +39,14 @@ unfolding termFits
 term-fits own t o l f =
     both (ltb 0 t) (ltb t noSet && not (has own t)) (lt→ltb 0 t o) (both (ltb t noSet) (not (has own t)) (lt→ltb t noSet l) f)
 
--- what is formed of terms below 2 ^ 29 fits, if it is not true and has at most 8 terms
+-- what is formed of terms below 2 ^ 29 fits, if it is not true
 pub formed-fit : (own sender : ℕ) (p : List ℕ) → sender ≤ nameMost → (sender ≡ own → ⊥) → ((t : ℕ) → In t p → t < noSet)
-    → T (not (isTrue (formed own sender p))) → length (formed own sender p) ≤ 8 → T (termsFit own datumTerms (formed own sender p))
-formed-fit own sender p s f small n l =
-    ok-terms-in own 8 (formed own sender p)
+    → T (not (isTrue (formed own sender p))) → T (termsFit own (length (formed own sender p)) (formed own sender p))
+formed-fit own sender p s f small n =
+    ok-terms-in own (length (formed own sender p)) (formed own sender p)
     record {
       some = formed-some own sender p;
-      few = l;
+      few = omega arith;
       norm = formed-normal own sender p;
       each = λ t m. fits t (not-true-full (formed own sender p) n t m) (formed-out own sender p t m);
     }

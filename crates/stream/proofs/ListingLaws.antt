@@ -52,7 +52,7 @@ yields-one (l ∷ ls) begun s = ap suc (yields-one ls (lineResult l begun s .beg
 
 -- ---- a line that is cut
 
--- a line above 200 bytes is bad however it goes on
+-- a line above 600 bytes is bad however it goes on
 line-cut : (l s : List ℕ) (begun : Bool) → lineResult (take (lineMost + 1) l) begun s ≡ lineResult l begun s
 line-cut l s begun =
     ⊎-elim

@@ -1,15 +1,10 @@
 -- Definitions that serve the code alone: no statement of documents 01 and 02 cites this file.
--- Epochs in bytes, and names as a message brings them. Assumes nothing: these are definitions.
-use Prim.Native.Nat.{ℕ, _+_, _<_, _^_}
+-- Names as a message brings them. Assumes nothing: these are definitions.
+use Prim.Native.Nat.{ℕ, _<_, _^_}
 use mathlib.Core.Bool.{Bool, cond}
 use mathlib.Core.List.{List}
 use lib.ListN.{length, getD}
-use lib.Seq.{slice}
 use Rattle.epochs.specs.Epochs.{epochsMost, nameLimit, identifierOf}
-
--- the epochs in the bytes s from index at on
-abbrev pub knownAt : ℕ → List ℕ → List ℕ
-knownAt at s = slice at (at + epochsMost) s
 
 -- a mask of one identifier, where a test passes
 abbrev pub bitWhere : Bool → ℕ → ℕ

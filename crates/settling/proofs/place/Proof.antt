@@ -16,7 +16,7 @@ use Rattle.settling.proofs.place.Statement.{statement}
 use Rattle.settling.proofs.place.Tie as tie
 
 meet-requires : tie.Need-meet-requires
-meet-requires c κs = let a = c .before .before .before .before .before .before .before .before .before in (columns-less _ _ (a .pre .0), a .pre .1 .0)
+meet-requires c κs = let a = c .before .before .before .before .before .before .before .before .before in (columns-less _ _ _ (a .pre .0) (omega arith), a .pre .1 .0)
 
 bettered-requires : tie.Need-bettered-requires
 bettered-requires c κs =

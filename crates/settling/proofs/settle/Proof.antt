@@ -32,7 +32,7 @@ learn-requires c κs =
     let a = c .before .before .before .before .before .before .before .before .before .before .before .before .before .before .before .before .before .before .before .before .before in
     let p = a .pre .1 .1 .1 .0 in
     let marked = c .before .before .before .before .before .before .before .before .before .before .mark-rows .ensures in (
-      columns-less _ _ (a .pre .0),
+      columns-less _ _ _ (a .pre .0) (omega arith),
       (
         (a .pre .1 .0 .0, few a),
         (
@@ -46,7 +46,7 @@ drop-explained-requires : tie.Need-drop-explained-requires
 drop-explained-requires c κs =
     let a = c .before .before .before .before .before .before .before .before .before .before .before .before .before .before .before .before .before .before .before .before .before .before .before .before .before .before .before .before .before .before .before .before in
     let known = c .before .before .before .before .before .before .before .before .before .before .learn .ensures .0 in
-    (columns-less _ _ (a .pre .0) .table, ((a .pre .1 .0 .0, few a), (known .1, known .2)))
+    (columns-less (a .args .rows .held + 1) (a .args .rows .held) _ (a .pre .0) (omega arith) .table, ((a .pre .1 .0 .0, few a), (known .1, known .2)))
 
 explained-requires : tie.Need-explained-requires
 explained-requires c κs =
@@ -105,7 +105,7 @@ returns c =
     let gone = at-drop .drop-explained .ensures in (
       (omega arith, known .0 .0, refl, refl, at-drop .drop-explained .kept .0, refl, kept .0 ∙ at-learn .before .before .before .before .before .before .before .before .before .before .before .mark-rows .kept .1 .1 .0, kept .1 .0),
       (
-        (columns-less _ _ (room at-drop), data-left _ _ _ _ _ _ (left at-drop)),
+        (columns-less _ _ _ (room at-drop) (omega arith), data-left _ _ _ _ _ _ (left at-drop)),
         (
           (known .0 .1, stand at-learn),
           settled-by _ _ _ _ (entries at-learn)

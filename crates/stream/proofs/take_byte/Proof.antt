@@ -1,4 +1,4 @@
--- `stream::take_byte` meets its contract: a line feed ends the line; another byte stands behind the line's, as long as there are not 201.
+-- `stream::take_byte` meets its contract: a line feed ends the line; another byte stands behind the line's, as long as there are not 601.
 -- Assumes nothing.
 use mathlib.Core.Path.{sym}
 use native.Mathlib.Omega.{arith}

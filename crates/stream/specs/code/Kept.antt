@@ -37,7 +37,7 @@ nothingKept = kept false (replicate stateSize 0) []
 unfoldable pub resultOf : Kept → LineResult
 resultOf k = lineResult (k .line) (k .begun) (k .state)
 
--- what is kept behind a byte: a line feed ends the line. A line above 200 bytes is bad however it goes on, so one byte more is kept
+-- what is kept behind a byte: a line feed ends the line. A line above 600 bytes is bad however it goes on, so one byte more is kept
 unfoldable pub keptNext : Kept → ℕ → Kept
 keptNext k b =
     cond (eqb b 10) (kept (resultOf k .begun) (resultOf k .state) []) (kept (k .begun) (k .state) (take (lineMost + 1) (k .line ++ (b ∷ []))))

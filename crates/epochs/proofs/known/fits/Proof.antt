@@ -8,15 +8,14 @@ use lib.Dec.{leb}
 use lib.ListN.{drop}
 use Rattle.predicates.specs.Lists.{all}
 use Rattle.predicates.proofs.LoopLaws.{all-turn, all-done}
-use Rattle.epochs.specs.Epochs.{epochMost, epochsMost}
-use Rattle.epochs.specs.code.Known.{knownAt}
+use Rattle.epochs.specs.Epochs.{epochsIn, epochMost, epochsMost}
 use Rattle.epochs.proofs.EpochLaws.{length-known, getD-known}
 use borrow.Author.Needs.{needs}
 use Rattle.epochs.proofs.known.fits.Statement.{statement}
 use Rattle.epochs.proofs.known.fits.Tie as tie
 
 abbrev Inv-loop : tie.InvT-loop
-Inv-loop s at ok₀ i₀ ok i = ok && all (λ e. leb e epochMost) (drop i (knownAt at s)) ≡ all (λ e. leb e epochMost) (knownAt at s)
+Inv-loop s at ok₀ i₀ ok i = ok && all (λ e. leb e epochMost) (drop i (epochsIn at s)) ≡ all (λ e. leb e epochMost) (epochsIn at s)
 
 abbrev μ-loop : tie.MeasureT-loop
 μ-loop s at ok₀ i₀ ok i = epochsMost - i
@@ -29,10 +28,10 @@ loop-again c =
     let head = c .before .before .loop in
     let a = c .before .before .before in
     let more : head .i < epochsMost = c .before .loop-test .taken in
-    let known = length-known (a .args .at) (a .args .s .now) (a .pre) in
+    let known = length-known (a .args .at) (a .args .s .now) in
     all-turn
     (λ e. leb e epochMost)
-    (knownAt (a .args .at) (a .args .s .now))
+    (epochsIn (a .args .at) (a .args .s .now))
     (head .i)
     (head .ok)
     _
@@ -45,8 +44,8 @@ returns : tie.Need-returns Inv-loop μ-loop
 returns c =
     let head = c .before .loop in
     let a = c .before .before in
-    let known = length-known (a .args .at) (a .args .s .now) (a .pre) in
-    let none = all-done (λ e. leb e epochMost) (knownAt (a .args .at) (a .args .s .now)) (head .i) (omega (arith, known, c .loop-test .left)) in
+    let known = length-known (a .args .at) (a .args .s .now) in
+    let none = all-done (λ e. leb e epochMost) (epochsIn (a .args .at) (a .args .s .now)) (head .i) (omega (arith, known, c .loop-test .left)) in
     sym (and-true (head .ok)) ∙ ap (λ (b : Bool). head .ok && b) (sym none) ∙ head .inv
 
 pub fits-spec : {M : Type 1} → statement M

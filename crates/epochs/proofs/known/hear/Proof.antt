@@ -8,8 +8,8 @@ use lib.Dec.{eqb, ltb}
 use lib.ListN.{length, getD, take}
 use lib.Seq.{take-all}
 use Rattle.names.specs.Sets.{union}
-use Rattle.epochs.specs.Epochs.{identifierOf, epochOf, older, spoken}
-use Rattle.epochs.specs.code.Known.{knownAt, bitWhere}
+use Rattle.epochs.specs.Epochs.{epochsIn, identifierOf, epochOf, older, spoken}
+use Rattle.epochs.specs.code.Known.{bitWhere}
 use Rattle.epochs.proofs.EpochLaws.{length-known, older-none, risen-turn, late-turn}
 use borrow.Author.Needs.{needs}
 use Rattle.epochs.proofs.known.hear.Statement.{statement}
@@ -18,8 +18,8 @@ use Rattle.epochs.proofs.known.hear.Tie as tie
 abbrev Inv-loop : tie.InvT-loop
 Inv-loop s at own words risen₀ late₀ i₀ risen late i =
     (i ≤ length words)
-    × (risen ≡ older (knownAt at s) (spoken own (take i words) (knownAt at s)))
-    × (late ≡ older (spoken own (take i words) (knownAt at s)) (knownAt at s))
+    × (risen ≡ older (epochsIn at s) (spoken own (take i words) (epochsIn at s)))
+    × (late ≡ older (spoken own (take i words) (epochsIn at s)) (epochsIn at s))
 
 abbrev μ-loop : tie.MeasureT-loop
 μ-loop s at own words risen₀ late₀ i₀ risen late i = length words - i
@@ -28,7 +28,7 @@ loop-holds : tie.Need-loop-holds Inv-loop μ-loop
 unfolding spoken
 loop-holds c =
     let a = c .before .before .args in
-    let none = older-none (knownAt (a .at) (a .s .now)) in
+    let none = older-none (epochsIn (a .at) (a .s .now)) in
     (omega arith, sym none, sym none)
 
 epoch-of-requires : tie.Need-epoch-of-requires Inv-loop μ-loop
@@ -45,8 +45,8 @@ loop-again c =
     let at = inside .before .loop in
     let a = inside .before .before .before .before in
     let more = inside .loop-test .taken in
-    let ks = knownAt (a .args .at) (a .args .s .now) in
-    let long = length-known (a .args .at) (a .args .s .now) (a .pre .0) in
+    let ks = epochsIn (a .args .at) (a .args .s .now) in
+    let long = length-known (a .args .at) (a .args .s .now) in
     let known = at-epoch .epoch-of .ensures .0 in (
       omega (arith, more),
       c .before .before .union .ensures

@@ -10,8 +10,7 @@ use lib.ListN.{length, getD, take}
 use lib.Seq.{take-all}
 use Rattle.numbers.specs.Numbers.{put}
 use Rattle.numbers.proofs.NumberLaws.{length-put}
-use Rattle.epochs.specs.Epochs.{identifierOf, epochOf, raised, spoken}
-use Rattle.epochs.specs.code.Known.{knownAt}
+use Rattle.epochs.specs.Epochs.{epochsIn, identifierOf, epochOf, raised, spoken}
 use Rattle.epochs.proofs.EpochLaws.{put-known, raise-write}
 use borrow.Author.Needs.{needs}
 use Rattle.epochs.proofs.known.raise.Statement.{statement}
@@ -19,7 +18,7 @@ use Rattle.epochs.proofs.known.raise.Tie as tie
 
 abbrev Inv-loop : tie.InvT-loop
 Inv-loop s₀ at own words i₀ s i =
-    (i ≤ length words) × (length s ≡ length s₀) × (s ≡ put at (raised (knownAt at s₀) (spoken own (take i words) (knownAt at s₀))) s₀)
+    (i ≤ length words) × (length s ≡ length s₀) × (s ≡ put at (raised (epochsIn at s₀) (spoken own (take i words) (epochsIn at s₀))) s₀)
 
 abbrev μ-loop : tie.MeasureT-loop
 μ-loop s₀ at own words i₀ s i = length words - i

@@ -1,4 +1,4 @@
--- `lines::commands::set_line` meets its contract: three fields, of which two are words, set the state up; other fields are a bad line.
+-- `lines::commands::set_line` meets its contract: four fields, of which two are words, set the state up; other fields are a bad line.
 -- Assumes nothing.
 use Prim.Native.Nat.{_^_, _<_}
 use mathlib.Core.Path.{_≡_}
@@ -23,12 +23,12 @@ returns c =
 returns-2 : tie.Need-returns-2
 unfolding setLine badLine
 returns-2 c =
-    let at-three = c .before .before .before .before .before .before .before in
-    let three = eq-eqb _ _ (at-three .if1 .left) in
-    let ns = at-three .before .before .before .before .args .values .now in
+    let at-four = c .before .before .before .before .before .before .before in
+    let four = eq-eqb _ _ (at-four .if1 .left) in
+    let ns = at-four .before .before .before .before .args .values .now in
     let wide : isWord (getD ns 0 0) && isWord (getD ns 1 0) ≡ false = not-true _ (c .before .before .before .before .if2 .taken) in
     let printed = c .before .before .put-bad2 .ensures in
-    (rw (three, wide), rw (three, wide) (printed .0), rw (three, wide), rw (three, wide) (printed .1))
+    (rw (four, wide), rw (four, wide) (printed .0), rw (four, wide), rw (four, wide) (printed .1))
 
 -- own and drift are words
 fits : (c : tie.Else2) → let ns = c .before .before .before .before .before .before .before .args .values .now in (getD ns 0 0 < 2 ^ 32) × (getD ns 1 0 < 2 ^ 32)
@@ -48,17 +48,17 @@ cast-monitor-set-up-2 c = omega (arith, fits (c .before))
 returns-3 : tie.Need-returns-3
 unfolding setLine badLine
 returns-3 c =
-    let at-words = c .before .before .before .before .before .before .before .before .before in
-    let at-three = at-words .before .before .before in
-    let three = eq-eqb _ _ (at-three .if1 .left) in
-    let ns = at-three .before .before .before .before .args .values .now in
+    let at-words = c .before .before .before .before .before .before .before .before .before .before in
+    let at-four = at-words .before .before .before in
+    let four = eq-eqb _ _ (at-four .if1 .left) in
+    let ns = at-four .before .before .before .before .args .values .now in
     let fit : isWord (getD ns 0 0) && isWord (getD ns 1 0) ≡ true = not-false _ (at-words .if2 .left) in
     let set = c .before .before .before .before .before .before .monitor-set-up .ensures in
     let printed = c .before .before .put-number .ensures in (
-      rw (three, fit, ← (set .0)),
-      rw (three, fit, ← (set .0)) (printed .0),
-      rw (three, fit) (set .1),
-      rw (three, fit, ← (set .0)) (printed .1),
+      rw (four, fit, ← (set .0)),
+      rw (four, fit, ← (set .0)) (printed .0),
+      rw (four, fit) (set .1),
+      rw (four, fit, ← (set .0)) (printed .1),
     )
 
 pub set-line-spec : {M : Type 1} → statement M
@@ -75,6 +75,7 @@ set-line-spec =
     returns-2
     cast-monitor-set-up
     cast-monitor-set-up-2
+    (λ c. search needs)
     (λ c. search needs)
     (λ c κs. search needs)
     (λ c κs. search needs)

@@ -1,8 +1,9 @@
 -- `message::read::read` meets its contract: each return is a case of the definition's tests.
-use Rattle.message.specs.Read.{readWords}
+use mathlib.Core.Path.{sym, _∙_}
+use Rattle.message.specs.Read.{readFrom, readWords}
 use Rattle.message.proofs.Cases.{cases}
 use borrow.Author.Needs.{needs}
-use borrow.Author.Tests.{le-ltb}
+use borrow.Author.Tests.{le-ltb, eq-eqb, ne-eqb}
 use Rattle.message.proofs.read.read.Statement.{statement}
 use Rattle.message.proofs.read.read.Tie as tie
 
@@ -15,14 +16,30 @@ unfolding readWords
 returns-2 c = search cases
 
 returns-3 : tie.Need-returns-3
-unfolding readWords
-returns-3 c = rw (le-ltb _ _ (c .before .before .if1 .left), le-ltb _ _ (c .before .if2 .left)) (c .read-from .ensures)
+unfolding readWords readFrom
+returns-3 c =
+    let at-count = c .before .before in
+    rw (
+      le-ltb _ _ (at-count .before .if1 .left),
+      le-ltb _ _ (at-count .if2 .left),
+      ← (c .before .shape .ensures),
+      ne-eqb (c .before .shape .result) 0 (c .if3 .taken),
+    )
+
+contents-requires : tie.Need-contents-requires
+contents-requires c κs = sym (c .before .shape .ensures) ∙ c .if3 .left
+
+returns-4 : tie.Need-returns-4
+unfolding readWords readFrom
+returns-4 c =
+    let at-shape = c .before .before in
+    rw (
+      le-ltb _ _ (at-shape .before .before .if1 .left),
+      le-ltb _ _ (at-shape .before .if2 .left),
+      ← (at-shape .shape .ensures),
+      eq-eqb (at-shape .shape .result) 0 (c .before .if3 .left),
+    )
+    (c .contents .ensures)
 
 pub read-spec : {M : Type 1} → statement M
-read-spec =
-    tie.close
-    (tie.spec
-    returns
-    returns-2
-    (λ c κs. search needs)
-    returns-3)
+read-spec = tie.close (tie.spec returns returns-2 (λ c κs. search needs) returns-3 contents-requires returns-4)

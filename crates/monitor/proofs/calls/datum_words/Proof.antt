@@ -1,10 +1,14 @@
--- `monitor::calls::datum_words` meets its contract: own name, ends and masks are read from the bytes, and what `write` makes of them are the
--- words of the held datum (`words-written`). A state in form gives the ranges that `write` asks.
-use mathlib.Core.Path.{_≡_, ap}
+-- `monitor::calls::datum_words` meets its contract: own name, ends and masks are read from the bytes, the names from the epochs, and what `write` makes of
+-- them are the words of the held datum (`words-written`). A state in form gives the ranges that `write` asks.
+use Prim.Native.Nat.{_≤_}
+use mathlib.Core.Path.{_≡_, sym, ap, _∙_}
 use native.Mathlib.Omega.{arith}
 use lib.ListN.{take, length}
-use Rattle.state.specs.Layout.{datumAt}
-use Rattle.monitor.proofs.CallLaws.{Held, held-out, length-written, ends-lt, terms-taken, words-written}
+use Rattle.numbers.specs.Numbers.{num}
+use Rattle.epochs.specs.Epochs.{epochsIn}
+use Rattle.radio.specs.Names.{wanted, namesOf}
+use Rattle.state.specs.Layout.{ownAt, epochsAt, datumAt}
+use Rattle.monitor.proofs.CallLaws.{Held, held-out, given-told, length-written, ends-lt, terms-taken, words-written}
 use borrow.Author.Needs.{needs}
 use Rattle.monitor.proofs.calls.datum_words.Statement.{statement}
 use Rattle.monitor.proofs.calls.datum_words.Tie as tie
@@ -20,36 +24,76 @@ terms : (c : tie.After-get-words) → let a = c .before .before .before .before 
     take (c .before .before .get322 .result) (c .get-words .last .1 .1 .0) ≡ datumAt (a .state .now) (a .position) .terms
 terms c = terms-taken _ _ (held c) _ _ _ (c .before .before .get322 .ensures .0) (c .get-words .ensures)
 
+-- the names in use are those that it gives
+abbrev at-words : tie.After-known-names → tie.After-get-words
+at-words c = c .before .before .before .before .before
+
+names : (c : tie.After-known-names) → let a = at-words c .before .before .before .before .before .before .before .before .args in
+    take (c .known-names .result) (c .known-names .last .1 .1 .1 .0)
+    ≡ namesOf (epochsIn epochsAt (a .state .now)) (wanted (num ownAt 4 (a .state .now)) (datumAt (a .state .now) (a .position) .terms))
+names c =
+    let w = at-words c in
+    given-told _ _ (held w) _ _ _ _ (w .before .before .before .before .before .get32 .ensures .0) (terms w) (c .before .before .wanted .ensures) (c .known-names .ensures .1)
+
+-- and so many
+counted : (c : tie.After-known-names) → c .known-names .result ≡ length (take (c .known-names .result) (c .known-names .last .1 .1 .1 .0))
+counted c = c .known-names .ensures .0 .0 ∙ sym (ap length (c .known-names .ensures .1))
+
+-- so many terms
+long : (c : tie.After-get-words) → c .before .before .get322 .result ≡ length (take (c .before .before .get322 .result) (c .get-words .last .1 .1 .0))
+long c = let f = held c in omega (arith, ap length (terms c), f .count, c .before .before .get322 .ensures .0)
+
+few : (c : tie.After-get-words) → c .before .before .get322 .result ≤ 8
+few c = let f = held c in omega (arith, f .few, f .count, c .before .before .get322 .ensures .0)
+
 array-share-prefix-masks : tie.Need-array-share-prefix-masks
-array-share-prefix-masks c =
-    let f = held (c .before .before .before) in
-    let e = c .before .before .before .before .before .get322 .ensures .0 in
-    omega (arith, f .few, f .count)
+array-share-prefix-masks c = let size = few (c .before) in search needs
+
+slice-aggregate-wanted : tie.Need-slice-aggregate-wanted
+slice-aggregate-wanted c = long (c .before .before)
+
+wanted-requires : tie.Need-wanted-requires
+wanted-requires c κs = let w = c .before .before in omega (arith, held w .own-le, w .before .before .before .before .before .get32 .ensures .0)
+
+known-names-requires : tie.Need-known-names-requires
+known-names-requires c κs = let a = c .before .before .before .before .before .before .before .before .before .before .before .before in (omega (arith, a .pre .0 .0), omega arith)
+
+array-share-prefix-names : tie.Need-array-share-prefix-names
+array-share-prefix-names c = let size = c .before .before .known-names .ensures .0 .1 in search needs
+
+slice-aggregate-write : tie.Need-slice-aggregate-write
+slice-aggregate-write c = counted (c .before .before .before)
+
+array-share-prefix-masks-2 : tie.Need-array-share-prefix-masks-2
+array-share-prefix-masks-2 c = let size = few (at-words (c .before .before .before)) in search needs
 
 slice-aggregate-write-2 : tie.Need-slice-aggregate-write-2
-slice-aggregate-write-2 c =
-    let at-words = c .before .before .before .before in
-    let f = held at-words in
-    omega (arith, ap length (terms at-words), f .count, at-words .before .before .get322 .ensures .0)
+slice-aggregate-write-2 c = long (at-words (c .before .before .before .before))
 
 write-requires : tie.Need-write-requires
 write-requires c κs =
-    let at-words = c .before .before .before .before in
-    let at-right = at-words .before .before .before in
-    let f = held at-words in
+    let k = c .before .before .before .before in
+    let w = at-words k in
+    let at-right = w .before .before .before in
+    let f = held w in
     let ends = ends-lt _ _ f _ _ (at-right .before .get64 .ensures .0) (at-right .get642 .ensures .0) in
-    let size = ap length (terms at-words) in
-    ((omega (arith, f .own-le, at-right .before .before .get32 .ensures .0), ends .0, ends .1, omega (arith, f .few)), omega (arith, f .few))
+    let a = at-right .before .before .before .before .before in
+    ((omega (arith, f .own-le, at-right .before .before .get32 .ensures .0), ends .0, ends .1, omega (arith, long w, few w)), omega (arith, long w, few w, counted k, k .known-names .ensures .0 .1, a .pre .1 .2))
+
+add-result : tie.Need-add-result
+add-result c = let k = c .before .before .before .before .before .before .before in omega (arith, few (at-words k), k .known-names .ensures .0 .1)
+
+add-result-2 : tie.Need-add-result-2
+add-result-2 c = let k = c .before .before .before .before .before .before .before in omega (arith, few (at-words k), k .known-names .ensures .0 .1)
 
 returns : tie.Need-returns
 returns c =
-    let at-write = c .before .before in
-    let at-words = at-write .before .before .before .before .before in
-    let at-right = at-words .before .before .before in
-    let f = held at-words in
-    let e = at-words .before .before .get322 .ensures .0 in
-    let same = words-written _ _ f _ _ _ _ (at-right .before .before .get32 .ensures .0) (at-right .before .get64 .ensures .0) (at-right .get642 .ensures .0) (terms at-words) in
-    ((omega (arith, length-written _ _ f), omega (arith, f .few, f .count)), rw same at (at-write .write .ensures))
+    let k = c .before .before .before .before .before .before .before in
+    let w = at-words k in
+    let at-right = w .before .before .before in
+    let f = held w in
+    let same = words-written _ _ f _ _ _ _ _ (at-right .before .before .get32 .ensures .0) (at-right .before .get64 .ensures .0) (at-right .get642 .ensures .0) (names k) (terms w) in
+    ((omega (arith, length-written _ _ f, ap length (names k), counted k, f .count, w .before .before .get322 .ensures .0), omega (arith, few w, k .known-names .ensures .0 .1)), rw same at (c .before .before .write .ensures))
 
 pub datum-words-spec : {M : Type 1} → statement M
 datum-words-spec =
@@ -67,10 +111,17 @@ datum-words-spec =
     (λ c. search needs)
     (λ c. search needs)
     (λ c κs. search needs)
-    (λ c. search needs)
     array-share-prefix-masks
+    slice-aggregate-wanted
+    wanted-requires
+    (λ c. search needs)
+    known-names-requires
+    array-share-prefix-names
+    slice-aggregate-write
+    array-share-prefix-masks-2
     slice-aggregate-write-2
     write-requires
-    (λ c. search needs)
+    add-result
+    add-result-2
     (λ c. search needs)
     returns)

@@ -4,7 +4,7 @@ use mathlib.Core.Path.{_≡_, sym, _∙_}
 use mathlib.Core.Bool.{true}
 use native.Mathlib.Omega.{arith}
 use borrow.Author.Tests.{not-true, not-false}
-use Rattle.state.specs.Form.{headFits, dataFit, entriesFit, inForm}
+use Rattle.state.specs.Form.{headFits, dataFit, entriesFit, epochsFit, inForm}
 use Rattle.state.proofs.FormLoops.{head-out}
 use borrow.Author.Needs.{needs}
 use Rattle.state.proofs.form.in_form.Statement.{statement}
@@ -29,11 +29,11 @@ entries-fit-requires c κs =
     (omega (arith, c .before .get323 .ensures .0), omega (arith, c .before .before .before .get32 .ensures .0), search needs)
 
 returns-2 : tie.Need-returns-2
-unfolding inForm dataFit entriesFit
+unfolding inForm dataFit entriesFit epochsFit
 returns-2 c =
-    let at-entries = c .before in
+    let at-entries = c .before .before in
     let at-own = at-entries .before .before .before .before in
-    rw (fits (at-own .before), at-entries .before .data-fit .ensures, at-entries .entries-fit .ensures, c .clocks-fit .ensures, at-own .get32 .ensures .0, at-entries .before .before .before .get322 .ensures .0, at-entries .before .before .get323 .ensures .0)
+    rw (fits (at-own .before), at-entries .before .data-fit .ensures, at-entries .entries-fit .ensures, c .before .clocks-fit .ensures, c .fits2 .ensures, at-own .get32 .ensures .0, at-entries .before .before .before .get322 .ensures .0, at-entries .before .before .get323 .ensures .0)
 
 pub in-form-spec : {M : Type 1} → statement M
 in-form-spec =
@@ -48,5 +48,6 @@ in-form-spec =
     data-fit-requires
     (λ c. search needs)
     entries-fit-requires
+    (λ c κs. search needs)
     (λ c κs. search needs)
     returns-2)

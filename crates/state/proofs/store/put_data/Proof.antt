@@ -19,20 +19,20 @@ use Rattle.state.proofs.store.put_data.Statement.{statement}
 use Rattle.state.proofs.store.put_data.Tie as tie
 
 -- neither a row that has moved nor one that is new
-neither : (r i used : ℕ) → (ltb r i || leb used i) ≡ false → (i ≤ r) × (i < used)
-neither r i used e = go (ltb r i) (leb used i) refl refl e
+neither : (r i standing : ℕ) → (ltb r i || leb standing i) ≡ false → (i ≤ r) × (i < standing)
+neither r i standing e = go (ltb r i) (leb standing i) refl refl e
   where
-    go : (a b : Bool) → ltb r i ≡ a → leb used i ≡ b → a || b ≡ false → (i ≤ r) × (i < used)
-    go false false p q e = (ltb-false r i p, leb-false used i q)
+    go : (a b : Bool) → ltb r i ≡ a → leb standing i ≡ b → a || b ≡ false → (i ≤ r) × (i < standing)
+    go false false p q e = (ltb-false r i p, leb-false standing i q)
     go false true p q e = let z : _≡_ {A = ℕ} 0 1 = cc in absurd (omega arith)
     go true b p q e = let z : _≡_ {A = ℕ} 0 1 = cc in absurd (omega arith)
 
 abbrev Inv-loop : tie.InvT-loop
-Inv-loop s₀ lefts rights counts masks n used r₀ i₀ s r i =
+Inv-loop s₀ lefts rights counts masks n standing r₀ i₀ s r i =
     (i ≤ n) × (r ≤ i) × Written datumBytes 52 24 (dataIn i (columns lefts rights counts masks)) r s₀ s
 
 abbrev μ-loop : tie.MeasureT-loop
-μ-loop s₀ lefts rights counts masks n used r₀ i₀ s r i = n - i
+μ-loop s₀ lefts rights counts masks n standing r₀ i₀ s r i = n - i
 
 loop-holds : tie.Need-loop-holds Inv-loop μ-loop
 unfolding dataIn tab
