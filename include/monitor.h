@@ -8,8 +8,10 @@
  *  The calls are reentrant and keep nothing between them: the archive has no data that is written, takes no memory but the stack and what is
  *  lent, and calls memcpy and memset alone. So threads may call at once, as long as none writes what another is lent.
  *
- *  Instants and readings are whole microseconds. Names of monitors are 0 to MONITOR_GREATEST_NAME. Numbers in bytes are little-endian. A radio
- *  message is handed in as its 32-bit words, four bytes each; docs/layouts.md has all layouts.
+ *  Instants and readings are whole microseconds. A monitor's name is its identifier, 0 to MONITOR_GREATEST_NAME, and its epoch, 0 to
+ *  MONITOR_GREATEST_EPOCH: one that was mended comes back under the next epoch, and is another name. A state knows of each identifier the greatest
+ *  epoch that it has heard. Numbers in bytes are little-endian. A radio message is handed in as its 32-bit words, four bytes each; docs/layouts.md
+ *  has all layouts.
  *
  *  monitor_text.h reads and puts the numbers and has a text for each refusal. Link with libmonitor.a (x86-64 alone; ELF, the calling convention of
  *  Linux), which the package has and `rt staticlib monitor` writes to target/staticlib. */
@@ -20,7 +22,7 @@
 #include <stdint.h>
 
 /** Rises by one with each change that a C program can see; CHANGELOG.md says what it was. */
-#define MONITOR_VERSION 5
+#define MONITOR_VERSION 6
 
 /** The mark of a result that must be looked at, where the compiler knows one: a refusal that nobody sees leaves a state that nobody expects. */
 #if (defined(__cplusplus) && __cplusplus >= 201703L) || (defined(__STDC_VERSION__) && __STDC_VERSION__ >= 202311L)
@@ -36,7 +38,7 @@ extern "C" {
 #endif
 
 /** A monitor's state. A lent state may be longer; the bytes beyond stay as they are. */
-#define MONITOR_STATE_BYTES 5236
+#define MONITOR_STATE_BYTES 5265
 
 /** What monitor_message_read writes: sender, left, right, term count, 8 bytes each. */
 #define MONITOR_READING_BYTES 32
@@ -48,18 +50,21 @@ extern "C" {
 #define MONITOR_FEWEST_BYTES 16
 
 /** Words of the shortest message and of the longest, and the terms that a message or a held datum has at most. */
-#define MONITOR_LEAST_WORDS 5
-#define MONITOR_MOST_WORDS 14
+#define MONITOR_LEAST_WORDS 6
+#define MONITOR_MOST_WORDS 43
 #define MONITOR_MOST_TERMS 8
 
 /** Bytes of the longest message. An output of this size is never too short for monitor_message_rewrite or monitor_write. */
 #define MONITOR_MESSAGE_BYTES (4 * MONITOR_MOST_WORDS)
 
-/** The greatest name, drift in parts per million, delay in microseconds and limit of failed monitors. */
+/** The greatest identifier of a monitor, drift in parts per million, delay in microseconds and limit of failed monitors. */
 #define MONITOR_GREATEST_NAME 28
 #define MONITOR_GREATEST_DRIFT 1000
 #define MONITOR_GREATEST_DELAY 600000000
 #define MONITOR_GREATEST_LIMIT 4
+
+/** The greatest epoch of a monitor, which counts how often it was mended. */
+#define MONITOR_GREATEST_EPOCH 15
 
 /** The greatest reading, and the greatest end of an interval that can be stored. */
 #define MONITOR_GREATEST_READING ((UINT64_C(1) << 58) - 1)
@@ -76,13 +81,13 @@ extern "C" {
  *  looks memcpy or memset up at the first call (link with -z now, or statically, and it does not). */
 #define MONITOR_STACK_SET_UP 64
 #define MONITOR_STACK_AGE 256
-#define MONITOR_STACK_RECEIVE 3456
-#define MONITOR_STACK_RECEIVE_WITH_READINGS 3456
-#define MONITOR_STACK_WRITE 320
+#define MONITOR_STACK_RECEIVE 8704
+#define MONITOR_STACK_RECEIVE_WITH_READINGS 8704
+#define MONITOR_STACK_WRITE 576
 #define MONITOR_STACK_ASK 7552
 #define MONITOR_STACK_FEWEST 6144
-#define MONITOR_STACK_MESSAGE_READ 256
-#define MONITOR_STACK_MESSAGE_REWRITE 320
+#define MONITOR_STACK_MESSAGE_READ 384
+#define MONITOR_STACK_MESSAGE_REWRITE 576
 
 /** The kinds of answer that monitor_ask writes. */
 enum monitor_answer {
@@ -95,19 +100,19 @@ enum monitor_answer {
 enum monitor_refusal {
     MONITOR_TAKEN = 0,
     /* caused by the installer */
-    MONITOR_OWN_NAME = 1,       /**< own name above MONITOR_GREATEST_NAME */
+    MONITOR_OWN_NAME = 1,       /**< own identifier above MONITOR_GREATEST_NAME */
     MONITOR_DRIFT = 2,          /**< drift above MONITOR_GREATEST_DRIFT */
     MONITOR_READING = 3,        /**< reading above MONITOR_GREATEST_READING */
     /* caused by the sender of a message */
     MONITOR_WORD_COUNT = 10,    /**< words fewer than MONITOR_LEAST_WORDS or more than MONITOR_MOST_WORDS, or bytes not a multiple of 4 */
-    MONITOR_FORM = 11,          /**< second word neither kind 2 nor 4 */
+    MONITOR_FORM = 11,          /**< word behind the epoch words neither kind 2 nor 4, or none there */
     MONITOR_HEAD = 12,          /**< kind not 1, sender above MONITOR_GREATEST_NAME, more than MONITOR_MOST_TERMS terms, bits 10 to 28 not 0 */
-    MONITOR_LENGTH = 13,        /**< word count not that of head and form */
+    MONITOR_LENGTH = 13,        /**< word count not that of head, epoch words and form */
     MONITOR_KIND = 14,          /**< a later word of the wrong kind */
     MONITOR_CHECK = 15,         /**< check word */
     MONITOR_INTERVAL = 16,      /**< left above right, or an end below 0 or above MONITOR_GREATEST_END */
     MONITOR_TERMS = 17,         /**< terms not in normal form */
-    MONITOR_SENDER = 18,        /**< sender is the own name */
+    MONITOR_SENDER = 18,        /**< sender is the own identifier, under any epoch */
     /* caused by the host program */
     MONITOR_BACKWARDS = 20,     /**< reading below the last */
     MONITOR_DELAY = 21,         /**< least delay above greatest, or greatest above MONITOR_GREATEST_DELAY */
@@ -120,19 +125,24 @@ enum monitor_refusal {
     MONITOR_TERM_COUNT = 31,    /**< more than MONITOR_MOST_TERMS terms in the new predicate's normal form, stored or not */
     MONITOR_TOO_MANY = 32,      /**< too many data or entries */
     /* caused by the host program, with clock readings */
-    MONITOR_READINGS = 40       /**< a clock reading or half width above MONITOR_GREATEST_CLOCK, or a drift above MONITOR_GREATEST_DRIFT */
+    MONITOR_READINGS = 40,      /**< a clock reading or half width above MONITOR_GREATEST_CLOCK, or a drift above MONITOR_GREATEST_DRIFT */
+    /* caused by the installer, with epochs */
+    MONITOR_OWN_EPOCH = 41,     /**< own epoch above MONITOR_GREATEST_EPOCH */
+    /* caused by the sender of a message, with epochs */
+    MONITOR_EPOCHS = 42         /**< epoch words missing, unordered, too many or ill formed: they are one for each identifier, rising */
 };
 
-/** Sets a monitor up: it holds nothing.
+/** Sets a monitor up: it holds nothing, and knows every epoch but its own as 0.
  *  @param state      its first MONITOR_STATE_BYTES bytes become the fresh state, whatever they were
  *  @param state_len  how many bytes are lent
- *  @param own        the own name, 0 to MONITOR_GREATEST_NAME
+ *  @param own        the own identifier, 0 to MONITOR_GREATEST_NAME
  *  @param drift      the own clock's drift in parts per million, 0 to MONITOR_GREATEST_DRIFT
  *  @param reading    the own clock's reading, at most MONITOR_GREATEST_READING
- *  @return 0 when taken; else, tested in this order, 24, 1, 2 or 3, and no byte has changed
+ *  @param epoch      the own epoch, 0 to MONITOR_GREATEST_EPOCH: one more than before each time that this monitor was mended; no message changes it
+ *  @return 0 when taken; else, tested in this order, 24, 1, 41, 2 or 3, and no byte has changed
  *  Stack: MONITOR_STACK_SET_UP bytes. */
 MONITOR_CHECKED
-uint32_t monitor_set_up(uint8_t *state, size_t state_len, uint32_t own, uint32_t drift, uint64_t reading);
+uint32_t monitor_set_up(uint8_t *state, size_t state_len, uint32_t own, uint32_t drift, uint64_t reading, uint64_t epoch);
 
 /** Ages the state to a reading of the own clock: every interval widens by what the drift can have made of the time passed.
  *  @param state      the monitor's bytes; those beyond MONITOR_STATE_BYTES stay as they are
@@ -144,15 +154,19 @@ MONITOR_CHECKED
 uint32_t monitor_age(uint8_t *state, size_t state_len, uint64_t reading);
 
 /** Receives a message at the reading the state was last aged to. The delays are counted on the own clock: the left end gains what true time
- *  advances by at least over the least delay, the right end what it advances by at most over the greatest, as monitor_age has it. A message
- *  whose predicate is true is taken and changes nothing. What is saved of the sender's clock stays as it is.
+ *  advances by at least over the least delay, the right end what it advances by at most over the greatest, as monitor_age has it.
+ *
+ *  The message's epochs are heard first, that of the own identifier aside. One above the known one is the known one from then on, and the old name
+ *  is withdrawn: it counts as failed in all held data and entries, those that are true by that go, the others are put in normal form, and what is
+ *  saved of that identifier's clock goes. A name whose epoch is below the known one counts as failed in the message. Beyond what is heard, a
+ *  message whose predicate is true is taken and changes nothing. What is saved of the sender's clock stays as it is, unless its epoch has risen.
  *  @param state        the monitor's bytes; those beyond MONITOR_STATE_BYTES stay as they are
  *  @param state_len    how many bytes are lent
  *  @param least        the channel's least delay, by the own clock
  *  @param greatest     the channel's greatest delay, by the own clock, at most MONITOR_GREATEST_DELAY
  *  @param message      the words, four bytes each; they are not changed
  *  @param message_len  how many bytes they are
- *  @return 0 when taken; else, tested in this order, 24, 25, 21, 10, 12, 11, 13, 14, 15, 16, 17, 18, 30, 31 or 32, and no byte has changed
+ *  @return 0 when taken; else, tested in this order, 24, 25, 21, 10, 12, 11, 13, 14, 42, 15, 16, 17, 18, 30, 31 or 32, and no byte has changed
  *  Stack: MONITOR_STACK_RECEIVE bytes. */
 MONITOR_CHECKED
 uint32_t monitor_receive(uint8_t *state, size_t state_len, uint64_t least, uint64_t greatest, const uint8_t *message, size_t message_len);
@@ -162,7 +176,8 @@ uint32_t monitor_receive(uint8_t *state, size_t state_len, uint64_t least, uint6
  *  sender's reading, b the own one and w the half width. With a1, b1, w1 saved and a2, b2, w2 new, the test is violated if
  *  ||b2 - b1| - (a2 - a1)| is above |a2 - a1| times the sum of both drifts, plus w1 + w2. A violation makes the sender's name an entry, that is,
  *  it is known from then on that this monitor has failed, and held data that this explains go. The new readings are saved, violating ones too;
- *  the first of a sender are saved without a test. All this is done for a message whose predicate is true too.
+ *  the first of a sender are saved without a test, and so are the first under a risen epoch. All this is done for a message whose predicate is true
+ *  too, but not for one whose sender's epoch is below the known one: its readings are neither tested nor saved.
  *  @param state           the monitor's bytes; those beyond MONITOR_STATE_BYTES stay as they are
  *  @param state_len       how many bytes are lent
  *  @param least           the channel's least delay, by the own clock
@@ -174,18 +189,19 @@ uint32_t monitor_receive(uint8_t *state, size_t state_len, uint64_t least, uint6
  *  @param sender_drift    the sender's clock's drift in parts per million, at most MONITOR_GREATEST_DRIFT
  *  @param message         the words, four bytes each; they are not changed
  *  @param message_len     how many bytes they are
- *  @return 0 when taken; else, tested in this order, 24, 25, 21, 40, 10, 12, 11, 13, 14, 15, 16, 17, 18, 30, 31 or 32, and no byte has changed
+ *  @return 0 when taken; else, tested in this order, 24, 25, 21, 40, 10, 12, 11, 13, 14, 42, 15, 16, 17, 18, 30, 31 or 32, and no byte has changed
  *  Stack: MONITOR_STACK_RECEIVE_WITH_READINGS bytes. */
 MONITOR_CHECKED
 uint32_t monitor_receive_with_readings(uint8_t *state, size_t state_len, uint64_t least, uint64_t greatest, uint64_t sender_reading,
                                        uint64_t own_reading, uint64_t half_width, uint32_t sender_drift, const uint8_t *message,
                                        size_t message_len);
 
-/** Writes a held datum as a message in ends form, with the own name as sender.
+/** Writes a held datum as a message in ends form, with the own identifier as sender and the epochs that are known, the own one among them.
  *  @param state        the monitor's bytes; they are not changed
  *  @param state_len    how many bytes are lent
  *  @param position     which datum; 0 is the oldest
- *  @param message      the message goes to its first 4 * (6 + term count) bytes; those beyond stay as they are
+ *  @param message      the message goes to its first 4 * (6 + epoch words + term count) bytes; those beyond stay as they are. There is an epoch
+ *                      word for the own identifier and for each in the terms
  *  @param message_len  how many bytes are lent; MONITOR_MESSAGE_BYTES are always enough
  *  @return 0 when taken; else, tested in this order, 24 (state), 25, 23 or 24 (message), and no byte has changed
  *  Stack: MONITOR_STACK_WRITE bytes. */
@@ -194,6 +210,7 @@ uint32_t monitor_write(const uint8_t *state, size_t state_len, uint64_t position
 
 /** Asks what time it can be at the reading the state was last aged to. An instant counts if some set of failed monitors within the limit, the
  *  own one not among them, explains all that is known of failures, and each held interval that this set does not explain contains the instant.
+ *  A name that was withdrawn counts nowhere: the mended monitor is another.
  *  @param state       the monitor's bytes; they are not changed
  *  @param state_len   how many bytes are lent
  *  @param limit       how many monitors may have failed, 0 to MONITOR_GREATEST_LIMIT
@@ -209,31 +226,31 @@ uint32_t monitor_ask(const uint8_t *state, size_t state_len, uint64_t limit, uin
  *  smallest, and of those the one with the least mask.
  *  @param state       the monitor's bytes; they are not changed
  *  @param state_len   how many bytes are lent
- *  @param answer      the count of names and their mask, name n being the bit of value 2^n, go to its first MONITOR_FEWEST_BYTES bytes, or
- *                     MONITOR_FEWEST_OVER and 0 if there is no such set; those beyond stay as they are
+ *  @param answer      the count of names and their mask, identifier n being the bit of value 2^n, go to its first MONITOR_FEWEST_BYTES bytes,
+ *                     or MONITOR_FEWEST_OVER and 0 if there is no such set; those beyond stay as they are
  *  @param answer_len  how many bytes are lent
  *  @return 0 when taken; else, tested in this order, 24 (state), 25 or 24 (answer), and no byte has changed
  *  Stack: MONITOR_STACK_FEWEST bytes. */
 MONITOR_CHECKED
 uint32_t monitor_fewest(const uint8_t *state, size_t state_len, uint8_t *answer, size_t answer_len);
 
-/** Reads a message.
+/** Reads a message. Epochs and terms are in the message itself: the words of kind 0 and of kind 6.
  *  @param message      the words, four bytes each
  *  @param message_len  how many bytes they are
  *  @param reading      sender, left, right and term count go to its first MONITOR_READING_BYTES bytes; those beyond stay as they are
  *  @param reading_len  how many bytes are lent
- *  @return 0 when taken; else, tested in this order, 10, 12, 11, 13, 14, 15, 16, 17 or 24 (reading too short), and no byte has changed
+ *  @return 0 when taken; else, tested in this order, 10, 12, 11, 13, 14, 42, 15, 16, 17 or 24 (reading too short), and no byte has changed
  *  Stack: MONITOR_STACK_MESSAGE_READ bytes. */
 MONITOR_CHECKED
 uint32_t monitor_message_read(const uint8_t *message, size_t message_len, uint8_t *reading, size_t reading_len);
 
-/** Writes a message again in ends form, with the sender, interval and terms that it has and a new check word. A message in ends form comes out
- *  as the same words.
+/** Writes a message again in ends form, with the sender, epochs, interval and terms that it has and a new check word. A message in ends form
+ *  comes out as the same words.
  *  @param message      the words, four bytes each
  *  @param message_len  how many bytes they are
- *  @param out          the message goes to its first 4 * (6 + term count) bytes; those beyond stay as they are
+ *  @param out          the message goes to its first 4 * (6 + epoch words + term count) bytes; those beyond stay as they are
  *  @param out_len      how many bytes are lent; MONITOR_MESSAGE_BYTES are always enough
- *  @return 0 when taken; else, tested in this order, 10, 12, 11, 13, 14, 15, 16, 17 or 24 (out too short), and no byte has changed
+ *  @return 0 when taken; else, tested in this order, 10, 12, 11, 13, 14, 42, 15, 16, 17 or 24 (out too short), and no byte has changed
  *  Stack: MONITOR_STACK_MESSAGE_REWRITE bytes. */
 MONITOR_CHECKED
 uint32_t monitor_message_rewrite(const uint8_t *message, size_t message_len, uint8_t *out, size_t out_len);

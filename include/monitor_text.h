@@ -42,18 +42,18 @@ static inline const char *monitor_text(uint32_t number)
 {
     switch (number) {
     case MONITOR_TAKEN: return "The call was taken.";
-    case MONITOR_OWN_NAME: return "The own name is above 28.";
+    case MONITOR_OWN_NAME: return "The own identifier is above 28.";
     case MONITOR_DRIFT: return "The drift is above 1,000 parts per million.";
     case MONITOR_READING: return "The reading is 2^58 or more.";
-    case MONITOR_WORD_COUNT: return "The message has fewer than 5 or more than 14 words, or a number of bytes that is not a multiple of 4.";
-    case MONITOR_FORM: return "The second word is neither of kind 2 nor of kind 4.";
+    case MONITOR_WORD_COUNT: return "The message has fewer than 6 or more than 43 words, or a number of bytes that is not a multiple of 4.";
+    case MONITOR_FORM: return "The word behind the epoch words is neither of kind 2 nor of kind 4, or there is none.";
     case MONITOR_HEAD: return "The head is not of kind 1, its sender is above 28, its term count is above 8, or its bits 10 to 28 are not zero.";
-    case MONITOR_LENGTH: return "The word count is not that of head and form.";
+    case MONITOR_LENGTH: return "The word count is not that of head, epoch words and form.";
     case MONITOR_KIND: return "A later word is of the wrong kind.";
     case MONITOR_CHECK: return "The check word is not the sum of the earlier words.";
     case MONITOR_INTERVAL: return "The left end is above the right one, or an end is below 0 or above 2^58 - 1.";
     case MONITOR_TERMS: return "The terms are not in normal form: masks strictly rising, no term containing another.";
-    case MONITOR_SENDER: return "The sender is the own name.";
+    case MONITOR_SENDER: return "The sender is the own identifier.";
     case MONITOR_BACKWARDS: return "The reading is below the last one.";
     case MONITOR_DELAY: return "The least delay is above the greatest, or the greatest is above 600,000,000 microseconds.";
     case MONITOR_LIMIT: return "The limit is above 4.";
@@ -64,6 +64,8 @@ static inline const char *monitor_text(uint32_t number)
     case MONITOR_TERM_COUNT: return "The new predicate has more than 8 terms in normal form.";
     case MONITOR_TOO_MANY: return "There would be more than 16 data or more than 32 entries.";
     case MONITOR_READINGS: return "A clock reading or the half width is 2^43 or more, or the sender's drift is above 1,000 parts per million.";
+    case MONITOR_OWN_EPOCH: return "The own epoch is above 15.";
+    case MONITOR_EPOCHS: return "The epoch words are not one for the sender and each identifier in the terms, rising and well formed.";
     default: return "No call returns this number.";
     }
 }

@@ -47,7 +47,7 @@ by_link_elsewhere() { (cd / && "$scratch/second" "$OLDPWD/$scenario") | diff "$s
 help_text() {
     local word
     timeout 60 ./listing --help >"$scratch/out" 2>"$scratch/err" && [ ! -s "$scratch/err" ] || return 1
-    for word in 'set OWN' 'age READING' 'get LEAST' 'ask LIMIT' fewest ok refused between open contradicted 'fewest over 4' 'bad line'; do
+    for word in 'set OWN DRIFT READING EPOCH' 'age READING' 'get LEAST' 'ask LIMIT' fewest ok refused between open contradicted 'fewest over 4' 'bad line'; do
         says "$word" out || return 1
     done
 }

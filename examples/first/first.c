@@ -6,14 +6,14 @@
 #include "monitor_text.h"
 
 #define GATEWAYS 2
-#define WORDS 6
+#define WORDS 7
 
 /* What the radio brought, and the own clock when it came: gateway 1 says 1,000,000,000 to 1,000,000,200 at 5 s, gateway 2 says 1,003,000,000 to
  * 1,003,000,300 at 8 s. */
 static const uint64_t clock_at[GATEWAYS] = {5000000, 8000000};
 static const uint32_t words[GATEWAYS][WORDS] = {
-    {536870913, 1073741825, 1536870912, 1610612737, 2073742024, 4147483851},
-    {536870914, 1073741825, 1539870912, 1610612737, 2076742124, 4153483952},
+    {536870913, 1, 1073741825, 1536870912, 1610612737, 2073742024, 4147483852},
+    {536870914, 2, 1073741825, 1539870912, 1610612737, 2076742124, 4153483954},
 };
 
 /* Whether a call was refused; if so, it says why. */
@@ -28,8 +28,8 @@ int main(void)
 {
     uint8_t state[MONITOR_STATE_BYTES], message[MONITOR_MESSAGE_BYTES], answer[MONITOR_ANSWER_BYTES];
 
-    /* monitor 5; its clock drifts by up to 100 parts per million and reads 0 now */
-    if (refused("set up", monitor_set_up(state, sizeof state, 5, 100, 0)))
+    /* monitor 5; its clock drifts by up to 100 parts per million and reads 0 now; it was never mended, so its epoch is 0 */
+    if (refused("set up", monitor_set_up(state, sizeof state, 5, 100, 0, 0)))
         return 1;
 
     for (int i = 0; i < GATEWAYS; i++) {

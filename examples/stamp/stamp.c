@@ -3,7 +3,7 @@
  *     stamp LIMIT < NOTEBOOK        LIMIT: how many monitors may have failed, 0 to MONITOR_GREATEST_LIMIT
  *
  * A notebook has the lines
- *     set OWN DRIFT READING         the monitor's name, its clock's drift in parts per million, and its clock
+ *     set OWN DRIFT READING EPOCH   the monitor's identifier, its clock's drift in parts per million, its clock, and its epoch
  *     age READING                   a later reading of its clock
  *     get LEAST GREATEST WORD ...   a radio message and the least and greatest delay of its channel
  * and between them what was written down at the pools, in any words. Each of those is printed behind the time it can have been. */
@@ -76,9 +76,9 @@ static int command(uint8_t *state, const char *line, uint32_t *number)
     uint64_t values[MOST];
     int n = numbers(line + 3, values);
     if (strncmp(line, "set", 3) == 0) {
-        if (n != 3 || values[0] > UINT32_MAX || values[1] > UINT32_MAX)
+        if (n != 4 || values[0] > UINT32_MAX || values[1] > UINT32_MAX)
             return 0;
-        *number = monitor_set_up(state, MONITOR_STATE_BYTES, (uint32_t)values[0], (uint32_t)values[1], values[2]);
+        *number = monitor_set_up(state, MONITOR_STATE_BYTES, (uint32_t)values[0], (uint32_t)values[1], values[2], values[3]);
         return 1;
     }
     if (strncmp(line, "age", 3) == 0) {

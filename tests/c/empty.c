@@ -1,17 +1,17 @@
-/* Slices of length 0 at NULL, for every call: what an empty buffer hands in. Each is refused as document 01 lists it, and nothing is written. */
+/* Slices of length 0 at NULL, for every call: what an empty buffer hands in. Each is refused as the papers list it, and nothing is written. */
 #include <string.h>
 
 #include "lent.h"
 
-static const uint32_t words[] = {536870913u, 1073741824u, 1074741824u, 1610612736u, 1611612936u, 3760096585u};
+static const uint32_t words[] = {536870913u, 1, 1073741824u, 1074741824u, 1610612736u, 1611612936u, 3760096586u};
 
 /* No state: 24, whatever else is handed in. */
 static void no_state(const uint8_t *message, size_t len)
 {
     struct lent o;
     uint8_t *out = lend(&o, MONITOR_MESSAGE_BYTES);
-    check(monitor_set_up(NULL, 0, 5, 100, 0) == MONITOR_BUFFER, "setting up without a state is 24");
-    check(monitor_set_up(NULL, 0, 99, 9999, UINT64_MAX) == MONITOR_BUFFER, "before 1, 2 and 3");
+    check(monitor_set_up(NULL, 0, 5, 100, 0, 0) == MONITOR_BUFFER, "setting up without a state is 24");
+    check(monitor_set_up(NULL, 0, 99, 9999, UINT64_MAX, UINT64_MAX) == MONITOR_BUFFER, "before 1, 41, 2 and 3");
     check(monitor_age(NULL, 0, 7) == MONITOR_BUFFER, "ageing without a state is 24");
     check(monitor_receive(NULL, 0, 0, 50, message, len) == MONITOR_BUFFER, "receiving without a state is 24");
     check(monitor_receive(NULL, 0, 0, 50, NULL, 0) == MONITOR_BUFFER, "without a message too");
@@ -32,7 +32,7 @@ static void no_more(const uint8_t *message, size_t len)
 {
     struct lent s;
     uint8_t *state = lend(&s, MONITOR_STATE_BYTES), before[MONITOR_STATE_BYTES];
-    check(monitor_set_up(state, s.n, 5, 100, 0) == MONITOR_TAKEN, "a monitor is set up");
+    check(monitor_set_up(state, s.n, 5, 100, 0, 0) == MONITOR_TAKEN, "a monitor is set up");
     check(monitor_receive(state, s.n, 0, 50, message, len) == MONITOR_TAKEN, "and holds a datum");
     memcpy(before, state, sizeof before);
     check(monitor_receive(state, s.n, 0, 50, NULL, 0) == MONITOR_WORD_COUNT, "no message is 10");

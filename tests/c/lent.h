@@ -11,14 +11,15 @@
 #define GUARD 16
 #define MOST (MONITOR_STATE_BYTES + 40)
 
-/* Places in a state, as docs/layouts.md has them: the counts, the ends of the oldest datum, the first entry's mask, and what is saved of a name's
- * clock. */
+/* Places in a state, as docs/layouts.md has them: the counts, the ends of the oldest datum, the first entry's mask, what is saved of a name's clock,
+ * and the epoch of an identifier. */
 #define HELD_COUNT 16
 #define ENTRY_COUNT 20
 #define OLDEST_LEFT 24
 #define OLDEST_RIGHT 32
 #define FIRST_MASK 860
 #define CLOCK_OF(name) (3032 + 76 * (name))
+#define EPOCH_OF(name) (5236 + (name))
 
 static int passed, failed;
 

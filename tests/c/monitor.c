@@ -5,18 +5,20 @@
 #include "lent.h"
 #include "monitor.h"
 
-/* Document 01's listing: sender 1 from 1,000,000 to 1,000,200, and later sender 2 from 3,000,000 + 1,000 to 3,001,000. */
-static const uint32_t first[] = {536870913u, 1073741824u, 1074741824u, 1610612736u, 1611612936u, 3760096585u};
-static const uint32_t second[] = {536870914u, 1073741824u, 1076742824u, 1610612736u, 1613613736u, 3764098386u};
+/* Document 01's listing, with epochs: sender 1 from 1,000,000 to 1,000,200, and later sender 2 from 3,000,000 + 1,000 to 3,001,000. */
+static const uint32_t first[] = {536870913u, 1, 1073741824u, 1074741824u, 1610612736u, 1611612936u, 3760096586u};
+static const uint32_t second[] = {536870914u, 2, 1073741824u, 1076742824u, 1610612736u, 1613613736u, 3764098388u};
+#define WORDS (sizeof first / sizeof *first)
 
 static void set_up_refuses(void)
 {
     struct lent s;
     uint8_t *state = lend(&s, MONITOR_STATE_BYTES);
-    check(monitor_set_up(state, MONITOR_STATE_BYTES - 1, 5, 100, 0) == MONITOR_BUFFER && untouched(&s, 0), "a state one byte short is 24");
-    check(monitor_set_up(state, s.n, MONITOR_GREATEST_NAME + 1, 100, 0) == MONITOR_OWN_NAME && untouched(&s, 0), "own name 29 is 1");
-    check(monitor_set_up(state, s.n, 5, MONITOR_GREATEST_DRIFT + 1, 0) == MONITOR_DRIFT && untouched(&s, 0), "drift 1,001 is 2");
-    check(monitor_set_up(state, s.n, 5, 100, MONITOR_GREATEST_READING + 1) == MONITOR_READING && untouched(&s, 0),
+    check(monitor_set_up(state, MONITOR_STATE_BYTES - 1, 5, 100, 0, 0) == MONITOR_BUFFER && untouched(&s, 0), "a state one byte short is 24");
+    check(monitor_set_up(state, s.n, MONITOR_GREATEST_NAME + 1, 100, 0, 0) == MONITOR_OWN_NAME && untouched(&s, 0), "own identifier 29 is 1");
+    check(monitor_set_up(state, s.n, 5, 100, 0, MONITOR_GREATEST_EPOCH + 1) == MONITOR_OWN_EPOCH && untouched(&s, 0), "own epoch 16 is 41");
+    check(monitor_set_up(state, s.n, 5, MONITOR_GREATEST_DRIFT + 1, 0, 0) == MONITOR_DRIFT && untouched(&s, 0), "drift 1,001 is 2");
+    check(monitor_set_up(state, s.n, 5, 100, MONITOR_GREATEST_READING + 1, 0) == MONITOR_READING && untouched(&s, 0),
           "a reading of 2^58 is 3");
     check(monitor_age(state, s.n, 0) == MONITOR_STATE_FORM && untouched(&s, 0), "bytes that are no state are 25");
 }
@@ -53,9 +55,10 @@ static void writing(const uint8_t *state)
 {
     struct lent o;
     uint8_t *out = lend(&o, MONITOR_MESSAGE_BYTES), reading[MONITOR_READING_BYTES];
-    check(monitor_write(state, MONITOR_STATE_BYTES, 0, out, o.n) == MONITOR_TAKEN && untouched(&o, 28), "the oldest is written as 7 words");
-    check(monitor_message_read(out, 28, reading, sizeof reading) == MONITOR_TAKEN, "what is written is read");
-    check(monitor_number(reading) == 5 && monitor_number(reading + 24) == 1, "own name and one term");
+    check(monitor_write(state, MONITOR_STATE_BYTES, 0, out, o.n) == MONITOR_TAKEN && untouched(&o, 36), "the oldest is written as 9 words");
+    check(monitor_word(out + 4) == 1 && monitor_word(out + 8) == 5, "with the epochs of its sender and of its term");
+    check(monitor_message_read(out, 36, reading, sizeof reading) == MONITOR_TAKEN, "what is written is read");
+    check(monitor_number(reading) == 5 && monitor_number(reading + 24) == 1, "own identifier and one term");
     check(monitor_number(reading + 8) == 2999800 && monitor_number(reading + 16) == 3000451, "and the interval");
 }
 
@@ -93,12 +96,12 @@ static void listing(void)
     struct lent s, o;
     uint8_t *state = lend(&s, MONITOR_STATE_BYTES), *out = lend(&o, MONITOR_MESSAGE_BYTES), message[sizeof first];
 
-    check(monitor_set_up(state, s.n, 5, 100, 0) == MONITOR_TAKEN && untouched(&s, MONITOR_STATE_BYTES), "set 5 100 0");
+    check(monitor_set_up(state, s.n, 5, 100, 0, 0) == MONITOR_TAKEN && untouched(&s, MONITOR_STATE_BYTES), "set 5 100 0 0");
     check(monitor_write(state, s.n, 0, out, o.n) == MONITOR_POSITION && untouched(&o, 0), "a fresh state holds nothing: 23");
     check(answers(state, 0, MONITOR_OPEN, 0, 0) && answers(state, MONITOR_GREATEST_LIMIT, MONITOR_OPEN, 0, 0), "a fresh state is open");
     check(fewest(state, 0, 0), "and nobody need have failed");
 
-    size_t len = monitor_put_words(message, first, 6);
+    size_t len = monitor_put_words(message, first, WORDS);
     check(monitor_receive(state, s.n, 0, 50, message, len) == MONITOR_TAKEN, "get 0 50 of the first message");
     check(monitor_number(state + OLDEST_LEFT) == 1000000 && monitor_number(state + OLDEST_RIGHT) == 1000251, "its interval has grown by the delays");
     check(answers(state, 0, MONITOR_BETWEEN, 1000000, 1000251), "ask 0 is that interval");
@@ -107,7 +110,7 @@ static void listing(void)
     check(answers(state, 0, MONITOR_BETWEEN, 2999800, 3000451), "and so has the answer");
     refusals_leave(state, message, len);
 
-    len = monitor_put_words(message, second, 6);
+    len = monitor_put_words(message, second, WORDS);
     check(monitor_receive(state, s.n, 0, 0, message, len) == MONITOR_TAKEN, "get 0 0 of the second message");
     check(state[HELD_COUNT] == 2 && state[ENTRY_COUNT] == 1, "two data are held, and that they are disjoint is known");
     check(answers(state, 0, MONITOR_CONTRADICTED, 0, 0), "ask 0 is contradicted");
@@ -122,11 +125,11 @@ static void listing(void)
 /* A message of the instant 0 over a channel with these delays; what it then says, or the number that it is refused with. */
 static int arrives(uint32_t drift, uint64_t least, uint64_t greatest, uint32_t number, uint64_t left, uint64_t right)
 {
-    static const uint32_t words[] = {1u << 29 | 1, 2u << 29, 2u << 29, 3u << 29, 3u << 29, 7u << 29 | 1};
+    static const uint32_t words[] = {1u << 29 | 1, 1, 2u << 29, 2u << 29, 3u << 29, 3u << 29, 7u << 29 | 2};
     struct lent s;
     uint8_t *state = lend(&s, MONITOR_STATE_BYTES), message[sizeof words];
-    size_t len = monitor_put_words(message, words, 6);
-    if (monitor_set_up(state, s.n, 5, drift, 0) != MONITOR_TAKEN || monitor_receive(state, s.n, least, greatest, message, len) != number)
+    size_t len = monitor_put_words(message, words, WORDS);
+    if (monitor_set_up(state, s.n, 5, drift, 0, 0) != MONITOR_TAKEN || monitor_receive(state, s.n, least, greatest, message, len) != number)
         return 0;
     return answers(state, 0, number == MONITOR_TAKEN ? MONITOR_BETWEEN : MONITOR_OPEN, left, right) && untouched(&s, MONITOR_STATE_BYTES);
 }
@@ -146,10 +149,10 @@ static void over_limit(void)
 {
     struct lent s;
     uint8_t *state = lend(&s, MONITOR_STATE_BYTES), message[sizeof first];
-    check(monitor_set_up(state, s.n, 0, 0, 0) == MONITOR_TAKEN, "a monitor is set up");
+    check(monitor_set_up(state, s.n, 0, 0, 0, 0) == MONITOR_TAKEN, "a monitor is set up");
     for (uint32_t n = 1; n <= MONITOR_GREATEST_LIMIT + 2; n++) {
-        uint32_t words[] = {1u << 29 | n, 2u << 29, 2u << 29 | 100 * n, 3u << 29, 3u << 29 | (100 * n + 9), 7u << 29 | (201 * n + 9)};
-        size_t len = monitor_put_words(message, words, 6);
+        uint32_t words[] = {1u << 29 | n, n, 2u << 29, 2u << 29 | 100 * n, 3u << 29, 3u << 29 | (100 * n + 9), 7u << 29 | (202 * n + 9)};
+        size_t len = monitor_put_words(message, words, WORDS);
         check(monitor_receive(state, s.n, 0, 0, message, len) == MONITOR_TAKEN, "senders 1 to 6, all apart");
         int over = n > MONITOR_GREATEST_LIMIT + 1;
         check(over ? fewest(state, MONITOR_FEWEST_OVER, 0) : fewest(state, n - 1, (1u << n) - 2), "all but one of them have failed");
@@ -163,7 +166,7 @@ static void over_limit(void)
 static uint32_t watched(uint8_t *state, uint64_t sender_reading, uint64_t own_reading, uint64_t half_width)
 {
     uint8_t message[sizeof first];
-    size_t len = monitor_put_words(message, first, 6);
+    size_t len = monitor_put_words(message, first, WORDS);
     return monitor_receive_with_readings(state, MONITOR_STATE_BYTES, 0, 0, sender_reading, own_reading, half_width, 0, message, len);
 }
 
@@ -177,7 +180,7 @@ static int saved(const uint8_t *state, const uint64_t numbers[9])
     return same;
 }
 
-/* Whether all places but sender 1's are zeros. */
+/* Whether all places but sender 1's are zeros, and all epochs. */
 static int no_other_saved(const uint8_t *state)
 {
     int zeros = 1;
@@ -192,7 +195,7 @@ static void clock_is_watched(void)
     static const uint64_t three[9] = {200, 205, 1, 0, 0, 1, 200, 205, 1};
     struct lent s;
     uint8_t *state = lend(&s, MONITOR_STATE_BYTES);
-    check(monitor_set_up(state, s.n, 5, 0, 0) == MONITOR_TAKEN && no_other_saved(state), "a fresh state has nothing saved");
+    check(monitor_set_up(state, s.n, 5, 0, 0, 0) == MONITOR_TAKEN && no_other_saved(state), "a fresh state has nothing saved");
     check(watched(state, 0, 0, 1) == MONITOR_TAKEN && saved(state, one), "the first readings are saved three times");
     check(watched(state, 100, 102, 1) == MONITOR_TAKEN && saved(state, two), "at the bound of the test they agree, and are saved");
     check(state[HELD_COUNT] == 1 && state[ENTRY_COUNT] == 0 && no_other_saved(state), "a datum is held, and no failure is known");
@@ -208,9 +211,9 @@ static void readings_refuse(void)
 {
     struct lent s;
     uint8_t *state = lend(&s, MONITOR_STATE_BYTES), before[MONITOR_STATE_BYTES], message[sizeof first];
-    size_t len = monitor_put_words(message, first, 6);
+    size_t len = monitor_put_words(message, first, WORDS);
     const uint64_t past = MONITOR_GREATEST_CLOCK + 1;
-    check(monitor_set_up(state, s.n, 5, 0, 0) == MONITOR_TAKEN, "a monitor is set up");
+    check(monitor_set_up(state, s.n, 5, 0, 0, 0) == MONITOR_TAKEN, "a monitor is set up");
     memcpy(before, state, sizeof before);
     check(watched(state, past, 0, 0) == MONITOR_READINGS, "a sender's reading of 2^43 is 40");
     check(watched(state, 0, past, 0) == MONITOR_READINGS, "an own reading of 2^43 is 40");

@@ -70,7 +70,7 @@ standards() {
 caller() {
     local arguments
     case $1 in
-    monitor_set_up) arguments='b, 0, 0, 0, 0' ;;
+    monitor_set_up) arguments='b, 0, 0, 0, 0, 0' ;;
     monitor_age) arguments='b, 0, 0' ;;
     monitor_receive) arguments='b, 0, 0, 0, b, 0' ;;
     monitor_receive_with_readings) arguments='b, 0, 0, 0, 0, 0, 0, 0, b, 0' ;;
@@ -182,7 +182,7 @@ examples() {
         try "first by $compiler, answers" prints examples/first/expected "$scratch/first"
         try "first by $compiler, under valgrind" prints examples/first/expected watch "$scratch/first"
         try "words by $compiler" build "$compiler" examples/words/words.c "$scratch/words"
-        try "words by $compiler, under valgrind" watch "$scratch/words" 3 1000000 1000200 1,2 4
+        try "words by $compiler, under valgrind" watch "$scratch/words" 3 1000000 1000200 1,2 4@1
     done
     try "stamp with gcc's own checks" build gcc examples/stamp/stamp.c "$scratch/stamp" -g -fsanitize=address,undefined
     try "stamp with gcc's own checks, dates" prints examples/stamp/expected stamp "$scratch/stamp"
@@ -211,26 +211,32 @@ not_understood() {
 taken_by_listing() {
     local words
     words=$("$scratch/words" "${@:2}") || return 1
-    printf 'set 5 100 0\nget 0 0 %s\nask 0\n' "$words" >"$scratch/lines"
+    printf 'set 5 100 0 0\nget 0 0 %s\nask 0\n' "$words" >"$scratch/lines"
     prints <(printf 'ok\nok\n%s\n' "$1") target/bin/listing <"$scratch/lines"
 }
 
 words() {
-    # document 01's listing
-    try 'words, document 01, first' makes '536870913 1073741824 1074741824 1610612736 1611612936 3760096585' 1 1000000 1000200
-    try 'words, document 01, second' makes '536870914 1073741824 1076742824 1610612736 1613613736 3764098386' 2 3001000 3001000
-    # README's relay
-    try 'words, a term' makes '536870947 1073741832 1378774528 1610612744 1915645640 3221225474 3831291133' 3 4600000000 4600000200 1
-    try 'words, least' makes '536870912 1073741824 1073741824 1610612736 1610612736 3758096384' 0 0 0
-    try 'words, greatest' makes '536870940 1610612735 1610612735 2147483647 2147483647 3758096408' 28 288230376151711743 288230376151711743
+    # document 01's listing, with epochs
+    try 'words, document 01, first' makes '536870913 1 1073741824 1074741824 1610612736 1611612936 3760096586' 1 1000000 1000200
+    try 'words, document 01, second' makes '536870914 2 1073741824 1076742824 1610612736 1613613736 3764098388' 2 3001000 3001000
+    # README's relay, and its mended gateway
+    try 'words, a term' makes '536870947 1 3 1073741832 1378774528 1610612744 1915645640 3221225474 3831291137' 3 4600000000 4600000200 1
+    try 'words, an epoch' makes '536870913 33 1073741826 1300000000 1610612738 1836871112 4210612974' 1@1 1300000000 1300000200
+    try 'words, epochs of terms' makes '536870981 97 2 229 1073741824 1073741824 1610612736 1610612746 3221225474 3221225476 3758096797' 5@7 0 10 1@3 2
+    try 'words, an epoch given twice' makes '536870945 65 1073741824 1073741824 1610612736 1610612746 3221225474 3758096494' 1@2 0 10 1@2
+    try 'words, an epoch given with a term' makes '536870945 65 1073741824 1073741824 1610612736 1610612746 3221225474 3758096494' 1 0 10 1@2
+    try 'words, least' makes '536870912 0 1073741824 1073741824 1610612736 1610612736 3758096384' 0 0 0
+    try 'words, greatest' makes '536870940 508 1610612735 1610612735 2147483647 2147483647 3758096916' 28@15 288230376151711743 288230376151711743
     try 'words, the listing takes them' taken_by_listing 'between 7 9' 1 7 9
-    try 'words, the listing takes terms' taken_by_listing 'between 7 288230376151711743' 1 7 288230376151711743 1,2 0,3 4,28
+    try 'words, the listing takes terms' taken_by_listing 'between 7 288230376151711743' 1@15 7 288230376151711743 1,2 0@1,3 4,28
     try 'words, the listing takes eight' taken_by_listing 'between 7 9' 0 7 9 0 1 2 3 4 6 7 8
     try 'words, the listing takes the empty term' taken_by_listing open 1 7 9 -
     try 'words, sender 29' refuses 12 29 1 2
     try 'words, sender 32' refuses 12 32 1 2
     try 'words, sender 2^32' refuses 12 4294967296 1 2
     try 'words, nine terms' refuses 12 10 1 2 0 1 2 3 4 5 6 7 8
+    try 'words, epoch 16' refuses 42 1@16 2 3
+    try "words, a term's epoch 2^32" refuses 42 1 2 3 2@4294967296
     try 'words, left above right' refuses 16 1 3 2
     try 'words, left 2^58' refuses 16 1 288230376151711744 288230376151711744
     try 'words, right 2^58' refuses 16 1 0 288230376151711744
@@ -239,7 +245,8 @@ words() {
     try 'words, a term in another' refuses 17 1 2 3 1 1,2
     try 'words, the empty term and another' refuses 17 1 2 3 - 1
     local bad
-    for bad in '' 'x 1 2' '1 2' '1 -2 3' '1 +2 3' '1 2 3x' '1 2 99999999999999999999' '1 2 3 29' '1 2 3 1,' '1 2 3 ,1' '1 2 3 1;2'; do
+    for bad in '' 'x 1 2' '1 2' '1 -2 3' '1 +2 3' '1 2 3x' '1 2 99999999999999999999' '1 2 3 29' '1 2 3 1,' '1 2 3 ,1' '1 2 3 1;2' \
+        '1@ 2 3' '@1 2 3' '1@1@1 2 3' '1@99999999999999999999 2 3' '1@1 2 3 1@2,3' '1 2@1 3' '1 2 3 -@1'; do
         # shellcheck disable=SC2086
         try "words, not understood: $bad" not_understood $bad
     done

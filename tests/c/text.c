@@ -3,7 +3,7 @@
 
 #include "lent.h"
 
-static const uint32_t listed[] = {0, 1, 2, 3, 10, 11, 12, 13, 14, 15, 16, 17, 18, 20, 21, 22, 23, 24, 25, 30, 31, 32, 40};
+static const uint32_t listed[] = {0, 1, 2, 3, 10, 11, 12, 13, 14, 15, 16, 17, 18, 20, 21, 22, 23, 24, 25, 30, 31, 32, 40, 41, 42};
 #define LISTED (sizeof listed / sizeof *listed)
 
 static int is_listed(uint32_t number)

@@ -6,7 +6,7 @@
 
 using bytes = std::vector<std::uint8_t>;
 
-static std::uint32_t set_up(bytes &state) { return monitor_set_up(state.data(), state.size(), 5, 100, 0); }
+static std::uint32_t set_up(bytes &state) { return monitor_set_up(state.data(), state.size(), 5, 100, 0, 0); }
 
 static std::uint32_t age(bytes &state, std::uint64_t reading) { return monitor_age(state.data(), state.size(), reading); }
 
@@ -36,10 +36,11 @@ static std::uint32_t rewrite(const bytes &message, bytes &out)
     return monitor_message_rewrite(message.data(), message.size(), out.data(), out.size());
 }
 
-// Document 01's first message.
-static bytes first_message()
+// Document 01's first message; its sender was mended so often.
+static bytes first_message(std::uint32_t epoch = 0)
 {
-    const std::vector<std::uint32_t> words{536870913u, 1073741824u, 1074741824u, 1610612736u, 1611612936u, 3760096585u};
+    const std::vector<std::uint32_t> words{536870913u,  1 + 32 * epoch, 1073741824u, 1074741824u, 1610612736u,
+                                           1611612936u, 3760096586u + 32 * epoch};
     bytes message(4 * words.size());
     check(monitor_put_words(message.data(), words.data(), words.size()) == message.size(), "the words are put");
     return message;
@@ -70,11 +71,11 @@ static void filled()
     check(fewest(state, answer) == MONITOR_TAKEN && monitor_number(answer.data()) == 0, "nobody need have failed");
     bytes out(message.size());
     check(rewrite(message, out) == MONITOR_TAKEN && out == message, "an ends form message is rewritten as it was");
-    out.assign(28, 0);
+    out.assign(36, 0);
     check(write(state, out) == MONITOR_TAKEN && read(out, reading) == MONITOR_TAKEN && monitor_number(reading.data()) == 5, "a datum is written");
 }
 
-// A clock that runs as it should, and then jumps.
+// A clock that runs as it should, then jumps, and is mended.
 static void watched()
 {
     bytes state(MONITOR_STATE_BYTES), message = first_message(), answer(MONITOR_FEWEST_BYTES);
@@ -85,6 +86,8 @@ static void watched()
     check(receive_with_readings(state, 6000, 7000, message) == MONITOR_TAKEN, "readings that do not");
     check(fewest(state, answer) == MONITOR_TAKEN && monitor_number(answer.data()) == 1 && monitor_number(answer.data() + 8) == 2,
           "the sender has failed");
+    check(receive(state, first_message(1)) == MONITOR_TAKEN, "the mended sender");
+    check(fewest(state, answer) == MONITOR_TAKEN && monitor_number(answer.data()) == 0, "nobody need have failed");
 }
 
 int main()
