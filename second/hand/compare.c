@@ -1,5 +1,6 @@
 /* Compares hand.c with the engine over seeded random calls: numbers, and every byte of state and output, guards around them too. `compare` is
- * the full comparison, `compare N` one of N rounds. Fails at the first difference, and if a number of the papers' lists was never seen. */
+ * the full comparison, `compare N` one of N rounds. Fails at the first difference, and if a number of the papers' lists or anything else that is
+ * counted was never seen. */
 #include <stdio.h>
 #include <stdlib.h>
 
@@ -12,18 +13,21 @@
 #define COUNT(array) (sizeof(array) / sizeof *(array))
 #define PICK(r, ...) (((const uint64_t[]){__VA_ARGS__})[below(r, COUNT(((const uint64_t[]){__VA_ARGS__})))])
 
-enum kind { SET_UP, AGE, RECEIVE, WITH_READINGS, WRITE, ASK, FEWEST, KINDS };
-static const char *const kind_names[KINDS] = {"set_up", "age", "receive", "receive_with_readings", "write", "ask", "fewest"};
+enum kind { SET_UP, AGE, RECEIVE, WITH_READINGS, WRITE, ASK, FEWEST, READ, REWRITE, KINDS };
+static const char *const kind_names[KINDS] = {"set_up", "age", "receive", "receive_with_readings", "write", "ask", "fewest", "message_read",
+                                              "message_rewrite"};
 
 /* The papers' numbers for each call; 0 is taken and stands first. */
-static const unsigned expected[KINDS][18] = {
-    {0, 1, 2, 3, 24},
+static const unsigned expected[KINDS][19] = {
+    {0, 1, 2, 3, 24, 41},
     {0, 3, 20, 24, 25, 30},
-    {0, 10, 11, 12, 13, 14, 15, 16, 17, 18, 21, 24, 25, 30, 31, 32},
-    {0, 10, 11, 12, 13, 14, 15, 16, 17, 18, 21, 24, 25, 30, 31, 32, 40},
+    {0, 10, 11, 12, 13, 14, 15, 16, 17, 18, 21, 24, 25, 30, 31, 32, 42},
+    {0, 10, 11, 12, 13, 14, 15, 16, 17, 18, 21, 24, 25, 30, 31, 32, 40, 42},
     {0, 23, 24, 25},
     {0, 22, 24, 25},
     {0, 24, 25},
+    {0, 10, 11, 12, 13, 14, 15, 16, 17, 24, 42},
+    {0, 10, 11, 12, 13, 14, 15, 16, 17, 24, 42},
 };
 
 static unsigned long seen[KINDS][64];
@@ -32,6 +36,18 @@ static unsigned long answers[3], counts[6];
 /* What taken receipts with readings met. */
 enum met { FIRST, AGREED, VIOLATED, METS };
 static unsigned long met[METS];
+
+/* What receipts made of epochs: those taken, and those refused when names had been withdrawn. */
+enum heard {
+    RISEN_SENDER, RISEN_TERM, RISEN_STRUCK, LATE_SENDER, LATE_TERM, OWN_PASSED, DATUM_GONE, DATUM_LESS, ENTRY_GONE, ENTRY_LESS, TRIPLES_GONE,
+    UNHEEDED, UNDONE, HEARDS
+};
+static const char *const heard_names[HEARDS] = {
+    "risen sender", "risen in a term", "risen in a struck term alone", "late sender", "late in a term", "another epoch of the own identifier",
+    "datum withdrawn", "datum less a name", "entry withdrawn", "entry less a name", "triples gone", "readings of a late sender",
+    "undone by 32"
+};
+static unsigned long heard[HEARDS];
 
 /* Document 01's greatest delay: a radio that takes longer has slept. */
 #define AWAKE 60000000
@@ -52,6 +68,7 @@ struct lent {
 struct call {
     enum kind kind;
     uint32_t own, drift;
+    uint64_t epoch;
     uint64_t a, b; /* reading, delays, position or limit */
     uint64_t sender_reading, own_reading, half_width;
     uint32_t sender_drift;
@@ -75,7 +92,7 @@ static uint32_t by_engine(const struct call *c, uint8_t *state, size_t len, uint
 {
     switch (c->kind) {
     case SET_UP:
-        return monitor_set_up(state, len, c->own, c->drift, c->a);
+        return monitor_set_up(state, len, c->own, c->drift, c->a, c->epoch);
     case AGE:
         return monitor_age(state, len, c->a);
     case RECEIVE:
@@ -87,8 +104,12 @@ static uint32_t by_engine(const struct call *c, uint8_t *state, size_t len, uint
         return monitor_write(state, len, c->a, out, out_len);
     case ASK:
         return monitor_ask(state, len, c->a, out, out_len);
-    default:
+    case FEWEST:
         return monitor_fewest(state, len, out, out_len);
+    case READ:
+        return monitor_message_read(c->message, c->len, out, out_len);
+    default:
+        return monitor_message_rewrite(c->message, c->len, out, out_len);
     }
 }
 
@@ -96,7 +117,7 @@ static uint32_t by_hand(const struct call *c, uint8_t *state, size_t len, uint8_
 {
     switch (c->kind) {
     case SET_UP:
-        return hand_set_up(state, len, c->own, c->drift, c->a);
+        return hand_set_up(state, len, c->own, c->drift, c->a, c->epoch);
     case AGE:
         return hand_age(state, len, c->a);
     case RECEIVE:
@@ -108,8 +129,12 @@ static uint32_t by_hand(const struct call *c, uint8_t *state, size_t len, uint8_
         return hand_write(state, len, c->a, out, out_len);
     case ASK:
         return hand_ask(state, len, c->a, out, out_len);
-    default:
+    case FEWEST:
         return hand_fewest(state, len, out, out_len);
+    case READ:
+        return hand_message_read(c->message, c->len, out, out_len);
+    default:
+        return hand_message_rewrite(c->message, c->len, out, out_len);
     }
 }
 
@@ -134,6 +159,75 @@ static const uint8_t *place_of(const uint8_t *state, const struct call *c)
 {
     uint32_t sender = c->len > 0 ? c->message[0] & 31 : 0;
     return sender < NAMES ? state + CLOCKS_AT + CLOCK * sender : NULL;
+}
+
+/* ---- epochs */
+
+/* The names in a row's terms, and whether these names contain one of the terms. */
+static uint32_t names_of(const uint8_t *row, uint32_t names, int *within)
+{
+    uint32_t all = 0;
+    *within = 0;
+    for (uint32_t i = 0; i < get32(row); i++) {
+        all |= get32(row + 4 + 4 * i);
+        *within |= (get32(row + 4 + 4 * i) & ~names) == 0;
+    }
+    return all;
+}
+
+/* What names that have risen make of the rows. */
+static void count_rows(const uint8_t *state, uint32_t risen)
+{
+    int gone;
+    for (uint32_t i = 0; i < get32(state + HELD_AT); i++)
+        if ((names_of(state + DATA_AT + DATUM * i + 16, risen, &gone) & risen) != 0)
+            heard[gone ? DATUM_GONE : DATUM_LESS]++;
+    for (uint32_t i = 0; i < get32(state + KNOWN_AT); i++)
+        if ((names_of(state + ENTRIES_AT + ENTRY * i, risen, &gone) & risen) != 0)
+            heard[gone ? ENTRY_GONE : ENTRY_LESS]++;
+}
+
+/* The names in the terms of a message that is in form, those with the own identifier aside. */
+static uint32_t names_left(const struct call *c, uint32_t own)
+{
+    uint32_t names = 0, count = get32(c->message) >> 5 & 31;
+    for (uint32_t i = 0; i < count; i++) {
+        uint32_t t = get32(c->message + c->len - 4 - 4 * (count - i)) & PAYLOAD;
+        names |= (t >> own & 1) != 0 ? 0 : t;
+    }
+    return names;
+}
+
+/* Counts what a receipt made of the epochs in its message, which is in form. */
+static void count_heard(const struct call *c, const uint8_t *state, uint32_t number)
+{
+    uint32_t own = get32(state), sender = c->message[0] & 31, left = names_left(c, own), risen = 0;
+    for (const uint8_t *at = c->message + 4; get32(at) >> 29 == 0; at += 4) {
+        uint32_t name = get32(at) & 31, epoch = get32(at) >> 5, known = state[EPOCHS_AT + name];
+        risen |= name != own && epoch > known ? 1u << name : 0;
+        if (number != 0)
+            continue;
+        if (name == own)
+            heard[OWN_PASSED] += epoch != known;
+        else if (epoch > known)
+            heard[name == sender ? RISEN_SENDER : (left >> name & 1) != 0 ? RISEN_TERM : RISEN_STRUCK]++;
+        else if (epoch < known)
+            heard[name == sender ? LATE_SENDER : LATE_TERM]++;
+        heard[TRIPLES_GONE] += (risen >> name & 1) != 0 && get32(state + CLOCKS_AT + CLOCK * name) != 0;
+        heard[UNHEEDED] += c->kind == WITH_READINGS && name == sender && epoch < known;
+    }
+    if (number == 0)
+        count_rows(state, risen);
+    heard[UNDONE] += number == MONITOR_TOO_MANY && risen != 0;
+}
+
+/* The epoch of the sender of a message that is in form. */
+static uint32_t sender_epoch(const struct call *c)
+{
+    const uint8_t *at = c->message + 4;
+    while ((get32(at) & 31) != (c->message[0] & 31u))
+        at += 4;
+    return get32(at) >> 5;
 }
 
 /* ---- delays */
@@ -171,6 +265,26 @@ static void differ(const struct call *c, uint64_t round, const char *what, uint3
     exit(1);
 }
 
+/* What the readings of a taken receipt met. Those under a new epoch are the first of their name; those under an old one meet nothing. */
+static void count_met(const struct call *c, const uint8_t *state)
+{
+    const uint8_t *place = place_of(state, c);
+    uint32_t epoch = sender_epoch(c), known = state[EPOCHS_AT + (c->message[0] & 31)];
+    if (epoch >= known)
+        met[get32(place) == 0 || epoch > known ? FIRST : violations(place, c, get32(state + 4)) > 0 ? VIOLATED : AGREED]++;
+}
+
+/* Counts what a receipt met; one that is refused with 32 has a message in form too. */
+static void count_receipt(const struct call *c, const uint8_t *state, uint32_t number)
+{
+    if (number == MONITOR_TAKEN || number == MONITOR_TOO_MANY)
+        count_heard(c, state, number);
+    if (c->kind == WITH_READINGS && number == MONITOR_TAKEN)
+        count_met(c, state);
+    if (has_slept(c))
+        count_slept(c, get32(state + 4), number);
+}
+
 /* Runs a call in both programs, and compares. A refused call has changed nothing. */
 static uint32_t compare(uint64_t round, const struct call *c, struct lent *state, struct lent *out)
 {
@@ -191,12 +305,8 @@ static uint32_t compare(uint64_t round, const struct call *c, struct lent *state
         answers[out->hand[out->at] % 3]++;
     if (c->kind == FEWEST && hand == 0)
         counts[out->hand[out->at] % 6]++;
-    if (c->kind == WITH_READINGS && hand == 0) {
-        const uint8_t *before = state->before + state->at, *place = place_of(before, c);
-        met[get32(place) == 0 ? FIRST : violations(place, c, get32(before + 4)) > 0 ? VIOLATED : AGREED]++;
-    }
-    if ((c->kind == RECEIVE || c->kind == WITH_READINGS) && has_slept(c))
-        count_slept(c, get32(state->before + state->at + 4), hand);
+    if (c->kind == RECEIVE || c->kind == WITH_READINGS)
+        count_receipt(c, state->before + state->at, hand);
     return hand;
 }
 
@@ -205,10 +315,14 @@ static uint32_t run(struct source *r, uint64_t round, const struct call *c, uint
 {
     static struct lent lent, out;
     uint8_t filler[MONITOR_MESSAGE_BYTES] = {0};
-    size_t wanted = c->kind == WRITE ? MONITOR_MESSAGE_BYTES : c->kind == ASK ? MONITOR_ANSWER_BYTES : MONITOR_FEWEST_BYTES;
+    static const size_t wants[KINDS] = {
+        [WRITE] = MONITOR_MESSAGE_BYTES,   [ASK] = MONITOR_ANSWER_BYTES,       [FEWEST] = MONITOR_FEWEST_BYTES,
+        [READ] = MONITOR_READING_BYTES,    [REWRITE] = MONITOR_MESSAGE_BYTES,
+    };
+    size_t wanted = wants[c->kind];
     size_t len = once_in(r, 40) ? MONITOR_STATE_BYTES - 1 - below(r, PICK(r, 1, 4, 5000)) : MONITOR_STATE_BYTES + below(r, 9);
     lend(r, &lent, state, MONITOR_STATE_BYTES, len);
-    lend(r, &out, filler, sizeof filler, once_in(r, 10) ? below(r, wanted) : wanted);
+    lend(r, &out, filler, sizeof filler, wanted > 0 && once_in(r, 10) ? below(r, wanted) : wanted);
     uint32_t number = compare(round, c, &lent, &out);
     memcpy(state, lent.hand + lent.at, MONITOR_STATE_BYTES);
     return number;
@@ -331,12 +445,39 @@ static void send_earlier(struct source *r, uint64_t delay, uint32_t drift, uint6
     *right -= gained;
 }
 
+/* One damage to the epoch words: one lost, one too many, one with a further bit or of another identifier. */
+static void damage_epochs(struct source *r, struct message *m)
+{
+    unsigned count = 0;
+    while (count + 1 < m->count && m->words[count + 1] >> 29 == 0)
+        count++;
+    unsigned at = 1 + (unsigned)below(r, count + 1);
+    uint32_t *word = m->words + at;
+    switch (below(r, 4)) {
+    case 0:
+        memmove(word, word + 1, 4 * (m->count - at));
+        m->count -= m->count > 1;
+        break;
+    case 1:
+        memmove(word + 1, word, 4 * (m->count - at));
+        *word = (uint32_t)below(r, 512);
+        m->count++;
+        break;
+    case 2:
+        *word |= 1u << (9 + below(r, 20));
+        break;
+    default:
+        *word = (*word & ~31u) | (uint32_t)PICK(r, below(r, 32), 29, 31);
+    }
+    correct(m);
+}
+
 /* One damage to the words: a bit, a kind, a payload, one lost, doubled or moved, or the length. */
 static void damage_words(struct source *r, struct message *m)
 {
     unsigned one = (unsigned)below(r, m->count), other = (unsigned)below(r, m->count);
     uint32_t word = m->words[one];
-    switch (below(r, 7)) {
+    switch (below(r, 8)) {
     case 0:
         m->words[one] ^= 1u << below(r, 32);
         break;
@@ -351,11 +492,14 @@ static void damage_words(struct source *r, struct message *m)
         m->words[other] = word;
         break;
     case 4:
-        m->count = (unsigned)below(r, 22);
+        m->count = (unsigned)below(r, PICK(r, 22, 46));
         break;
     case 5:
         m->words[0] = (word & ~1023u) | (uint32_t)below(r, 1024);
         break;
+    case 6:
+        damage_epochs(r, m);
+        return;
     default:
         memmove(m->words + one + 1, m->words + one, 4 * (m->count - one));
         m->count++;
@@ -364,11 +508,34 @@ static void damage_words(struct source *r, struct message *m)
         correct(m);
 }
 
+/* Epochs as they are known, or some above them or below. */
+static void any_epochs(struct source *r, const uint8_t *state, uint8_t epochs[NAMES])
+{
+    uint64_t times = PICK(r, 0, 0, 6, 30);
+    for (unsigned i = 0; i < NAMES; i++) {
+        uint32_t known = state[EPOCHS_AT + i] % (MONITOR_GREATEST_EPOCH + 1);
+        epochs[i] = (uint8_t)known;
+        if (times > 0 && once_in(r, times))
+            epochs[i] = (uint8_t)(once_in(r, 2) ? known + (known < MONITOR_GREATEST_EPOCH)
+                                                : PICK(r, known > 0 ? known - 1 : 0, 0, once_in(r, 8) ? below(r, 16) : known));
+    }
+}
+
+/* Terms that are not in normal form any more, where there are some to change. */
+static void disorder(struct source *r, uint32_t *terms, unsigned count)
+{
+    unsigned one = (unsigned)below(r, count), other = (unsigned)below(r, count);
+    uint32_t t = terms[one];
+    terms[one] = terms[other];
+    terms[other] = once_in(r, 2) ? t : t | terms[one];
+}
+
 /* A message of this world, damaged now and then, in bytes that are seldom not a multiple of 4. */
 static void any_message(struct source *r, const struct world *w, const uint8_t *state, struct call *c)
 {
-    uint32_t terms[2 * ENTRY_TERMS], sender = (uint32_t)below(r, w->names), held = get32(state + HELD_AT);
+    uint32_t terms[2 * ENTRY_TERMS] = {0}, sender = (uint32_t)below(r, w->names), held = get32(state + HELD_AT);
     uint64_t left, right;
+    uint8_t epochs[NAMES];
     unsigned count = any_terms(r, w->names, 0, DATUM_TERMS, terms);
     if (sender == get32(state) && !once_in(r, 6))
         sender = (sender + 1) % w->names;
@@ -388,7 +555,10 @@ static void any_message(struct source *r, const struct world *w, const uint8_t *
     any_ends(r, w, state, &left, &right);
     if (has_slept(c) && !once_in(r, 4))
         send_earlier(r, c->b, get32(state + 4) % 1001, &left, &right);
-    struct message m = message_of(sender, left, right, terms, count, once_in(r, 2));
+    if (count > 1 && once_in(r, 30))
+        disorder(r, terms, count);
+    any_epochs(r, state, epochs);
+    struct message m = message_of(sender, epochs, left, right, terms, count, once_in(r, 2));
     for (uint64_t damages = PICK(r, 0, 0, 0, 0, 0, 0, 0, 0, 1, 2); damages > 0 && m.count > 0; damages--)
         damage_words(r, &m);
     c->len = 4 * m.count;
@@ -474,7 +644,8 @@ static void any_delays(struct source *r, uint64_t most, struct call *c)
 
 static struct call any_call(struct source *r, const struct world *w, const uint8_t *state)
 {
-    struct call c = {.kind = (enum kind)PICK(r, RECEIVE, RECEIVE, RECEIVE, WITH_READINGS, WITH_READINGS, WITH_READINGS, AGE, WRITE, ASK, ASK, FEWEST)};
+    struct call c = {.kind = (enum kind)PICK(r, RECEIVE, RECEIVE, RECEIVE, WITH_READINGS, WITH_READINGS, WITH_READINGS, AGE, WRITE, ASK, ASK, FEWEST,
+                                             READ, REWRITE)};
     uint64_t reading = get64(state + READING_AT);
     switch (c.kind) {
     case RECEIVE:
@@ -482,6 +653,10 @@ static struct call any_call(struct source *r, const struct world *w, const uint8
         any_delays(r, w->span / 6 + 1, &c);
         any_message(r, w, state, &c);
         any_readings(r, state, &c);
+        break;
+    case READ:
+    case REWRITE:
+        any_message(r, w, state, &c);
         break;
     case AGE:
         c.a = PICK(r, reading, reading + 1, reading + below(r, w->span), reading + below(r, 3000000), reading - 1,
@@ -505,6 +680,7 @@ static struct call any_set_up(struct source *r)
         .own = (uint32_t)PICK(r, 0, 2, 28, 28, 29, 256, bits(r)),
         .drift = (uint32_t)PICK(r, 0, 1, 1000, 1000, 1001, 65536, bits(r)),
         .a = PICK(r, 0, 9, MONITOR_GREATEST_READING, MONITOR_GREATEST_READING + 1, UINT64_MAX),
+        .epoch = PICK(r, 0, 1, 15, 15, 16, UINT64_C(1) << 32, bits(r)),
     };
 }
 
@@ -539,13 +715,21 @@ static void add_suspect(uint8_t *state, uint32_t name)
 static void put_clocks(struct source *r, uint8_t *state)
 {
     uint64_t times = PICK(r, 0, 0, 1, 4);
-    for (uint8_t *place = state + CLOCKS_AT; times > 0 && place < state + MONITOR_STATE_BYTES; place += CLOCK) {
+    for (uint8_t *place = state + CLOCKS_AT; times > 0 && place < state + EPOCHS_AT; place += CLOCK) {
         if (!once_in(r, times))
             continue;
         put32(place, 1);
         for (int i = 0; i < 9; i++)
             put64(place + 4 + 8 * i, PICK(r, 0, below(r, 60), below(r, 60), below(r, MONITOR_GREATEST_CLOCK), MONITOR_GREATEST_CLOCK));
     }
+}
+
+/* Epochs of no name, of few or of all. */
+static void put_epochs(struct source *r, uint8_t *state)
+{
+    uint64_t times = PICK(r, 0, 1, 4);
+    for (unsigned i = 0; i < NAMES; i++)
+        state[EPOCHS_AT + i] = (uint8_t)(times > 0 && once_in(r, times) ? PICK(r, 1, below(r, 16), MONITOR_GREATEST_EPOCH) : 0);
 }
 
 /* Any state in form: runs reach few of them. */
@@ -572,17 +756,19 @@ static void any_state(struct source *r, uint8_t *state)
     if (once_in(r, 2))
         add_suspect(state, 1u << (own + 1 + below(r, NAMES - 1)) % NAMES);
     put_clocks(r, state);
+    put_epochs(r, state);
 }
 
-/* One damage, in the head, in a row in use, in the places of the clocks or anywhere; the state may stay in form. */
+/* One damage, in the head, in a row in use, in the places of the clocks, in the epochs or anywhere; the state may stay in form. */
 static void damage_state(struct source *r, uint8_t *state)
 {
     size_t data = DATUM * (1 + get32(state + HELD_AT) % MOST_DATA), entries = ENTRY * (1 + get32(state + KNOWN_AT) % MOST_ENTRIES);
     size_t clocks = CLOCKS_AT + PICK(r, below(r, CLOCK * NAMES), CLOCK * below(r, NAMES), CLOCK * below(r, NAMES) + 4 * (2 + 2 * below(r, 9)));
-    size_t at = PICK(r, below(r, DATA_AT), DATA_AT + below(r, data), ENTRIES_AT + below(r, entries), clocks, below(r, MONITOR_STATE_BYTES));
-    size_t word = at / 4 * 4, from = below(r, MONITOR_STATE_BYTES / 4) * 4;
+    size_t at = PICK(r, below(r, DATA_AT), DATA_AT + below(r, data), ENTRIES_AT + below(r, entries), clocks, EPOCHS_AT + below(r, NAMES),
+                     below(r, MONITOR_STATE_BYTES));
+    size_t last = MONITOR_STATE_BYTES - 4, word = at / 4 * 4 < last ? at / 4 * 4 : last, from = below(r, MONITOR_STATE_BYTES / 4) * 4;
     uint32_t x = get32(state + word);
-    switch (below(r, 6)) {
+    switch (below(r, 7)) {
     case 0:
         state[at] ^= (uint8_t)(1u << below(r, 8));
         break;
@@ -598,8 +784,11 @@ static void damage_state(struct source *r, uint8_t *state)
     case 4:
         put32(state + word, get32(state + from));
         break;
+    case 5:
+        state[at] = (uint8_t)PICK(r, 1, 15, 16, 17, 255);
+        break;
     default:
-        put32(state + (word + 4 < MONITOR_STATE_BYTES ? word + 4 : word), x);
+        put32(state + (word + 4 < last ? word + 4 : word), x);
     }
 }
 
@@ -610,7 +799,7 @@ static void long_run(struct source *r, uint64_t round)
 {
     uint8_t state[MONITOR_STATE_BYTES], damaged[MONITOR_STATE_BYTES];
     struct world w = once_in(r, 2) ? crowded_world(r) : small_world(r);
-    struct call first = {.kind = SET_UP, .own = w.own, .drift = w.drift, .a = w.reading}, other = any_set_up(r);
+    struct call first = {.kind = SET_UP, .own = w.own, .drift = w.drift, .a = w.reading, .epoch = below(r, 16)}, other = any_set_up(r);
     memset(state, 7, sizeof state);
     run(r, round, &other, state);
     while (run(r, round, &first, state) != 0)
@@ -667,13 +856,18 @@ static int report(void)
     printf("answers: contradicted %lu, open %lu, between %lu\n", answers[0], answers[1], answers[2]);
     printf("fewest: 0 %lu, 1 %lu, 2 %lu, 3 %lu, 4 %lu, over %lu\n", counts[0], counts[1], counts[2], counts[3], counts[4], counts[5]);
     printf("readings: first %lu, agreed %lu, violated %lu\n", met[FIRST], met[AGREED], met[VIOLATED]);
-    printf("after a sleep: at drift");
+    printf("epochs:");
+    for (int i = 0; i < HEARDS; i++)
+        printf("%s %s %lu", i > 0 ? "," : "", heard_names[i], heard[i]);
+    printf("\nafter a sleep: at drift");
     for (size_t i = 0; i < COUNT(drifts); i++)
         printf(" %u %lu,", drifts[i], slept_at[i]);
     printf(" delays alike %lu, the greatest %lu, up to the greatest end %lu, 30 at one past it %lu\n", slept[ALIKE], slept[LONGEST],
            slept[AT_END], slept[PAST_END]);
     for (int i = 0; i < 6; i++)
         missing |= (i < 3 && answers[i] == 0) || counts[i] == 0 || (i < METS && met[i] == 0);
+    for (int i = 0; i < HEARDS; i++)
+        missing |= heard[i] == 0;
     for (size_t i = 0; i < COUNT(drifts); i++)
         missing |= slept_at[i] == 0 || (i < SLEPTS && slept[i] == 0);
     printf("%lu calls compared, %s\n", all, missing ? "but not all that was to be seen was" : "no difference");

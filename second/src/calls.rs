@@ -1,11 +1,12 @@
 //! The calls over a state as values: a run is a list of them.
 
 use crate::asking::{ANSWER_BYTES, FEWEST_BYTES};
+use crate::branches::Branches;
 use crate::clocks::{Readings, Triple};
 use crate::lent::{compare, Lent};
 use crate::message::MESSAGE_BYTES;
-use crate::receiving::Branches;
-use crate::state::STATE_BYTES;
+use crate::random::Random;
+use crate::state::{State, STATE_BYTES};
 use crate::{ageing, asking, engine, receiving, set_up, writing};
 use std::fmt;
 
@@ -16,6 +17,7 @@ pub enum Call {
         own: u32,
         drift: u32,
         reading: u64,
+        epoch: u64,
     },
     Age {
         reading: u64,
@@ -73,7 +75,9 @@ impl Call {
     /// The call by the second program, entering the branches of a receipt.
     pub fn second(&self, state: &mut [u8], out: &mut [u8], seen: &mut Branches) -> u32 {
         match *self {
-            Call::SetUp { own, drift, reading } => set_up::call(state, own, drift, reading),
+            Call::SetUp { own, drift, reading, epoch } => {
+                set_up::call(state, own, drift, reading, epoch)
+            }
             Call::Age { reading } => ageing::call(state, reading),
             Call::Receive { least, greatest, readings, ref message } => {
                 receiving::call_seen(state, least, greatest, readings, message, seen)
@@ -87,8 +91,8 @@ impl Call {
     /// The call by the engine.
     pub fn engine(&self, state: &mut [u8], out: &mut [u8]) -> u32 {
         match *self {
-            Call::SetUp { own, drift, reading } => {
-                engine::monitor_set_up(state, own, drift, reading)
+            Call::SetUp { own, drift, reading, epoch } => {
+                engine::monitor_set_up(state, own, drift, reading, epoch)
             }
             Call::Age { reading } => engine::monitor_age(state, reading),
             Call::Receive { least, greatest, readings: None, ref message } => {
@@ -120,11 +124,45 @@ impl Call {
     }
 }
 
+/// A call by both, on these bytes and an output of so many filled ones; a difference panics. Gives
+/// the number, the bytes, the output and the branches.
+pub fn tried(call: &Call, bytes: &[u8], len: usize) -> (u32, Vec<u8>, Vec<u8>, Branches) {
+    let mut random = Random::new(len as u64);
+    let filled = random.bytes(len);
+    let (mut state, mut out) = (Lent::new(bytes, &mut random), Lent::new(&filled, &mut random));
+    let mut seen = Branches::default();
+    let number = call.both(&mut state, &mut out, &mut seen);
+    let case = || format!("{call:?}, {len} bytes, in {:?}", State::of(bytes));
+    let number = number.unwrap_or_else(|fault| panic!("{}: {fault}", case()));
+    (number, state.bytes().to_vec(), out.bytes().to_vec(), seen)
+}
+
+/// The state after a taken call, and how it came about; bytes beyond the state stay.
+pub fn taken(before: &State, call: &Call) -> (State, Branches) {
+    let bytes = [&before.bytes()[..], &[1, 0, 2]].concat();
+    let (number, bytes, _, seen) = tried(call, &bytes, 0);
+    assert_eq!(number, 0, "{call:?} in {before:?}");
+    assert_eq!(bytes[STATE_BYTES..], [1, 0, 2]);
+    let after = State::of(&bytes).expect("a state in form");
+    assert!(after.bytes() == bytes[..STATE_BYTES]);
+    (after, seen)
+}
+
+/// A refusal changes nothing.
+pub fn refused(before: &State, call: &Call, wanted: u32) {
+    let bytes = [&before.bytes()[..], &[1, 0, 2]].concat();
+    let (number, after, ..) = tried(call, &bytes, 0);
+    assert_eq!(number, wanted, "{call:?} in {before:?}");
+    assert!(after == bytes, "{call:?} in {before:?}");
+}
+
 impl fmt::Debug for Call {
     fn fmt(&self, f: &mut fmt::Formatter) -> fmt::Result {
         let name = Call::NAMES[self.kind()];
         match self {
-            Call::SetUp { own, drift, reading } => write!(f, "{name} {own} {drift} {reading}"),
+            Call::SetUp { own, drift, reading, epoch } => {
+                write!(f, "{name} {own} {drift} {reading} {epoch}")
+            }
             Call::Age { reading } => write!(f, "{name} {reading}"),
             Call::Receive { least, greatest, readings, message } => {
                 let words = message.chunks(4).map(|word| word.iter().rev());

@@ -27,6 +27,7 @@ mod c {
             own: u32,
             drift: u32,
             reading: u64,
+            epoch: u64,
         ) -> u32;
 
         pub fn monitor_age(state: *mut u8, state_len: usize, reading: u64) -> u32;
@@ -100,9 +101,9 @@ pub fn monitor_message_rewrite(message: &[u8], out: &mut [u8]) -> u32 {
 }
 
 /// The engine's `monitor_set_up`.
-pub fn monitor_set_up(state: &mut [u8], own: u32, drift: u32, reading: u64) -> u32 {
+pub fn monitor_set_up(state: &mut [u8], own: u32, drift: u32, reading: u64, epoch: u64) -> u32 {
     // Safe: as above.
-    unsafe { c::monitor_set_up(state.as_mut_ptr(), state.len(), own, drift, reading) }
+    unsafe { c::monitor_set_up(state.as_mut_ptr(), state.len(), own, drift, reading, epoch) }
 }
 
 /// The engine's `monitor_age`.

@@ -47,14 +47,14 @@ impl Lent {
         &mut self.engine[self.start..][..self.len]
     }
 
-    /// What is wrong after a call that may change so many bytes at the front.
+    /// What is wrong after a call that may change so many bytes at the front, if so many are lent.
     fn fault(&self, before: &[u8], front: usize) -> Option<String> {
         let place = |at: usize| at as isize - self.start as isize;
         if let Some(at) = difference(&self.engine, &self.second) {
             let (engine, second) = (self.engine[at], self.second[at]);
             return Some(format!("byte {}: engine {engine}, second {second}", place(at)));
         }
-        let beyond = self.start + front;
+        let beyond = self.start + front.min(self.len);
         let changed = difference(&self.second[..self.start], &before[..self.start]).or(difference(
             &self.second[beyond..],
             &before[beyond..],

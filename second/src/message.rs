@@ -1,13 +1,17 @@
-//! The radio message (document 01, "The radio message") as words, and the two calls over bytes.
+//! The radio message (document 01, "The radio message"; document 02, W-204) as words, and the two
+//! calls over bytes.
 
+use crate::claims::places;
+use crate::epochs::{Epochs, Name, FIRST_EPOCHS, GREATEST_EPOCH};
 use crate::instants::Interval;
-use crate::predicates::{self, Predicate, Term, GREATEST_NAME};
+use crate::predicates::{self, Predicate, Term, GREATEST_NAME, NAMES};
 use crate::refusal;
 use crate::state::DATUM_TERMS;
 use std::ops::Deref;
 
 /// The kinds of a word: its top 3 bits.
 pub mod kind {
+    pub const EPOCH: u32 = 0;
     pub const HEAD: u32 = 1;
     pub const LEFT: u32 = 2;
     pub const RIGHT: u32 = 3;
@@ -23,36 +27,58 @@ pub const PAYLOAD_BITS: u32 = 29;
 pub const PAYLOAD: u32 = (1 << PAYLOAD_BITS) - 1;
 /// A message has at most this many terms, so that any datum can be written.
 pub const MOST_TERMS: u32 = DATUM_TERMS as u32;
-/// The words of a message without terms, in ends form.
+/// The words of a message in ends form, its epoch words and terms aside.
 pub const ENDS_WORDS: usize = 1 + 4 + 1;
-/// The shortest message, in words: centre form without terms.
-pub const LEAST_WORDS: usize = 1 + 3 + 1;
-/// The longest message, in words and in bytes: ends form.
-pub const MOST_WORDS: usize = ENDS_WORDS + MOST_TERMS as usize;
-pub const MESSAGE_BYTES: usize = ends_form_bytes(MOST_TERMS as usize);
+/// The shortest message, in words: centre form without terms, so that only the sender has an epoch.
+pub const LEAST_WORDS: usize = 1 + 1 + 3 + 1;
+/// The longest message, in words and in bytes: ends form with every identifier.
+pub const MOST_WORDS: usize = ENDS_WORDS + NAMES as usize + MOST_TERMS as usize;
+pub const MESSAGE_BYTES: usize = ends_form_bytes(NAMES as usize, MOST_TERMS as usize);
 /// How many bytes reading writes: sender, left, right and term count.
 pub const READING_BYTES: usize = 4 * 8;
 
-/// The bytes of a message in ends form that has so many terms.
-pub const fn ends_form_bytes(terms: usize) -> usize {
-    WORD_BYTES * (ENDS_WORDS + terms)
+/// The bytes of a message in ends form that has so many epoch words and terms.
+pub const fn ends_form_bytes(epochs: usize, terms: usize) -> usize {
+    WORD_BYTES * (ENDS_WORDS + epochs + terms)
 }
 
 const WORD_BYTES: usize = 4;
 
-// Sums as document 01 has them.
-const _: () = assert!(MOST_WORDS == 14 && MESSAGE_BYTES == 56);
+// Sums as document 02 has them.
+const _: () = assert!(LEAST_WORDS == 6 && MOST_WORDS == 43 && MESSAGE_BYTES == 172);
 
 /// What a message says, whichever form it came in.
 #[derive(Clone, Debug, PartialEq, Eq)]
 pub struct Message {
     pub sender: u32,
+    /// Of the sender and of each identifier in the terms; others play no part, and are 0 once read.
+    pub epochs: Epochs,
     pub interval: Interval,
     /// In normal form.
     pub terms: Predicate,
 }
 
 impl Message {
+    /// The message of these parts, every epoch being the first.
+    pub fn of(sender: u32, left: u64, right: u64, p: &[Term]) -> Message {
+        let interval = Interval { left, right };
+        Message { sender, epochs: FIRST_EPOCHS, interval, terms: Predicate::of(p) }
+    }
+
+    /// The same with other epochs for some identifiers.
+    pub fn at(mut self, epochs: &[(u32, u8)]) -> Message {
+        for &(identifier, epoch) in epochs {
+            self.epochs[identifier as usize] = epoch;
+        }
+        self
+    }
+
+    /// The names that it has an epoch word for: the sender and those in the terms, by identifier.
+    pub fn names(&self) -> impl Iterator<Item = Name> + '_ {
+        let named = named(self.sender, &self.terms);
+        places(named.into()).map(|n| Name::at(&self.epochs, n as u32))
+    }
+
     /// Its bytes in ends form.
     pub fn bytes(&self) -> Vec<u8> {
         bytes_of(&write(self))
@@ -60,10 +86,16 @@ impl Message {
 }
 
 /// The words of a message, held in place. They read as a slice.
-#[derive(Clone, Copy, Debug, Default, PartialEq, Eq)]
+#[derive(Clone, Copy, Debug, PartialEq, Eq)]
 pub struct Words {
     len: usize,
     words: [u32; MOST_WORDS],
+}
+
+impl Default for Words {
+    fn default() -> Words {
+        Words { len: 0, words: [0; MOST_WORDS] }
+    }
 }
 
 impl Words {
@@ -122,7 +154,41 @@ impl Head {
     }
 }
 
-/// How a message gives its interval; the second word's kind tells.
+/// The identifiers that a message has an epoch word for: its sender and those in its terms,
+/// whatever becomes of these.
+pub fn named(sender: u32, terms: &[Term]) -> Term {
+    terms.iter().fold(1 << sender, |named, t| named | t)
+}
+
+/// The word of a name.
+pub fn epoch_word(name: Name) -> u32 {
+    word(kind::EPOCH, u32::from(name.epoch) << 5 | name.identifier)
+}
+
+/// All words of kind 0 next to the head.
+pub fn epoch_words(words: &[u32]) -> &[u32] {
+    let behind = words.get(1..).unwrap_or_default();
+    let count = behind.iter().take_while(|&&w| kind_of(w) == kind::EPOCH).count();
+    &behind[..count]
+}
+
+/// The epochs that these words give; none unless they are those of the named identifiers, rising.
+fn epochs_of(words: &[u32], mut named: Term) -> Option<Epochs> {
+    let mut epochs = FIRST_EPOCHS;
+    for w in words {
+        let (identifier, epoch) = (w & 31, w >> 5);
+        // Rising, each word's identifier is the least of those to come; behind the last there is
+        // none.
+        if epoch > GREATEST_EPOCH.into() || named.trailing_zeros() != identifier {
+            return None;
+        }
+        epochs[identifier as usize] = epoch as u8;
+        named &= named - 1;
+    }
+    (named == 0).then_some(epochs)
+}
+
+/// How a message gives its interval; the kind of the word behind the epoch words tells.
 #[derive(Clone, Copy)]
 enum Form {
     Ends,
@@ -130,8 +196,8 @@ enum Form {
 }
 
 impl Form {
-    fn of(second: u32) -> Option<Form> {
-        match kind_of(second) {
+    fn of(opening: u32) -> Option<Form> {
+        match kind_of(opening) {
             kind::LEFT => Some(Form::Ends),
             kind::CENTRE => Some(Form::Centre),
             _ => None,
@@ -169,50 +235,68 @@ pub fn split(kind: u32, number: u64) -> [u32; 2] {
     [word(kind, high), word(kind, low)]
 }
 
-/// What the words of a message say, or the refusal's number in the order 10, 12, 11, 13 to 17.
+/// What the words of a message say, or the refusal's number in the order 10, 12, 11, 13, 14, 42, 15
+/// to 17.
 pub fn read(words: &[u32]) -> Result<Message, u32> {
     if !(LEAST_WORDS..=MOST_WORDS).contains(&words.len()) {
         return Err(refusal::WORD_COUNT);
     }
     let head = Head::of(words[0]).ok_or(refusal::HEAD)?;
-    let form = Form::of(words[1]).ok_or(refusal::FORM)?;
+    let epochs = epoch_words(words);
+    let behind = &words[1 + epochs.len()..];
+    let form = behind.first().and_then(|&opening| Form::of(opening)).ok_or(refusal::FORM)?;
     let places = form.kinds().len();
-    if words.len() != 1 + places + head.count as usize + 1 {
+    if behind.len() != places + head.count as usize + 1 {
         return Err(refusal::HEAD_AND_FORM);
     }
-    let (check, earlier) = (words[words.len() - 1], &words[..words.len() - 1]);
-    let (ends, terms) = earlier[1..].split_at(places);
+    let (check, earlier) = (behind[behind.len() - 1], &behind[..behind.len() - 1]);
+    let (ends, terms) = earlier.split_at(places);
     let kinds_fit = ends.iter().map(|&w| kind_of(w)).eq(form.kinds().iter().copied())
         && terms.iter().all(|&w| kind_of(w) == kind::TERM)
         && kind_of(check) == kind::CHECK;
     if !kinds_fit {
         return Err(refusal::KIND);
     }
-    if check != check_word(earlier) {
+    let terms = payloads(terms);
+    let epochs = epochs_of(epochs, named(head.sender, &terms)).ok_or(refusal::EPOCHS)?;
+    if check != check_word(&words[..words.len() - 1]) {
         return Err(refusal::CHECK);
     }
     let interval = form.interval(ends).ok_or(refusal::ENDS)?;
+    if !predicates::is_normal(&terms) {
+        return Err(refusal::TERMS);
+    }
+    Ok(Message { sender: head.sender, epochs, interval, terms })
+}
+
+/// The payloads of term words, as they come.
+fn payloads(terms: &[u32]) -> Predicate {
     let mut payloads = [0; Predicate::MOST_TERMS];
     for (payload, &w) in payloads.iter_mut().zip(terms) {
         *payload = payload_of(w);
     }
-    let terms = Predicate::of_array(terms.len(), payloads);
-    if !predicates::is_normal(&terms) {
-        return Err(refusal::TERMS);
-    }
-    Ok(Message { sender: head.sender, interval, terms })
+    Predicate::of_array(terms.len(), payloads)
 }
 
 /// The words of a message, in ends form.
 pub fn write(message: &Message) -> Words {
-    let Message { sender, interval: Interval { left, right }, terms } = message;
-    write_parts(*sender, *left, *right, terms)
+    let Message { sender, epochs, interval, terms } = message;
+    write_parts(*sender, epochs, *interval, terms)
 }
 
-/// The words of a message that has these parts.
-pub(crate) fn write_parts(sender: u32, left: u64, right: u64, terms: &[Term]) -> Words {
+/// The words of a message that has these parts; of the epochs it has those that it needs.
+pub(crate) fn write_parts(
+    sender: u32,
+    epochs: &Epochs,
+    interval: Interval,
+    terms: &[Term],
+) -> Words {
     let mut words = Words::default();
     words.push(Head { sender, count: terms.len() as u32 }.word());
+    for identifier in places(named(sender, terms).into()) {
+        words.push(epoch_word(Name::at(epochs, identifier as u32)));
+    }
+    let Interval { left, right } = interval;
     for half in [split(kind::LEFT, left), split(kind::RIGHT, right)].as_flattened() {
         words.push(*half);
     }

@@ -136,6 +136,17 @@ impl Predicate {
         Predicate::of_array(count, terms)
     }
 
+    /// What is left of it once these names have failed: each term says it of its others alone. In
+    /// normal form.
+    pub fn after(&self, failed: Term) -> Predicate {
+        let mut terms = self.terms;
+        let all = &mut terms[..self.count];
+        all.iter_mut().for_each(|t| *t &= !failed);
+        let count = normal_to_front(all);
+        all[count..].fill(0);
+        Predicate::of_array(count, terms)
+    }
+
     /// As for slices; most sets that make it true have a name that does so alone.
     pub fn holds(&self, s: Term) -> bool {
         s & self.alone != 0 || holds(s, self)

@@ -1,128 +1,21 @@
-//! Receiving (document 01, "Receiving"; document 02, W-201 and W-202): a function for each of its
-//! steps.
+//! Receiving (document 01, "Receiving"; document 02, W-201, W-202 and W-204): a function for each
+//! of its steps. Epochs are heard in `hearing`.
 
 use crate::ageing::advance;
+use crate::branches::{Branch, Branches};
 use crate::clocks::{Readings, Saved, Triple};
+use crate::hearing::{formed, hear};
 use crate::instants::Interval;
 use crate::message::{self, Message};
-use crate::predicates::{holds, struck, Predicate};
+use crate::predicates::{holds, Predicate};
 use crate::refusal;
 use crate::state::{Datum, State, DATUM_TERMS, MOST_DATA, MOST_ENTRIES};
 
 /// The greatest delay of a channel, in microseconds on the receiver's clock (document 02, W-202).
 pub const GREATEST_DELAY: u64 = 600_000_000;
 
-/// What a receipt came to do, so that a test can tell what it has met.
-#[derive(Clone, Copy, Debug, PartialEq, Eq)]
-pub enum Branch {
-    /// A term that names the receiver was struck out.
-    Struck,
-    /// The predicate was true.
-    True,
-    /// Readings: nothing was saved of the sender before.
-    SavedFirst,
-    /// Readings: test (20) was made.
-    Tested,
-    /// Test (20): violated.
-    Violated,
-    /// Test (20): violated against the previous triple alone.
-    ByPrevious,
-    /// Test (20): violated against the one with the largest a − b + w alone.
-    ByAhead,
-    /// Test (20): violated against the one with the largest b − a + w alone.
-    ByBehind,
-    /// Test (20): not violated, and both sides equal against one of the three.
-    AtBound,
-    /// Test (20): the own reading was below a saved one.
-    OwnBack,
-    /// Test (20): the sender's reading was below a saved one.
-    SenderBack,
-    /// Saving: another triple had the largest a − b + w or b − a + w as well, and stayed.
-    Tie,
-    /// Violation: the name was not made an entry, since one implies it.
-    NameImplied,
-    /// Violation: the name was made an entry.
-    NameAdded,
-    /// Violation: entries went that the name implies.
-    NameDroveOut,
-    /// Step 1: a held datum's interval was disjoint from the new one.
-    Disjoint,
-    /// Step 1: an entry was not added, since one implies it.
-    EntryImplied,
-    /// Step 1: an entry was added.
-    EntryAdded,
-    /// Step 1: entries went that the added one implies.
-    EntriesGone,
-    /// In between there were too many entries.
-    EntriesOver,
-    /// Step 2: held data went.
-    HeldExplained,
-    /// Step 2: the new datum went.
-    NewExplained,
-    /// Step 3: rule 15.
-    Met,
-    /// Step 4: by rule 14 the new datum was not stored.
-    NotStored,
-    /// Step 4: by rule 14 held data went.
-    HeldBettered,
-    /// Step 4: the new datum was stored.
-    Stored,
-    /// At the end there were too many data.
-    TooManyData,
-    /// At the end there were too many entries.
-    TooManyEntries,
-}
-
-impl Branch {
-    pub const ALL: [Branch; 28] = [
-        Branch::Struck,
-        Branch::True,
-        Branch::SavedFirst,
-        Branch::Tested,
-        Branch::Violated,
-        Branch::ByPrevious,
-        Branch::ByAhead,
-        Branch::ByBehind,
-        Branch::AtBound,
-        Branch::OwnBack,
-        Branch::SenderBack,
-        Branch::Tie,
-        Branch::NameImplied,
-        Branch::NameAdded,
-        Branch::NameDroveOut,
-        Branch::Disjoint,
-        Branch::EntryImplied,
-        Branch::EntryAdded,
-        Branch::EntriesGone,
-        Branch::EntriesOver,
-        Branch::HeldExplained,
-        Branch::NewExplained,
-        Branch::Met,
-        Branch::NotStored,
-        Branch::HeldBettered,
-        Branch::Stored,
-        Branch::TooManyData,
-        Branch::TooManyEntries,
-    ];
-}
-
-/// The branches of one receipt.
-#[derive(Clone, Copy, Debug, Default, PartialEq, Eq)]
-pub struct Branches(u32);
-
-impl Branches {
-    pub fn has(self, branch: Branch) -> bool {
-        self.0 >> branch as u32 & 1 != 0
-    }
-
-    /// Enters a branch where the condition is met.
-    fn enter(&mut self, branch: Branch, met: bool) {
-        self.0 |= u32::from(met) << branch as u32;
-    }
-}
-
 /// `monitor_receive`, or `monitor_receive_with_readings` where there are some: the state after the
-/// receipt, or 24, 25, 21, 40, 10, 12, 11, 13 to 18, 30 to 32.
+/// receipt, or 24, 25, 21, 40, 10, 12, 11, 13, 14, 42, 15 to 18, 30 to 32.
 pub fn call(
     lent: &mut [u8],
     least: u64,
@@ -149,6 +42,7 @@ pub fn call_seen(
     refusal::TAKEN
 }
 
+/// The state after a receipt, and nothing of it if it is refused, whatever it has come to by then.
 fn received(
     lent: &[u8],
     least: u64,
@@ -157,24 +51,17 @@ fn received(
     message: &[u8],
     seen: &mut Branches,
 ) -> Result<State, u32> {
-    let mut state = State::of(lent)?;
-    if least > greatest || greatest > GREATEST_DELAY {
-        return Err(refusal::DELAYS);
-    }
-    if readings.is_some_and(|readings| !readings.fit()) {
-        return Err(refusal::READINGS);
-    }
-    let message = message::read(&message::words_of(message)?)?;
-    if message.sender == state.own {
-        return Err(refusal::SENDER);
-    }
+    let (mut state, message) = checked(lent, least, greatest, readings, message)?;
+    let old = hear(&mut state, &message, seen);
     let interval = grown(message.interval, least, greatest, state.drift);
     let interval = interval.ok_or(refusal::PASSES_END)?;
-    let predicate = formed(state.own, &message);
-    seen.enter(Branch::Struck, message.terms.iter().any(|t| t >> state.own & 1 != 0));
+    let predicate = formed(state.own, &message, old, seen);
     if predicate.len() > DATUM_TERMS {
         return Err(refusal::NEW_TERMS);
     }
+    let heeded = old >> message.sender & 1 == 0;
+    seen.enter(Branch::Unheeded, readings.is_some() && !heeded);
+    let readings = readings.filter(|_| heeded);
     let violated = readings.is_some_and(|new| watch(&mut state, message.sender, new, seen));
     if violated {
         blame(&mut state, message.sender, seen);
@@ -190,6 +77,28 @@ fn received(
     Ok(state)
 }
 
+/// The state and the message, or the numbers that stand before 30.
+fn checked(
+    lent: &[u8],
+    least: u64,
+    greatest: u64,
+    readings: Option<Readings>,
+    message: &[u8],
+) -> Result<(State, Message), u32> {
+    let state = State::of(lent)?;
+    if least > greatest || greatest > GREATEST_DELAY {
+        return Err(refusal::DELAYS);
+    }
+    if readings.is_some_and(|readings| !readings.fit()) {
+        return Err(refusal::READINGS);
+    }
+    let message = message::read(&message::words_of(message)?)?;
+    if message.sender == state.own {
+        return Err(refusal::SENDER);
+    }
+    Ok((state, message))
+}
+
 /// The interval grown by delays, which count by the ageing rule on the receiver's clock: the least
 /// as a left end's advance, the greatest as a right end's (document 02, W-202). None if an end would
 /// pass the greatest one.
@@ -197,11 +106,6 @@ pub fn grown(sent: Interval, least: u64, greatest: u64, drift: u32) -> Option<In
     let (left_gains, _) = advance(least, drift);
     let (_, right_gains) = advance(greatest, drift);
     sent.advanced(left_gains, right_gains)
-}
-
-/// Sender + predicate with every term that names the receiver struck out, in normal form.
-pub fn formed(own: u32, message: &Message) -> Predicate {
-    Predicate::sum(&[1 << message.sender], &struck(own, &message.terms))
 }
 
 /// Test (20) against what is saved of the sender; then the triple is saved. Whether it violates.

@@ -15,11 +15,11 @@ pub const READING: u32 = 3;
 // The sender's.
 /// Word count outside that of messages, or a byte length that is not a multiple of 4.
 pub const WORD_COUNT: u32 = 10;
-/// Second word neither kind 2 nor 4.
+/// The word behind the epoch words neither kind 2 nor 4, or no such word.
 pub const FORM: u32 = 11;
 /// Head not of kind 1, sender or term count above the greatest, or bits 10–28 not zero.
 pub const HEAD: u32 = 12;
-/// Word count not that of head and form.
+/// Word count not that of head, epoch words and form.
 pub const HEAD_AND_FORM: u32 = 13;
 /// A later word of the wrong kind.
 pub const KIND: u32 = 14;
@@ -57,3 +57,9 @@ pub const TOO_MANY: u32 = 32;
 // The host program's, with clock readings.
 /// A clock reading or half width above the greatest, or the sender's drift.
 pub const READINGS: u32 = 40;
+
+// With epochs, the installer's and the sender's.
+/// Own epoch above the greatest.
+pub const OWN_EPOCH: u32 = 41;
+/// Epoch words missing, unordered, too many or ill formed.
+pub const EPOCHS: u32 = 42;

@@ -1,8 +1,13 @@
 //! Seeded messages to compare with: sound ones of both forms, and flawed ones that reach every
 //! refusal, also several flaws at once, so that the order of the tests shows.
 
+use crate::claims::places;
+use crate::epochs::{Epochs, Name, FIRST_EPOCHS, GREATEST_EPOCH};
 use crate::instants::GREATEST_END;
-use crate::message::{bytes_of, check_word, kind, split, word, MOST_TERMS, MOST_WORDS, PAYLOAD};
+use crate::message::{
+    bytes_of, check_word, epoch_word, epoch_words, kind, named, split, word, MOST_TERMS,
+    MOST_WORDS, PAYLOAD,
+};
 use crate::predicates::{normal, Term, GREATEST_NAME, NAMES};
 use crate::random::Random;
 use std::io::{self, Write as _};
@@ -77,8 +82,8 @@ pub fn sound(random: &mut Random) -> Vec<u32> {
     let mut terms = normal(&any_terms(random));
     terms.truncate(MOST_TERMS as usize);
     let sender = random.below(NAMES.into()) as u32;
-    let interval = sound_interval(random);
-    sealed(sender, &interval, &terms)
+    let (epochs, interval) = (epochs(random), sound_interval(random));
+    sealed(sender, &epochs, &interval, &terms)
 }
 
 /// The words of a message that may have flaws in its parts, in its words, or none.
@@ -99,8 +104,8 @@ fn flawed(random: &mut Random) -> Vec<u32> {
 fn flawed_parts(random: &mut Random) -> Vec<u32> {
     let terms = if random.once_in(2) { flawed_terms(random) } else { normal(&any_terms(random)) };
     let interval = if random.once_in(2) { flawed_interval(random) } else { sound_interval(random) };
-    let sender = random.below(NAMES.into()) as u32;
-    let mut words = sealed(sender, &interval, &terms);
+    let (sender, epochs) = (random.below(NAMES.into()) as u32, epochs(random));
+    let mut words = sealed(sender, &epochs, &interval, &terms);
     if random.once_in(5) {
         words[0] = flawed_head(random, words[0]);
         correct(&mut words);
@@ -108,13 +113,21 @@ fn flawed_parts(random: &mut Random) -> Vec<u32> {
     words
 }
 
-/// Head, interval and terms, closed by the check word.
-fn sealed(sender: u32, interval: &[u32], terms: &[Term]) -> Vec<u32> {
+/// Head, the epoch words that there have to be, interval and terms, closed by the check word.
+fn sealed(sender: u32, epochs: &Epochs, interval: &[u32], terms: &[Term]) -> Vec<u32> {
     let mut words = vec![word(kind::HEAD, (terms.len() as u32) << 5 | sender)];
+    let named = places(named(sender, terms).into()).map(|n| Name::at(epochs, n as u32));
+    words.extend(named.map(epoch_word));
     words.extend(interval);
     words.extend(terms.iter().map(|&t| word(kind::TERM, t)));
     words.push(check_word(&words));
     words
+}
+
+/// An epoch for each identifier: mostly the first ones.
+pub fn epochs(random: &mut Random) -> Epochs {
+    let most = random.pick(&[0, 0, 0, 1, 2, GREATEST_EPOCH]);
+    FIRST_EPOCHS.map(|_| random.below(u64::from(most) + 1) as u8)
 }
 
 /// Makes the last word's payload that of the check word, and leaves its kind.
@@ -186,8 +199,10 @@ fn centre_form(centre: u64, half: u64) -> Vec<u32> {
 /// Up to the most terms; of few names they often contain each other, pairs of many names seldom.
 fn any_terms(random: &mut Random) -> Vec<Term> {
     let count = random.below(u64::from(MOST_TERMS) + 1);
-    let names = random.pick(&[2, 3, 5, 8, 8, NAMES, NAMES]).into();
-    let pairs = random.once_in(2);
+    let count = random.pick(&[count, count, count, MOST_TERMS.into()]);
+    let (any, many) = (1 + random.below(NAMES.into()), 18 + random.below(12));
+    let names = random.pick(&[2, 3, 5, 8, any, any, many, many, NAMES.into()]);
+    let pairs = random.once_in(3);
     (0..count)
         .map(|_| {
             if pairs {
@@ -230,13 +245,14 @@ fn flawed_terms(random: &mut Random) -> Vec<Term> {
     terms
 }
 
-/// One damage to the words: a bit, a kind, a whole word, one lost, doubled, moved, or the length.
+/// One damage to the words: a bit, a kind, a whole word, one lost, doubled, moved, the epoch words,
+/// or the length.
 fn damage(random: &mut Random, words: &mut Vec<u32>) {
     if words.is_empty() {
         return;
     }
     let (one, other) = (random.index(words.len()), random.index(words.len()));
-    match random.below(8) {
+    match random.below(10) {
         0 => words[one] ^= 1 << random.below(32),
         1 => words[one] = word(random.below(8) as u32, words[one] & PAYLOAD),
         2 => words[one] = words[one] & !PAYLOAD | random.bits() as u32 & PAYLOAD,
@@ -244,6 +260,7 @@ fn damage(random: &mut Random, words: &mut Vec<u32>) {
         4 => words.swap(one, other),
         5 => drop(words.remove(one)),
         6 => words.insert(one, words[other]),
+        7 | 8 => damage_epochs(random, words),
         _ => {
             let (last, len) = (words[words.len() - 1], random.index(NOISE_WORDS + 1));
             words.resize(len, last);
@@ -251,17 +268,49 @@ fn damage(random: &mut Random, words: &mut Vec<u32>) {
     }
 }
 
+/// One damage to the epoch words: one lost, all lost, two changed round, one doubled or one too
+/// many, or a bit or an identifier that none has.
+fn damage_epochs(random: &mut Random, words: &mut Vec<u32>) {
+    let count = epoch_words(words).len();
+    if count == 0 {
+        return;
+    }
+    let (one, other) = (1 + random.index(count), 1 + random.index(count));
+    let any = random.below(NAMES.into()) as u32;
+    match random.below(7) {
+        0 => drop(words.remove(one)),
+        1 => drop(words.drain(1..=count)),
+        2 => words.swap(one, other),
+        3 => words.insert(one, words[one]),
+        4 => {
+            let place = (1..=count).find(|&i| words[i] & 31 > any).unwrap_or(1 + count);
+            words.insert(place, random.below(16) as u32 >> 2 << 5 | any);
+        }
+        5 => words[one] |= 1 << (9 + random.below(20)),
+        _ => words[count] = words[count] & !31 | (NAMES + random.below(3) as u32),
+    }
+}
+
 /// Noise has 0 to so many words: more than any message.
 const NOISE_WORDS: usize = MOST_WORDS + 6;
 
-/// Words of any bits, the first often a sound head and the second often of a form's kind.
+/// Words of any bits, the first often a sound head, those next to it often epoch words, and the
+/// next one often of a form's kind, if there is one.
 fn noise(random: &mut Random) -> Vec<u32> {
     let count = random.index(NOISE_WORDS + 1);
     let mut words: Vec<u32> = (0..count).map(|_| random.bits() as u32).collect();
     if words.len() > 1 && !random.once_in(4) {
         let (sender, count) = (random.below(NAMES.into()), random.below(u64::from(MOST_TERMS) + 1));
         words[0] = word(kind::HEAD, (count << 5 | sender) as u32);
-        words[1] = word(random.pick(&[kind::LEFT, kind::CENTRE, kind::HALF]), words[1] & PAYLOAD);
+        let some = random.index(words.len());
+        let epochs = random.pick(&[0, 1, some, words.len() - 1]);
+        for (n, w) in words[1..=epochs].iter_mut().enumerate() {
+            *w = word(kind::EPOCH, random.pick(&[n as u32 & 511, *w & 511, *w & PAYLOAD]));
+        }
+        if let Some(opening) = words.get_mut(1 + epochs) {
+            let kind = random.pick(&[kind::LEFT, kind::CENTRE, kind::HALF]);
+            *opening = word(kind, *opening & PAYLOAD);
+        }
     }
     words
 }

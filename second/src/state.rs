@@ -1,6 +1,7 @@
-//! The state and its bytes (document 01, "State bytes"; document 02, W-201).
+//! The state and its bytes (document 01, "State bytes"; document 02, W-201 and W-204).
 
 use crate::clocks::{Saved, Triple, GREATEST_CLOCK};
+use crate::epochs::{Epochs, FIRST_EPOCHS, GREATEST_EPOCH};
 use crate::instants::{Interval, GREATEST_END};
 use crate::predicates::{is_normal, Predicate, Term, ALL_NAMES, GREATEST_NAME, NAMES};
 use crate::refusal;
@@ -8,7 +9,7 @@ use crate::refusal;
 // ---- sizes and places: no other file has their numbers
 
 /// How many bytes a state has.
-pub const STATE_BYTES: usize = clock_at(NAMES);
+pub const STATE_BYTES: usize = epoch_at(NAMES);
 pub const GREATEST_DRIFT: u32 = 1_000;
 pub const GREATEST_READING: u64 = (1 << 58) - 1;
 pub const MOST_DATA: usize = 16;
@@ -27,6 +28,7 @@ pub const ENTRY_COUNT_AT: usize = 20;
 pub const DATA_AT: usize = 24;
 pub const ENTRIES_AT: usize = datum_at(MOST_DATA);
 pub const CLOCKS_AT: usize = entry_at(MOST_ENTRIES);
+pub const EPOCHS_AT: usize = clock_at(NAMES);
 
 // In a datum: its left end stands first, and from the term count on it is as an entry.
 pub const RIGHT_AT: usize = 8;
@@ -53,15 +55,21 @@ pub const fn entry_at(position: usize) -> usize {
     ENTRIES_AT + ENTRY_BYTES * position
 }
 
-/// Where the place of a name begins, for what is saved of its clock; behind the last one the state
-/// ends.
+/// Where the place of a name begins, for what is saved of its clock; behind the last one the epochs
+/// do.
 pub const fn clock_at(name: u32) -> usize {
     CLOCKS_AT + CLOCK_BYTES * name as usize
 }
 
+/// Where an identifier's epoch stands, in one byte; behind the last one the state ends.
+pub const fn epoch_at(identifier: u32) -> usize {
+    EPOCHS_AT + identifier as usize
+}
+
 // The sums as documents 01 and 02 have them.
 const _: () = assert!(DATUM_BYTES == 52 && ENTRY_BYTES == 68 && CLOCK_BYTES == 76);
-const _: () = assert!(ENTRIES_AT == 856 && CLOCKS_AT == 3_032 && STATE_BYTES == 5_236);
+const _: () = assert!(ENTRIES_AT == 856 && CLOCKS_AT == 3_032);
+const _: () = assert!(EPOCHS_AT == 5_236 && STATE_BYTES == 5_265);
 
 // ---- states
 
@@ -89,6 +97,8 @@ pub struct State {
     /// Oldest first.
     pub entries: Vec<Predicate>,
     pub clocks: Clocks,
+    /// Those that are known, the own one among them.
+    pub epochs: Epochs,
 }
 
 /// What is saved of each name's clock; the own one's place is like the others.
@@ -97,9 +107,18 @@ pub type Clocks = [Option<Saved>; NAMES as usize];
 pub const NO_CLOCKS: Clocks = [None; NAMES as usize];
 
 impl State {
-    /// A state that holds nothing.
+    /// A state that holds nothing, every epoch being the first.
     pub fn fresh(own: u32, drift: u32, reading: u64) -> State {
-        State { own, drift, reading, held: vec![], entries: vec![], clocks: NO_CLOCKS }
+        let (held, entries) = (vec![], vec![]);
+        State { own, drift, reading, held, entries, clocks: NO_CLOCKS, epochs: FIRST_EPOCHS }
+    }
+
+    /// The same with other epochs for some identifiers.
+    pub fn at(mut self, epochs: &[(u32, u8)]) -> State {
+        for &(identifier, epoch) in epochs {
+            self.epochs[identifier as usize] = epoch;
+        }
+        self
     }
 
     /// The state in lent bytes, or 24 and 25 in this order.
@@ -117,6 +136,7 @@ impl State {
             held: data_rows(bytes)[..head.held].iter().map(datum).collect(),
             entries: entry_rows(bytes)[..head.entries].iter().map(|row| predicate(row)).collect(),
             clocks: std::array::from_fn(|name| saved(&clock_rows(bytes)[name])),
+            epochs: *epochs(bytes),
         }
     }
 
@@ -131,6 +151,8 @@ impl State {
         put_u32(bytes, ENTRY_COUNT_AT, self.entries.len() as u32);
         let (data, entries) = bytes.split_at_mut(ENTRIES_AT);
         let (entries, clocks) = entries.split_at_mut(CLOCKS_AT - ENTRIES_AT);
+        let (clocks, epochs) = clocks.split_at_mut(EPOCHS_AT - CLOCKS_AT);
+        epochs.copy_from_slice(&self.epochs);
         for (row, datum) in data[DATA_AT..].chunks_exact_mut(DATUM_BYTES).zip(&self.held) {
             put_ends(row, datum.interval);
             put_predicate(&mut row[TERM_COUNT_AT..], &datum.predicate);
@@ -201,6 +223,7 @@ pub fn in_form(bytes: &[u8; STATE_BYTES]) -> bool {
         && data.iter().all(|row| datum_in_form(row, head.own))
         && entries.iter().all(|row| terms_in_form(row, head.own))
         && clock_rows(bytes).iter().all(clock_in_form)
+        && epochs(bytes).iter().fold(true, |all, &epoch| all & (epoch <= GREATEST_EPOCH))
 }
 
 fn datum_in_form(row: &[u8; DATUM_BYTES], own: u32) -> bool {
@@ -254,7 +277,12 @@ pub fn entry_rows(bytes: &[u8; STATE_BYTES]) -> &[[u8; ENTRY_BYTES]] {
 }
 
 fn clock_rows(bytes: &[u8; STATE_BYTES]) -> &[[u8; CLOCK_BYTES]] {
-    bytes[CLOCKS_AT..].as_chunks().0
+    bytes[CLOCKS_AT..EPOCHS_AT].as_chunks().0
+}
+
+/// The known epochs, by identifier.
+pub fn epochs(bytes: &[u8; STATE_BYTES]) -> &Epochs {
+    bytes[EPOCHS_AT..].first_chunk().expect("an epoch for each identifier")
 }
 
 /// The rows of the held data in bytes that are in form, to change their ends.

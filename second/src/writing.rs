@@ -1,4 +1,5 @@
-//! Writing (document 01, "The radio message"): one held datum as a message in ends form.
+//! Writing (document 01, "The radio message"; document 02, W-204): one held datum as a message in
+//! ends form, with the epochs that are known.
 
 use crate::message::{self, Words};
 use crate::refusal;
@@ -13,6 +14,6 @@ pub fn call(lent: &[u8], position: u64, out: &mut [u8]) -> u32 {
 fn written(lent: &[u8], position: u64) -> Result<Words, u32> {
     let bytes = state::checked(lent)?;
     let datum = state::held_at(bytes, position).ok_or(refusal::POSITION)?;
-    let (own, interval) = (Head::of(bytes).own, datum.interval);
-    Ok(message::write_parts(own, interval.left, interval.right, &datum.predicate))
+    let (own, epochs) = (Head::of(bytes).own, state::epochs(bytes));
+    Ok(message::write_parts(own, epochs, datum.interval, &datum.predicate))
 }

@@ -4,14 +4,15 @@
 use second::asking::{
     answer_bytes, fewest_bytes, ANSWER_BYTES, FEWEST_BYTES, GREATEST_LIMIT, OVER,
 };
-use second::calls::Call;
+use second::branches::Branches;
+use second::calls::{tried, Call};
+use second::epochs::GREATEST_EPOCH;
 use second::every_set;
 use second::instants::{Interval, GREATEST_END};
 use second::lent::Lent;
 use second::message::{bytes_of, Message};
 use second::predicates::{Predicate, Term, GREATEST_NAME, NAMES};
 use second::random::Random;
-use second::receiving::Branches;
 use second::samples::report;
 use second::samples::runs::World;
 use second::samples::states;
@@ -24,18 +25,6 @@ use std::collections::BTreeMap;
 
 // ---- what is compared
 
-/// Runs a call in both programs, with an output of so many filled bytes. Gives the number, the
-/// state and the output.
-fn call_in(call: &Call, bytes: &[u8], len: usize) -> (u32, Vec<u8>, Vec<u8>) {
-    let mut random = Random::new(len as u64);
-    let filled = random.bytes(len);
-    let (mut state, mut out) = (Lent::new(bytes, &mut random), Lent::new(&filled, &mut random));
-    let number = call.both(&mut state, &mut out, &mut Branches::default());
-    let case = || format!("{call:?}, {len} bytes, in {:?}", State::of(bytes));
-    let number = number.unwrap_or_else(|fault| panic!("{}: {fault}", case()));
-    (number, state.bytes().to_vec(), out.bytes().to_vec())
-}
-
 /// The numbers in an output, 8 bytes each.
 fn decoded(out: &[u8]) -> Vec<u64> {
     out.as_chunks().0.iter().map(|&number| u64::from_le_bytes(number)).collect()
@@ -44,7 +33,7 @@ fn decoded(out: &[u8]) -> Vec<u64> {
 /// The numbers that a taken question gives, in an output of just their length and in a longer one.
 fn numbers<const N: usize>(question: &Call, state: &State) -> [u64; N] {
     let [exact, longer] = [8 * N, 8 * N + 9].map(|len| {
-        let (number, _, out) = call_in(question, &state.bytes(), len);
+        let (number, _, out, _) = tried(question, &state.bytes(), len);
         assert_eq!(number, 0, "{question:?} in {state:?}");
         decoded(&out[..8 * N])
     });
@@ -113,11 +102,10 @@ fn state(held: &[Held], entries: &[&[u32]]) -> State {
 fn after(receipts: &[(u32, u64, u64, &[Term])]) -> State {
     let mut bytes = State::fresh(0, 100, 1_000).bytes();
     for &(sender, left, right, terms) in receipts {
-        let message =
-            Message { sender, interval: Interval { left, right }, terms: Predicate::of(terms) };
+        let message = Message::of(sender, left, right, terms);
         let call =
             Call::Receive { least: 0, greatest: 0, readings: None, message: message.bytes() };
-        let (number, after, _) = call_in(&call, &bytes, 0);
+        let (number, after, ..) = tried(&call, &bytes, 0);
         assert_eq!(number, 0, "{call:?}");
         bytes = after;
     }
@@ -126,7 +114,7 @@ fn after(receipts: &[(u32, u64, u64, &[Term])]) -> State {
 
 /// The state aged by both programs.
 fn aged(state: &State, reading: u64) -> State {
-    let (number, bytes, _) = call_in(&Call::Age { reading }, &state.bytes(), 0);
+    let (number, bytes, ..) = tried(&Call::Age { reading }, &state.bytes(), 0);
     assert_eq!(number, 0, "{reading} in {state:?}");
     State::of(&bytes).expect("a state in form")
 }
@@ -139,8 +127,8 @@ fn listed(line: &str) -> Call {
     let name = fields.next().expect("a name");
     let fields: Vec<u64> = fields.map(|field| field.parse().expect("a number")).collect();
     match (name, &fields[..]) {
-        ("set", &[own, drift, reading]) => {
-            Call::SetUp { own: own as u32, drift: drift as u32, reading }
+        ("set", &[own, drift, reading, epoch]) => {
+            Call::SetUp { own: own as u32, drift: drift as u32, reading, epoch }
         }
         ("age", &[reading]) => Call::Age { reading },
         ("get", &[least, greatest, ref words @ ..]) => {
@@ -176,7 +164,7 @@ fn listing_of_document_01_yields_its_lines() {
             Call::Fewest => FEWEST_BYTES,
             _ => 0,
         };
-        let (number, after, out) = call_in(&call, &bytes, len);
+        let (number, after, out, _) = tried(&call, &bytes, len);
         assert_eq!(number, 0, "{line}");
         bytes = after;
         lines += &(printed(&call, &out) + "\n");
@@ -193,7 +181,7 @@ fn case_no_data_is_open_for_limits_0_and_4_and_limit_5_is_22() {
         asked(&fresh, &[OPEN]);
         fewest(&fresh, &[]);
         let past = Call::Ask { limit: u64::from(GREATEST_LIMIT) + 1 };
-        assert_eq!(call_in(&past, &fresh.bytes(), ANSWER_BYTES).0, 22);
+        assert_eq!(tried(&past, &fresh.bytes(), ANSWER_BYTES).0, 22);
     }
 }
 
@@ -543,7 +531,7 @@ fn ask_limit_above_4_is_22() {
     for limit in near.into_iter().chain(far) {
         for state in [State::fresh(3, 0, 0), full()] {
             for len in [0, ANSWER_BYTES - 1, ANSWER_BYTES, 40] {
-                assert_eq!(call_in(&Call::Ask { limit }, &state.bytes(), len).0, 22, "{limit}");
+                assert_eq!(tried(&Call::Ask { limit }, &state.bytes(), len).0, 22, "{limit}");
             }
         }
     }
@@ -554,10 +542,10 @@ fn ask_output_one_byte_short_is_24_and_longer_is_taken() {
     for state in [State::fresh(3, 0, 0), full()] {
         for len in (0..=60).chain([255, 256, 65_536, 65_540]) {
             for limit in 0..=GREATEST_LIMIT.into() {
-                let (number, ..) = call_in(&Call::Ask { limit }, &state.bytes(), len);
+                let (number, ..) = tried(&Call::Ask { limit }, &state.bytes(), len);
                 assert_eq!(number, if len < ANSWER_BYTES { 24 } else { 0 }, "{len} bytes");
             }
-            let (number, ..) = call_in(&Call::Fewest, &state.bytes(), len);
+            let (number, ..) = tried(&Call::Fewest, &state.bytes(), len);
             assert_eq!(number, if len < FEWEST_BYTES { 24 } else { 0 }, "{len} bytes");
         }
     }
@@ -568,12 +556,12 @@ fn ask_short_state_is_24_and_bytes_beyond_it_play_no_part() {
     let bytes = full().bytes();
     for question in [Call::Ask { limit: 3 }, Call::Fewest] {
         for len in (0..40).chain(STATE_BYTES - 32..STATE_BYTES) {
-            assert_eq!(call_in(&question, &bytes[..len], ANSWER_BYTES).0, 24, "{len} bytes");
+            assert_eq!(tried(&question, &bytes[..len], ANSWER_BYTES).0, 24, "{len} bytes");
         }
         for more in [1, 7, 64] {
             let longer = [&bytes[..], &vec![255; more]].concat();
-            let (number, _, out) = call_in(&question, &longer, ANSWER_BYTES);
-            let wanted = call_in(&question, &bytes, ANSWER_BYTES).2;
+            let (number, _, out, _) = tried(&question, &longer, ANSWER_BYTES);
+            let wanted = tried(&question, &bytes, ANSWER_BYTES).2;
             assert_eq!((number, out), (0, wanted), "{more} more");
         }
     }
@@ -589,15 +577,15 @@ fn ask_several_flaws_is_the_first_of_24_25_22_24() {
     for limit in [0, most, most + 1, u64::MAX] {
         for len in [0, ANSWER_BYTES - 1, ANSWER_BYTES, 33] {
             let call = Call::Ask { limit };
-            assert_eq!(call_in(&call, &sound[..STATE_BYTES - 1], len).0, 24);
-            assert_eq!(call_in(&call, &broken[..STATE_BYTES - 1], len).0, 24);
-            assert_eq!(call_in(&call, &broken, len).0, 25);
+            assert_eq!(tried(&call, &sound[..STATE_BYTES - 1], len).0, 24);
+            assert_eq!(tried(&call, &broken[..STATE_BYTES - 1], len).0, 24);
+            assert_eq!(tried(&call, &broken, len).0, 25);
             let number = match (limit > most, len < ANSWER_BYTES) {
                 (true, _) => 22,
                 (false, true) => 24,
                 (false, false) => 0,
             };
-            assert_eq!(call_in(&call, &sound, len).0, number, "{call:?}, {len} bytes");
+            assert_eq!(tried(&call, &sound, len).0, number, "{call:?}, {len} bytes");
         }
     }
 }
@@ -606,13 +594,13 @@ fn ask_several_flaws_is_the_first_of_24_25_22_24() {
 fn fewest_several_flaws_is_the_first_of_24_25_24() {
     let sound = full().bytes();
     let mut broken = sound.clone();
-    broken[STATE_BYTES - 1] = 1;
+    broken[STATE_BYTES - 1] = GREATEST_EPOCH + 1;
     for len in [0, FEWEST_BYTES - 1, FEWEST_BYTES, 25] {
-        assert_eq!(call_in(&Call::Fewest, &sound[..STATE_BYTES - 1], len).0, 24);
-        assert_eq!(call_in(&Call::Fewest, &broken[..STATE_BYTES - 1], len).0, 24);
-        assert_eq!(call_in(&Call::Fewest, &broken, len).0, 25);
+        assert_eq!(tried(&Call::Fewest, &sound[..STATE_BYTES - 1], len).0, 24);
+        assert_eq!(tried(&Call::Fewest, &broken[..STATE_BYTES - 1], len).0, 24);
+        assert_eq!(tried(&Call::Fewest, &broken, len).0, 25);
         let number = if len < FEWEST_BYTES { 24 } else { 0 };
-        assert_eq!(call_in(&Call::Fewest, &sound, len).0, number);
+        assert_eq!(tried(&Call::Fewest, &sound, len).0, number);
     }
 }
 
@@ -622,8 +610,8 @@ fn ask_term_with_the_own_name_is_25() {
     let named = state(&[(&[1, 2], 0, 10)], &[&[1, 3]]);
     for own in [1, 2, 3] {
         let bytes = State { own, ..named.clone() }.bytes();
-        assert_eq!(call_in(&Call::Ask { limit: 1 }, &bytes, ANSWER_BYTES).0, 25, "{own}");
-        assert_eq!(call_in(&Call::Fewest, &bytes, FEWEST_BYTES).0, 25, "{own}");
+        assert_eq!(tried(&Call::Ask { limit: 1 }, &bytes, ANSWER_BYTES).0, 25, "{own}");
+        assert_eq!(tried(&Call::Fewest, &bytes, FEWEST_BYTES).0, 25, "{own}");
     }
     asked(&State { own: 4, ..named }, &[CONTRADICTED, OPEN]);
 }

@@ -3,35 +3,36 @@
 
 use second::ageing::advance;
 use second::asking::GREATEST_LIMIT;
+use second::branches::Branches;
 use second::calls::Call;
-use second::clocks::{Saved, Triple};
+use second::clocks::{Readings, Saved, Triple};
+use second::epochs::FIRST_EPOCHS;
 use second::every_set::{ask, counting, fewest};
 use second::instants::{Instants, Interval};
 use second::message::{self, Message, MESSAGE_BYTES};
-use second::predicates::{self, holds, struck, Predicate, Term, ALL_NAMES};
+use second::predicates::{self, holds, struck, Predicate, Term, ALL_NAMES, NAMES};
 use second::random::Random;
-use second::receiving::Branches;
 use second::samples::runs::{has_slept, World};
 use second::samples::states;
 use second::state::{
-    self, clock_at, datum_at, entry_at, Datum, State, DRIFT_AT, ENTRY_COUNT_AT, HELD_COUNT_AT,
-    MASKS_AT, MASK_BYTES, NO_CLOCKS, OWN_AT, READING_AT, RIGHT_AT, STATE_BYTES, TERM_COUNT_AT,
-    TRIPLES_AT, TRIPLE_BYTES,
+    self, clock_at, datum_at, entry_at, epoch_at, Datum, State, DRIFT_AT, ENTRY_COUNT_AT,
+    HELD_COUNT_AT, MASKS_AT, MASK_BYTES, NO_CLOCKS, OWN_AT, READING_AT, RIGHT_AT, STATE_BYTES,
+    TERM_COUNT_AT, TRIPLES_AT, TRIPLE_BYTES,
 };
 use second::{ageing, receiving, set_up};
+use std::cmp::Ordering;
 
 // ---- document 01's cases
 
 fn set_up(own: u32, drift: u32) -> Vec<u8> {
     let mut bytes = vec![99; STATE_BYTES];
-    assert_eq!(set_up::call(&mut bytes, own, drift, 0), 0);
+    assert_eq!(set_up::call(&mut bytes, own, drift, 0, 0), 0);
     bytes
 }
 
 fn get(bytes: &mut [u8], sender: u32, left: u64, right: u64, terms: &[Term]) {
-    let message =
-        Message { sender, interval: Interval { left, right }, terms: Predicate::of(terms) };
-    assert_eq!(receiving::call(bytes, 0, 0, None, &message.bytes()), 0);
+    let message = Message::of(sender, left, right, terms).bytes();
+    assert_eq!(receiving::call(bytes, 0, 0, None, &message), 0);
 }
 
 /// What the bytes hold.
@@ -98,8 +99,7 @@ fn case_advance_of_one_microsecond_is_0_and_2_and_of_none_0_and_0() {
 
 #[test]
 fn case_delay_600_000_000_is_taken_and_600_000_001_is_21() {
-    let message =
-        Message { sender: 1, interval: Interval { left: 0, right: 0 }, terms: Predicate::of(&[]) };
+    let message = Message::of(1, 0, 0, &[]);
     let mut bytes = set_up(0, 100);
     let before = bytes.clone();
     assert_eq!(receiving::call(&mut bytes, 0, 600_000_001, None, &message.bytes()), 21);
@@ -111,12 +111,12 @@ fn case_delay_600_000_000_is_taken_and_600_000_001_is_21() {
 #[test]
 fn case_listing_holds_what_its_answers_say() {
     let mut bytes = set_up(5, 100);
-    let words = [536870913, 1073741824, 1074741824, 1610612736, 1611612936, 3760096585];
+    let words = [536870913, 1, 1073741824, 1074741824, 1610612736, 1611612936, 3760096586];
     assert_eq!(receiving::call(&mut bytes, 0, 50, None, &message::bytes_of(&words)), 0);
     assert_eq!(held(&bytes), (vec![Datum::of(1_000_000, 1_000_251, &[2])], vec![]));
     assert_eq!(ageing::call(&mut bytes, 2_000_000), 0);
     assert_eq!(held(&bytes), (vec![Datum::of(2_999_800, 3_000_451, &[2])], vec![]));
-    let words = [536870914, 1073741824, 1076742824, 1610612736, 1613613736, 3764098386];
+    let words = [536870914, 2, 1073741824, 1076742824, 1610612736, 1613613736, 3764098388];
     assert_eq!(receiving::call(&mut bytes, 0, 0, None, &message::bytes_of(&words)), 0);
     let data = vec![Datum::of(2_999_800, 3_000_451, &[2]), Datum::of(3_001_000, 3_001_000, &[4])];
     assert_eq!(held(&bytes), (data, vec![Predicate::of(&[2, 4])]));
@@ -145,7 +145,9 @@ fn bytes_of_a_state_stand_where_the_papers_put_them() {
         ],
         entries: vec![Predicate::of(&[8]), Predicate::of(&[0x0504_0302])],
         clocks,
+        epochs: FIRST_EPOCHS,
     };
+    let state = state.at(&[(0, 1), (27, 14), (28, 15)]);
     let mut bytes = vec![0; STATE_BYTES];
     let mut put =
         |at: usize, numbers: &[u8]| bytes[at..at + numbers.len()].copy_from_slice(numbers);
@@ -175,6 +177,8 @@ fn bytes_of_a_state_stand_where_the_papers_put_them() {
     }
     put(clock_at(2) + TRIPLES_AT + TRIPLE_BYTES * 2 + 16, &[2, 3, 4, 5, 6, 7]);
     put(clock_at(27), &[1]);
+    put(epoch_at(0), &[1]);
+    put(epoch_at(27), &[14, 15]);
     assert_eq!(state.bytes(), bytes);
     assert_eq!(State::of(&bytes), Ok(state));
 }
@@ -197,15 +201,53 @@ fn bytes_in_form_come_back_after_decoding_and_encoding() {
 
 // ---- what a run leaves true
 
-/// The sender of a message, and the datum that it is to its receiver.
-fn received(before: &State, least: u64, greatest: u64, message: &[u8]) -> (u32, Datum) {
-    let words = message::words_of(message).expect("whole words");
-    let message = message::read(&words).expect("a sound message");
-    let Interval { left, right } = message.interval;
-    let predicate = Predicate::sum(&[1 << message.sender], &struck(before.own, &message.terms));
-    let (later, latest) = (advance(least, before.drift).0, advance(greatest, before.drift).1);
-    let interval = Interval { left: left + later, right: right + latest };
-    (message.sender, Datum { interval, predicate })
+/// What a taken message is to its receiver.
+struct Received {
+    sender: u32,
+    /// With its older names too.
+    datum: Datum,
+    /// The identifiers whose old names it withdraws.
+    risen: Term,
+    /// Those whose names in it are old.
+    old: Term,
+}
+
+impl Received {
+    fn new(before: &State, least: u64, greatest: u64, message: &[u8]) -> Received {
+        let words = message::words_of(message).expect("whole words");
+        let message = message::read(&words).expect("a sound message");
+        let Interval { left, right } = message.interval;
+        let predicate = Predicate::sum(&[1 << message.sender], &struck(before.own, &message.terms));
+        let (later, latest) = (advance(least, before.drift).0, advance(greatest, before.drift).1);
+        let interval = Interval { left: left + later, right: right + latest };
+        let with = |order: Ordering| {
+            let names = message.names().filter(|name| name.identifier != before.own);
+            let names = names.filter(move |name| {
+                name.epoch.cmp(&before.epochs[name.identifier as usize]) == order
+            });
+            names.fold(0, |names, name| names | 1 << name.identifier)
+        };
+        let (risen, old) = (with(Ordering::Greater), with(Ordering::Less));
+        Received { sender: message.sender, datum: Datum { interval, predicate }, risen, old }
+    }
+
+    /// Whether the readings violate test (20): an older sender's are not heeded, and what is saved
+    /// of a mended one is not of its name.
+    fn violates(&self, before: &State, readings: Option<Readings>) -> bool {
+        let heeded = (self.risen | self.old) >> self.sender & 1 == 0;
+        let saved = before.clocks[self.sender as usize].filter(|_| heeded).zip(readings);
+        saved.is_some_and(|(saved, readings)| {
+            saved.violated_by(readings.triple, before.drift + readings.drift)
+        })
+    }
+
+    /// What is known afterwards: the message's epochs where they are above.
+    fn epochs_after(&self, before: &State, after: &State) {
+        for n in 0..NAMES {
+            let (old, new) = (before.epochs[n as usize], after.epochs[n as usize]);
+            assert!(if self.risen >> n & 1 != 0 { old < new } else { old == new }, "{n}");
+        }
+    }
 }
 
 /// Runs a call, and checks that a refusal changes nothing and that the bytes stay in form.
@@ -224,41 +266,59 @@ fn sets(own: u32) -> impl Iterator<Item = Term> {
     (0..1 << 5).filter(move |s| s >> own & 1 == 0)
 }
 
-/// What a taken receipt leaves: for each set just the instants that it had and the message allows,
-/// and none where the sender's clock violates test (20) and the set does not hold the sender. Whether
-/// it does.
-fn receipt_says_what_its_message_does(
-    seed: u64,
-    call: &Call,
-    before: &State,
-    after: &State,
-) -> bool {
-    let Call::Receive { least, greatest, readings, message } = call else {
-        return false;
-    };
-    let (sender, new) = received(before, *least, *greatest, message);
-    let saved = before.clocks[sender as usize].zip(*readings);
-    let violated = saved.is_some_and(|(saved, readings)| {
-        saved.violated_by(readings.triple, before.drift + readings.drift)
-    });
-    for s in sets(before.own) {
-        let had = counting(s, before);
-        let wanted = match (violated && s >> sender & 1 == 0, holds(s, &new.predicate)) {
-            (true, _) => Instants::Empty,
-            (false, true) => had,
-            (false, false) => had.meet(new.interval),
+/// How many receipts were taken, and of these such that violated test (20), from radios that have
+/// slept, that withdrew names, and that had old ones.
+#[derive(Debug, Default)]
+struct Taken {
+    receipts: u64,
+    violated: u64,
+    slept: u64,
+    risen: u64,
+    old: u64,
+}
+
+impl Taken {
+    /// What a taken receipt leaves: for each set just the instants that it had with the withdrawn
+    /// names, and that the message allows with its older ones; and none where the sender's clock
+    /// violates test (20) and the set does not hold the sender.
+    fn says_what_its_message_does(
+        &mut self,
+        seed: u64,
+        call: &Call,
+        before: &State,
+        after: &State,
+    ) {
+        let Call::Receive { least, greatest, readings, message } = call else {
+            return;
         };
-        assert_eq!(counting(s, after), wanted, "seed {seed}: set {s}, {call:?} in {before:?}");
+        let new = Received::new(before, *least, *greatest, message);
+        let violated = new.violates(before, *readings);
+        for s in sets(before.own) {
+            let had = counting(s | new.risen, before);
+            let failed = holds(s | new.old, &new.datum.predicate);
+            let wanted = match (violated && s >> new.sender & 1 == 0, failed) {
+                (true, _) => Instants::Empty,
+                (false, true) => had,
+                (false, false) => had.meet(new.datum.interval),
+            };
+            assert_eq!(counting(s, after), wanted, "seed {seed}: set {s}, {call:?} in {before:?}");
+        }
+        new.epochs_after(before, after);
+        self.receipts += 1;
+        self.violated += u64::from(violated);
+        self.slept += u64::from(has_slept(call));
+        self.risen += u64::from(new.risen != 0);
+        self.old += u64::from(new.old != 0);
     }
-    violated
 }
 
 #[test]
 fn receipts_in_runs_say_what_their_messages_do() {
-    let (mut taken, mut violated, mut slept) = (0, 0, 0);
+    let mut taken = Taken::default();
     for seed in 0..20_000 {
         let mut random = Random::new(seed);
-        let world = World::small(&mut random);
+        let mending = random.once_in(2);
+        let world = if mending { World::mending(&mut random) } else { World::small(&mut random) };
         let mut bytes = random.bytes(STATE_BYTES + 5);
         assert_eq!(world.set_up().second(&mut bytes, &mut [], &mut Branches::default()), 0);
         for _ in 0..random.below(40) {
@@ -266,10 +326,7 @@ fn receipts_in_runs_say_what_their_messages_do() {
             let call = world.call(&mut random, &before);
             if checked(&call, &mut bytes, seed) == 0 {
                 let after = State::of(&bytes).expect("a state in form");
-                let blamed = receipt_says_what_its_message_does(seed, &call, &before, &after);
-                violated += u64::from(blamed);
-                taken += u64::from(matches!(call, Call::Receive { .. }));
-                slept += u64::from(has_slept(&call));
+                taken.says_what_its_message_does(seed, &call, &before, &after);
                 // What disjoint intervals taught is in the entries: the data left agree.
                 let learnt = |s| {
                     counting(s, &after) != Instants::Empty
@@ -279,13 +336,16 @@ fn receipts_in_runs_say_what_their_messages_do() {
             }
         }
     }
-    assert!(taken > 100_000 && violated > 3_000, "only {taken} receipts, {violated} violations");
-    assert!(slept > 5_000, "only {slept} receipts from radios that have slept");
+    assert!(taken.receipts > 100_000 && taken.violated > 3_000, "too few of {taken:?}");
+    assert!(
+        taken.slept > 5_000 && taken.risen > 5_000 && taken.old > 3_000,
+        "too few of {taken:?}"
+    );
 }
 
 #[test]
 fn receipts_in_any_state_in_form_say_what_their_messages_do() {
-    let (mut taken, mut violated, mut slept) = (0, 0, 0);
+    let mut taken = Taken::default();
     for seed in 0..50_000 {
         let mut random = Random::new(seed);
         let before = states::in_form(&mut random);
@@ -293,14 +353,11 @@ fn receipts_in_any_state_in_form_say_what_their_messages_do() {
         let mut bytes = before.bytes();
         if checked(&call, &mut bytes, seed) == 0 {
             let after = State::of(&bytes).expect("a state in form");
-            let blamed = receipt_says_what_its_message_does(seed, &call, &before, &after);
-            violated += u64::from(blamed);
-            taken += u64::from(matches!(call, Call::Receive { .. }));
-            slept += u64::from(has_slept(&call));
+            taken.says_what_its_message_does(seed, &call, &before, &after);
         }
     }
-    assert!(taken > 10_000 && violated > 300, "only {taken} receipts, {violated} violations");
-    assert!(slept > 500, "only {slept} receipts from radios that have slept");
+    assert!(taken.receipts > 10_000 && taken.violated > 300, "too few of {taken:?}");
+    assert!(taken.slept > 500 && taken.risen > 500 && taken.old > 500, "too few of {taken:?}");
 }
 
 // ---- asking, instant by instant

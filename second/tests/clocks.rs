@@ -3,14 +3,14 @@
 //! books in tests/book.rs; damaged places are in tests/state.rs.
 
 use second::asking::{ANSWER_BYTES, FEWEST_BYTES};
-use second::calls::Call;
+use second::branches::{Branch, Branches};
+use second::calls::{refused, taken, tried, Call};
 use second::clocks::{excess, Readings, Saved, Triple, GREATEST_CLOCK};
-use second::instants::{Interval, GREATEST_END};
-use second::lent::Lent;
+use second::instants::GREATEST_END;
 use second::message::{bytes_of, write, Message};
 use second::predicates::{Predicate, Term, GREATEST_NAME, NAMES};
 use second::random::Random;
-use second::receiving::{Branch, Branches, GREATEST_DELAY};
+use second::receiving::GREATEST_DELAY;
 use second::samples::states;
 use second::state::{
     clock_at, Datum, State, CLOCKS_AT, CLOCK_BYTES, DATUM_TERMS, DRIFT_AT, GREATEST_DRIFT,
@@ -19,23 +19,11 @@ use second::state::{
 
 // ---- what is compared
 
-/// Runs a call in both programs. Gives the number, the bytes, the output and the branches.
-fn call_in(call: &Call, bytes: &[u8], len: usize) -> (u32, Vec<u8>, Vec<u8>, Branches) {
-    let mut random = Random::new(len as u64);
-    let (mut state, filled) = (Lent::new(bytes, &mut random), random.bytes(len));
-    let (mut out, mut branches) = (Lent::new(&filled, &mut random), Branches::default());
-    let number = call.both(&mut state, &mut out, &mut branches);
-    let number =
-        number.unwrap_or_else(|fault| panic!("{fault}: {call:?} in {:?}", State::of(bytes)));
-    (number, state.bytes().to_vec(), out.bytes().to_vec(), branches)
-}
-
 /// a, b, w and the sender's drift.
 type Read = (u64, u64, u64, u32);
 
 fn message(sender: u32, left: u64, right: u64, terms: &[Term]) -> Vec<u8> {
-    let terms = Predicate::of(terms);
-    bytes_of(&write(&Message { sender, interval: Interval { left, right }, terms }))
+    Message::of(sender, left, right, terms).bytes()
 }
 
 /// A receipt without delay.
@@ -45,31 +33,14 @@ fn receipt(read: Read, message: Vec<u8>) -> Call {
     Call::Receive { least: 0, greatest: 0, readings, message }
 }
 
-/// The state after a taken receipt, and how it came about; bytes beyond the state stay.
-fn taken(before: &State, call: &Call) -> (State, Branches) {
-    let bytes = [&before.bytes()[..], &[1, 0, 2]].concat();
-    let (number, bytes, _, branches) = call_in(call, &bytes, 0);
-    assert_eq!(number, 0, "{call:?} in {before:?}");
-    assert_eq!(bytes[STATE_BYTES..], [1, 0, 2]);
-    (State::of(&bytes).expect("a state in form"), branches)
-}
-
-/// A refusal changes nothing.
-fn refused(before: &State, call: &Call, wanted: u32) {
-    let bytes = [&before.bytes()[..], &[1, 0, 2]].concat();
-    let (number, after, ..) = call_in(call, &bytes, 0);
-    assert_eq!(number, wanted, "{call:?} in {before:?}");
-    assert!(after == bytes, "{call:?} in {before:?}");
-}
-
 /// What both programs answer at a limit: kind, left and right.
 fn ask(state: &State, limit: u64) -> [u64; 3] {
-    numbers(&call_in(&Call::Ask { limit }, &state.bytes(), ANSWER_BYTES).2)
+    numbers(&tried(&Call::Ask { limit }, &state.bytes(), ANSWER_BYTES).2)
 }
 
 /// The fewest failures: count and mask.
 fn fewest(state: &State) -> [u64; 2] {
-    numbers(&call_in(&Call::Fewest, &state.bytes(), FEWEST_BYTES).2)
+    numbers(&tried(&Call::Fewest, &state.bytes(), FEWEST_BYTES).2)
 }
 
 fn numbers<const N: usize>(out: &[u8]) -> [u64; N] {
@@ -381,7 +352,7 @@ fn clocks_are_left_by_receipts_without_readings_and_by_all_other_calls() {
 #[test]
 fn clocks_are_zero_after_setting_up() {
     let (state, _) = after(&fresh(), &[(1, 2, 3, 4)]);
-    let set_up = Call::SetUp { own: 1, drift: 2, reading: 3 };
+    let set_up = Call::SetUp { own: 1, drift: 2, reading: 3, epoch: 0 };
     assert_eq!(taken(&state, &set_up).0, State::fresh(1, 2, 3));
 }
 
@@ -514,8 +485,10 @@ fn clocks_violation_is_the_same_for_every_message_of_a_sender() {
         before.clocks[sender as usize] = three([(0, 0, 0); 3]);
         let sent = [(0, 10, &[][..]), (30, 40, &[1 << 3, 3 << 7]), (0, GREATEST_END, &[0])];
         let after = sent.map(|(left, right, terms)| {
-            let call = receipt((9, 99, 0, 0), message(sender, left, right, terms));
-            let (number, bytes, ..) = call_in(&call, &before.bytes(), 0);
+            let message = Message::of(sender, left, right, terms);
+            let message = Message { epochs: before.epochs, ..message }.bytes();
+            let call = receipt((9, 99, 0, 0), message);
+            let (number, bytes, ..) = tried(&call, &before.bytes(), 0);
             assert!([0, 32].contains(&number), "seed {seed}: {number}");
             violations += u64::from(number == 0);
             (number, bytes)
@@ -606,8 +579,8 @@ fn clocks_several_flaws_are_the_first_of_24_25_21_40_and_the_message() {
             };
             for (least, greatest) in [(0, 0), (1, 0), (0, GREATEST_DELAY + 1)] {
                 let short = &broken[..STATE_BYTES - 1];
-                assert_eq!(call_in(&call(least, greatest), short, 0).0, 24);
-                assert_eq!(call_in(&call(least, greatest), &broken, 0).0, 25);
+                assert_eq!(tried(&call(least, greatest), short, 0).0, 24);
+                assert_eq!(tried(&call(least, greatest), &broken, 0).0, 25);
             }
             refused(&fresh(), &call(1, 0), 21);
             refused(&fresh(), &call(0, GREATEST_DELAY + 1), 21);
@@ -623,11 +596,8 @@ fn eight() -> Vec<Term> {
 
 /// A refused receipt for each number from 10 on, from sender 1 where its head can be read.
 fn flawed() -> Vec<(u32, u64, Vec<u8>)> {
-    let sound = write(&Message {
-        sender: 1,
-        interval: Interval { left: 10, right: 20 },
-        terms: Predicate::of(&[4, 24]),
-    });
+    // A head, epochs of 1, 2, 3 and 4, the ends, two terms and the check word.
+    let sound = write(&Message::of(1, 10, 20, &[4, 24]));
     let changed = |place: usize, word: u32| {
         let mut words = sound.to_vec();
         words[place] ^= word;
@@ -637,10 +607,11 @@ fn flawed() -> Vec<(u32, u64, Vec<u8>)> {
         (10, 0, vec![]),
         (10, 0, changed(0, 0)[1..].to_vec()),
         (12, 0, changed(0, 1 << 10)),
-        (11, 0, changed(1, 1 << 29)),
+        (11, 0, changed(5, 1 << 29)),
         (13, 0, [changed(0, 0), vec![0; 4]].concat()),
-        (14, 0, changed(4, 1 << 29)),
-        (15, 0, changed(7, 1)),
+        (14, 0, changed(8, 1 << 29)),
+        (42, 0, changed(4, 1)),
+        (15, 0, changed(11, 1)),
         (16, 0, message(1, 21, 20, &[])),
         (17, 0, message(1, 10, 20, &[24, 4])),
         (18, 0, message(5, 10, 20, &[])),
@@ -677,6 +648,6 @@ fn clocks_of_refused_receipts_are_not_saved() {
 fn clocks_short_states_are_24() {
     for len in (0..9).chain(CLOCKS_AT - 9..CLOCKS_AT + 9).chain(STATE_BYTES - 80..STATE_BYTES) {
         let bytes = fresh().bytes();
-        assert_eq!(call_in(&receipt((0, 0, 0, 0), from_1()), &bytes[..len], 0).0, 24, "{len}");
+        assert_eq!(tried(&receipt((0, 0, 0, 0), from_1()), &bytes[..len], 0).0, 24, "{len}");
     }
 }

@@ -2,6 +2,7 @@
 //! receipts from radios that have slept. Numbers past the range, and the order of refusals, are in
 //! tests/receive.rs and tests/clocks.rs.
 
+use second::branches::{Branch, Branches};
 use second::calls::Call;
 use second::clocks::{Readings, Saved};
 use second::instants::{Interval, GREATEST_END};
@@ -9,7 +10,7 @@ use second::lent::Lent;
 use second::message::Message;
 use second::predicates::{Predicate, Term, NAMES};
 use second::random::Random;
-use second::receiving::{self, Branch, Branches};
+use second::receiving;
 use second::samples::{states, Tally};
 use second::state::{Datum, State};
 
@@ -37,8 +38,7 @@ fn with_and_without_readings() -> [Option<Readings>; 3] {
 }
 
 fn receipt(delays: Delays, sent: Ends, terms: &[Term], readings: Option<Readings>) -> Call {
-    let (interval, terms) = (Interval { left: sent.0, right: sent.1 }, Predicate::of(terms));
-    let message = Message { sender: 1, interval, terms }.bytes();
+    let message = Message::of(1, sent.0, sent.1, terms).bytes();
     Call::Receive { least: delays.0, greatest: delays.1, readings, message }
 }
 
@@ -220,13 +220,10 @@ impl Sleeper {
         let (left, right) = aim(random, &before);
         let (later, latest) = gains(delays, before.drift);
         let right = right.saturating_sub(latest).min(GREATEST_END);
-        let interval = Interval { left: left.saturating_sub(later).min(right), right };
+        let left = left.saturating_sub(later).min(right);
         let terms: &[Term] = random.pick(&[&[][..], &[], &[], &[2], &[12, 16], &[0]]);
-        let message = Message {
-            sender: other_name(random, before.own),
-            interval,
-            terms: Predicate::of(terms),
-        };
+        let message = Message::of(other_name(random, before.own), left, right, terms);
+        let message = Message { epochs: before.epochs, ..message };
         let (a, b, drift) = (random.below(6), random.below(6), random.pick(&DRIFTS));
         let readings = random.once_in(2).then_some(Readings::of(a, b, 2, drift));
         Sleeper { before, delays, readings, message }

@@ -89,7 +89,7 @@ impl Tally {
     /// Every line that there is came so often.
     fn check(&self, title: &str, enough: u64) {
         report(&format!("{title}: {:?}\n", self.0));
-        let refusals = (1..=3).chain(10..=18).chain(20..=22).chain(30..=32);
+        let refusals = (1..=3).chain(10..=18).chain(20..=22).chain(30..=32).chain(41..=42);
         let refusals = refusals.map(|number| format!("refused {number}"));
         let fewest = (0..=GREATEST_LIMIT).map(|count| format!("fewest {count}"));
         let others = ["ok", "bad line", "open", "contradicted", "between", "fewest over 4"];

@@ -1,13 +1,14 @@
 //! Receiving, by both programs: edges by name. More on delays is in tests/delays.rs, and seeded runs
 //! are in tests/runs.rs.
 
+use second::branches::{Branch, Branches};
 use second::engine;
-use second::instants::{Interval, GREATEST_END};
+use second::instants::GREATEST_END;
 use second::lent::{compare, Lent};
 use second::message::{bytes_of, write, Message};
 use second::predicates::{Predicate, Term, GREATEST_NAME, NAMES};
 use second::random::Random;
-use second::receiving::{self, Branch, Branches, GREATEST_DELAY};
+use second::receiving::{self, GREATEST_DELAY};
 use second::state::{
     Datum, State, DATUM_TERMS, DRIFT_AT, ENTRY_TERMS, MOST_DATA, MOST_ENTRIES, STATE_BYTES,
 };
@@ -39,8 +40,7 @@ type Held<'a> = (u64, u64, &'a [Term]);
 
 fn words(sent: Sent) -> Vec<u32> {
     let (sender, left, right, terms) = sent;
-    let terms = Predicate::of(terms);
-    write(&Message { sender, interval: Interval { left, right }, terms }).to_vec()
+    write(&Message::of(sender, left, right, terms)).to_vec()
 }
 
 /// A state of own name 0 and drift 100 with these data and entries.
@@ -167,24 +167,27 @@ fn sound() -> Vec<u32> {
     words((3, 10, 20, &[2, 12]))
 }
 
-/// A flawed message for each number from 10 to 17.
+/// A flawed message for each number from 10 to 17, and for 42.
 fn flawed() -> Vec<(u32, Vec<u8>)> {
-    let mut changed = [sound(), sound(), sound(), sound(), sound(), sound()];
+    // Behind the head the epochs of 1, 2 and 3, then the ends from 4 on, the terms from 8 on.
+    let mut changed = [(); 7].map(|()| sound());
     changed[0].truncate(4);
     changed[1][0] |= 1 << 10;
-    changed[2][1] ^= 1 << 29;
+    changed[2][4] ^= 1 << 29;
     changed[3].push(0);
-    changed[4][4] ^= 1 << 29;
-    changed[5][7] ^= 1;
+    changed[4][7] ^= 1 << 29;
+    changed[5][2] ^= 1;
+    changed[6][10] ^= 1;
+    let numbers = [10, 12, 11, 13, 14, 42, 15].into_iter();
     let mut flawed: Vec<(u32, Vec<u8>)> =
-        [10, 12, 11, 13, 14, 15].into_iter().zip(changed.map(|words| bytes_of(&words))).collect();
+        numbers.zip(changed.map(|words| bytes_of(&words))).collect();
     flawed.push((16, bytes_of(&words((3, 21, 20, &[2, 12])))));
     flawed.push((17, bytes_of(&words((3, 10, 20, &[12, 2])))));
     flawed
 }
 
 #[test]
-fn receive_flawed_message_is_10_to_17_as_in_reading() {
+fn receive_flawed_message_is_10_to_17_or_42_as_in_reading() {
     for (number, message) in flawed() {
         refused_bytes(&state(&[], &[]), (0, 0), &message, number);
         refused_bytes(&full(), (0, 0), &message, number);
@@ -215,7 +218,7 @@ fn receive_own_name_as_sender_is_18() {
 
 #[test]
 fn receive_centre_form_is_taken_as_ends_form_is() {
-    let words = [(1 << 29) + 1, 4 << 29, (4 << 29) + 15, (5 << 29) + 5];
+    let words = [(1 << 29) + 1, 1, 4 << 29, (4 << 29) + 15, (5 << 29) + 5];
     let sum = words.iter().fold(0u32, |sum, &word| sum.wrapping_add(word));
     let closed = [&words[..], &[7 << 29 | sum & ((1 << 29) - 1)]].concat();
     let (after, _) = taken(&state(&[], &[]), (0, 0), &bytes_of(&closed));
@@ -241,10 +244,10 @@ fn receive_several_flaws_is_the_first_of_24_25_21_and_the_message() {
 }
 
 #[test]
-fn receive_bad_head_and_second_word_is_12() {
+fn receive_bad_head_and_opening_word_is_12() {
     let mut words = sound();
     words[0] = 0;
-    words[1] = 0;
+    words[4] = 0;
     refused_bytes(&full(), (0, 0), &bytes_of(&words), 12);
 }
 

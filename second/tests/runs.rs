@@ -2,11 +2,11 @@
 //! all bytes around them. Each report counts the numbers by call and the branches of taken receipts.
 
 use second::asking::{ANSWER_BYTES, FEWEST_BYTES};
+use second::branches::{Branch, Branches, Counts};
 use second::calls::Call;
 use second::lent::Lent;
 use second::message::{ends_form_bytes, MESSAGE_BYTES};
 use second::random::Random;
-use second::receiving::{Branch, Branches};
 use second::samples::runs::{has_slept, World};
 use second::samples::{report, states};
 use second::state::{State, ENTRY_COUNT_AT, HELD_COUNT_AT, MOST_DATA, MOST_ENTRIES, STATE_BYTES};
@@ -17,10 +17,10 @@ use std::fmt::Write as _;
 
 /// What each call can return.
 const NUMBERS: [&[u32]; 7] = [
-    &[0, 1, 2, 3, 24],
+    &[0, 1, 2, 3, 24, 41],
     &[0, 3, 20, 24, 25, 30],
-    &[0, 10, 11, 12, 13, 14, 15, 16, 17, 18, 21, 24, 25, 30, 31, 32],
-    &[0, 10, 11, 12, 13, 14, 15, 16, 17, 18, 21, 24, 25, 30, 31, 32, 40],
+    &[0, 10, 11, 12, 13, 14, 15, 16, 17, 18, 21, 24, 25, 30, 31, 32, 42],
+    &[0, 10, 11, 12, 13, 14, 15, 16, 17, 18, 21, 24, 25, 30, 31, 32, 40, 42],
     &[0, 23, 24, 25],
     &[0, 22, 24, 25],
     &[0, 24, 25],
@@ -28,6 +28,8 @@ const NUMBERS: [&[u32]; 7] = [
 
 /// The branches that only crowded places have to meet.
 const CROWDED: [Branch; 3] = [Branch::EntriesOver, Branch::TooManyData, Branch::TooManyEntries];
+/// Those that only names which are often mended have to meet.
+const MENDED: [Branch; 3] = [Branch::OldMadeTrue, Branch::OldSpared, Branch::Unheeded];
 
 /// Fewer of a number or of a branch would be too few to have met its cases.
 const ENOUGH: u64 = 100;
@@ -38,7 +40,7 @@ struct Seen {
     /// By call and number.
     numbers: [BTreeMap<u32, u64>; 7],
     /// Of taken receipts; of refused ones those that say why.
-    branches: [u64; Branch::ALL.len()],
+    branches: Counts,
     /// Refused 32 although the receipt ended at step 2.
     crowded_at_step_2: u64,
     /// Refused 32 after a violation.
@@ -57,7 +59,7 @@ impl Seen {
         let why = [Branch::TooManyData, Branch::TooManyEntries];
         for branch in Branch::ALL.into_iter().filter(|&branch| branches.has(branch)) {
             if number == 0 || why.contains(&branch) {
-                self.branches[branch as usize] += 1;
+                self.branches[branch] += 1;
             }
         }
         if number == 32 {
@@ -82,8 +84,8 @@ impl Seen {
             let counts = numbers.iter().map(|(number, count)| format!("  {number}: {count}"));
             writeln!(text, "  {name}{}", counts.collect::<String>()).expect("a string");
         }
-        let counts = Branch::ALL.iter().zip(&self.branches);
-        let counts: Vec<String> = counts.map(|(b, count)| format!("{b:?} {count}")).collect();
+        let counts = Branch::ALL.into_iter().map(|b| format!("{b:?} {}", self.branches[b]));
+        let counts: Vec<String> = counts.collect();
         let more = [
             ("32 at step 2", self.crowded_at_step_2),
             ("32 by a violation", self.crowded_by_violation),
@@ -108,7 +110,7 @@ impl Seen {
             assert!(met.keys().all(|number| wanted.contains(number)), "{title}: {name}: {met:?}");
         }
         for branch in Branch::ALL.into_iter().filter(|branch| !exempt.contains(branch)) {
-            let count = self.branches[branch as usize];
+            let count = self.branches[branch];
             assert!(count >= ENOUGH, "{title}: {branch:?} came {count} times");
         }
         assert!(self.slept >= ENOUGH, "{title}: too seldom after a sleep");
@@ -117,14 +119,15 @@ impl Seen {
 
 // ---- a run
 
-/// Lengths of an output for a message: about those of 0 and 1 terms, that of 2, about the longest.
+/// Lengths of an output for a message: about those of 1 and 2 terms of a name each, that of 3,
+/// about the longest. The own identifier has an epoch word too.
 const WRITE_LENGTHS: [usize; 10] = [
     0,
-    ends_form_bytes(0) - 1,
-    ends_form_bytes(0),
-    ends_form_bytes(1) - 1,
-    ends_form_bytes(1),
-    ends_form_bytes(2),
+    ends_form_bytes(2, 1) - 1,
+    ends_form_bytes(2, 1),
+    ends_form_bytes(3, 2) - 1,
+    ends_form_bytes(3, 2),
+    ends_form_bytes(4, 3),
     MESSAGE_BYTES - 1,
     MESSAGE_BYTES,
     MESSAGE_BYTES + 1,
@@ -232,7 +235,7 @@ fn runs_of_few_names_and_small_numbers_are_answered_alike() {
         let (world, steps) = (World::small(&mut random), random.below(40));
         Run::new(seed, random, world, &mut seen).start_set_up(steps);
     }
-    seen.check("few names and small numbers", &CROWDED);
+    seen.check("few names and small numbers", &[&CROWDED[..], &MENDED].concat());
     assert!(seen.runs >= 20_000, "only {} runs", seen.runs);
     assert!(seen.slept_past_the_end >= ENOUGH, "too seldom 30 after a sleep");
 }
@@ -245,7 +248,7 @@ fn runs_that_fill_all_places_are_answered_alike() {
         let (world, steps) = (World::crowded(&mut random), 40 + random.below(160));
         Run::new(seed, random, world, &mut seen).start_set_up(steps);
     }
-    seen.check("many names and crowded places", &[]);
+    seen.check("many names and crowded places", &MENDED);
     let [step_2, violation] = [seen.crowded_at_step_2, seen.crowded_by_violation];
     for count in [step_2, violation, seen.all_data, seen.all_entries] {
         assert!(count >= ENOUGH, "too seldom full");
@@ -261,5 +264,18 @@ fn runs_from_any_state_in_form_are_answered_alike() {
         let (world, steps) = (World::around(&mut random, &state), 1 + random.below(4));
         Run::new(seed, random, world, &mut seen).start_in(&state, steps);
     }
-    seen.check("from any state in form", &CROWDED);
+    seen.check("from any state in form", &[&CROWDED[..], &MENDED].concat());
+}
+
+#[test]
+fn runs_of_names_that_are_often_mended_are_answered_alike() {
+    let mut seen = Seen::default();
+    for seed in 0..40_000 {
+        let mut random = Random::new(seed);
+        let crowded = random.once_in(40);
+        let world = if crowded { World::crowded(&mut random) } else { World::mending(&mut random) };
+        let steps = random.below(if crowded { 200 } else { 40 });
+        Run::new(seed, random, world, &mut seen).start_set_up(steps);
+    }
+    seen.check("names that are often mended", &CROWDED);
 }

@@ -1,21 +1,23 @@
 //! The state's bytes in every call, by both programs: each condition of the form broken on its own,
-//! every bit flipped, damaged places of the senders' clocks, lengths, and any bytes.
+//! every bit flipped, damaged places of the senders' clocks, damaged epochs, lengths, and any
+//! bytes.
 
 use second::asking::ANSWER_BYTES;
+use second::branches::Branches;
 use second::calls::Call;
 use second::clocks::{Readings, Saved, Triple, GREATEST_CLOCK};
+use second::epochs::GREATEST_EPOCH;
 use second::instants::{Interval, GREATEST_END};
 use second::lent::Lent;
 use second::message::{Message, MESSAGE_BYTES};
 use second::predicates::{Predicate, Term, ALL_NAMES, GREATEST_NAME, NAMES};
 use second::random::Random;
-use second::receiving::Branches;
-use second::samples::{clocks, report, states};
+use second::samples::{clocks, epochs, report, states};
 use second::state::{
-    clock_at, datum_at, entry_at, Datum, State, CLOCK_BYTES, DATUM_BYTES, DATUM_TERMS, DRIFT_AT,
-    ENTRY_BYTES, ENTRY_COUNT_AT, ENTRY_TERMS, GREATEST_DRIFT, GREATEST_READING, HELD_COUNT_AT,
-    MASKS_AT, MASK_BYTES, MOST_DATA, MOST_ENTRIES, OWN_AT, READING_AT, RIGHT_AT, STATE_BYTES,
-    TERM_COUNT_AT, TRIPLES_AT,
+    clock_at, datum_at, entry_at, epoch_at, Datum, State, CLOCK_BYTES, DATUM_BYTES, DATUM_TERMS,
+    DRIFT_AT, ENTRY_BYTES, ENTRY_COUNT_AT, ENTRY_TERMS, GREATEST_DRIFT, GREATEST_READING,
+    HELD_COUNT_AT, MASKS_AT, MASK_BYTES, MOST_DATA, MOST_ENTRIES, OWN_AT, READING_AT, RIGHT_AT,
+    STATE_BYTES, TERM_COUNT_AT, TRIPLES_AT,
 };
 use std::collections::BTreeMap;
 
@@ -35,8 +37,8 @@ fn number(bytes: &[u8], call: &Call, len: usize) -> u32 {
 fn sound_calls(bytes: &[u8]) -> [Call; 3] {
     let reading = u64::from_le_bytes(*bytes[READING_AT..].first_chunk().expect("eight bytes"));
     let sender = u32::from(bytes[OWN_AT] == 1) + 1;
-    let interval = Interval { left: 0, right: 9 };
-    let message = Message { sender, interval, terms: Predicate::of(&[0]) }.bytes();
+    let epoch = bytes[epoch_at(sender)].min(GREATEST_EPOCH);
+    let message = Message::of(sender, 0, 9, &[0]).at(&[(sender, epoch)]).bytes();
     let readings = Some(Readings::of(7, 7, GREATEST_CLOCK, GREATEST_DRIFT));
     let receive = |readings| {
         let message = message.clone();
@@ -70,7 +72,7 @@ fn out_of_form(bytes: &[u8]) {
     refused(bytes, 25);
     refused(&[bytes, &[1; 9]].concat(), 25);
     refused(&bytes[..STATE_BYTES - 1], 24);
-    let set_up = Call::SetUp { own: 5, drift: 100, reading: 1_000 };
+    let set_up = Call::SetUp { own: 5, drift: 100, reading: 1_000, epoch: 0 };
     assert_eq!(number(bytes, &set_up, 0), 0);
 }
 
@@ -153,8 +155,7 @@ fn changed(state: &State, at: usize, put: &[u8]) -> Vec<u8> {
 fn state_all_zero_is_in_form() {
     let zeros = [0; STATE_BYTES];
     in_form(&zeros);
-    let interval = Interval { left: 1, right: 2 };
-    let message = Message { sender: 1, interval, terms: Predicate::of(&[]) }.bytes();
+    let message = Message::of(1, 1, 2, &[]).bytes();
     for readings in [None, Some(Readings::of(3, 4, 5, 6))] {
         let message = message.clone();
         let receive = Call::Receive { least: 0, greatest: 0, readings, message };
@@ -620,8 +621,6 @@ struct Damaged {
     wrong: BTreeMap<Place, u64>,
     right: BTreeMap<Place, u64>,
     own: u64,
-    /// By call and number.
-    numbers: [BTreeMap<u32, u64>; Call::NAMES.len()],
 }
 
 impl Damaged {
@@ -643,8 +642,8 @@ impl Damaged {
         wrong.is_empty()
     }
 
-    fn check(&self, enough: u64) {
-        let Damaged { wrong, right, own, numbers } = self;
+    fn check(&self, numbers: &Numbers, enough: u64) {
+        let Damaged { wrong, right, own } = self;
         let text = format!(
             "200,000 states with damaged places: one out of form {wrong:?}, all in form {right:?}, \
              own name's in use {own}, numbers {numbers:?}\n"
@@ -657,19 +656,26 @@ impl Damaged {
             assert!(right.get(&place) >= Some(&enough), "{place:?}: {right:?}");
         }
         assert!(*own >= enough, "{own}");
-        for (name, numbers) in Call::NAMES.iter().zip(numbers).skip(1) {
-            assert!(numbers.len() == 2 && numbers.values().all(|&n| n >= enough), "{name}");
-        }
+        answered_both_ways(numbers, enough);
     }
 }
 
-#[test]
-fn state_damaged_clock_places_are_answered_alike() {
-    let mut damaged = Damaged::default();
+/// By call and number.
+type Numbers = [BTreeMap<u32, u64>; Call::NAMES.len()];
+
+/// Seeded states, filled and damaged so, each lent to a call of both programs: 25 comes exactly where
+/// the state is not in form.
+fn damaged_are_25(
+    seeds: u64,
+    fill: fn(&mut Random, &mut State),
+    damage: fn(&mut Random, &mut [u8]),
+    mut in_form: impl FnMut(&[u8], u32) -> bool,
+) -> Numbers {
+    let mut numbers = Numbers::default();
     let mut filler = Random::new(0);
     let mut lent = Lent::new(&[0; STATE_BYTES], &mut filler);
     let mut out = Lent::new(&[7; ANSWER_BYTES], &mut filler);
-    for seed in 0..200_000 {
+    for seed in 0..seeds {
         let mut random = Random::new(seed);
         let mut state = State::fresh(random.below(NAMES.into()) as u32, 9, 9);
         if random.once_in(8) {
@@ -677,10 +683,10 @@ fn state_damaged_clock_places_are_answered_alike() {
             // With room for a violation's entry.
             state.entries.truncate(MOST_ENTRIES - 1);
         }
-        state.clocks = clocks::clocks(&mut random);
+        fill(&mut random, &mut state);
         let mut bytes = state.bytes();
         for _ in 0..random.pick(&[0, 1, 1, 1, 2, 3]) {
-            damage_place(&mut random, &mut bytes);
+            damage(&mut random, &mut bytes);
         }
         let [age, receive, with_readings] = sound_calls(&bytes);
         let (none, ask, fewest) =
@@ -689,12 +695,108 @@ fn state_damaged_clock_places_are_answered_alike() {
         lent.put(&bytes);
         let number = call.both(&mut lent, &mut out, &mut Branches::default());
         let number = number.unwrap_or_else(|fault| panic!("seed {seed}: {fault}: {call:?}"));
-        *damaged.numbers[call.kind()].entry(number).or_default() += 1;
+        *numbers[call.kind()].entry(number).or_default() += 1;
         let taken = if matches!(call, Call::Write { .. }) { 23 } else { 0 };
-        let wanted = if damaged.count(&bytes, state.own) { taken } else { 25 };
+        let wanted = if in_form(&bytes, state.own) { taken } else { 25 };
         assert_eq!(number, wanted, "seed {seed}: {call:?}");
     }
-    damaged.check(1_000);
+    numbers
+}
+
+/// Each call but setting up was answered so often in either way.
+fn answered_both_ways(numbers: &Numbers, enough: u64) {
+    for (name, numbers) in Call::NAMES.iter().zip(numbers).skip(1) {
+        assert!(numbers.len() == 2 && numbers.values().all(|&n| n >= enough), "{name}");
+    }
+}
+
+#[test]
+fn state_damaged_clock_places_are_answered_alike() {
+    let mut damaged = Damaged::default();
+    let fill = |random: &mut Random, state: &mut State| state.clocks = clocks::clocks(random);
+    let count = |bytes: &[u8], own| damaged.count(bytes, own);
+    let numbers = damaged_are_25(200_000, fill, damage_place, count);
+    damaged.check(&numbers, 1_000);
+}
+
+// ---- the epochs
+
+/// Every call that looks at the state, with an output that is long enough.
+fn every_call(bytes: &[u8]) -> Vec<Call> {
+    let questions = [Call::Write { position: 0 }, Call::Ask { limit: 4 }, Call::Fewest];
+    sound_calls(bytes).into_iter().chain(flawed_calls()).chain(questions).collect()
+}
+
+#[test]
+fn state_epoch_of_15_is_in_form_and_16_is_25_in_every_call() {
+    for state in all() {
+        for identifier in 0..NAMES {
+            let at = epoch_at(identifier);
+            for epoch in 0..=GREATEST_EPOCH {
+                in_form(&changed(&state, at, &[epoch]));
+            }
+            for epoch in [16, 17, 31, 32, 64, 127, 128, 240, 255] {
+                let bytes = changed(&state, at, &[epoch]);
+                out_of_form(&bytes);
+                for call in every_call(&bytes) {
+                    assert_eq!(number(&bytes, &call, MESSAGE_BYTES), 25, "{call:?}");
+                }
+            }
+        }
+        in_form(&changed(&state, epoch_at(0), &[GREATEST_EPOCH; NAMES as usize]));
+    }
+}
+
+#[test]
+fn state_epochs_stand_behind_the_clocks_by_identifier() {
+    assert_eq!((epoch_at(0), epoch_at(28), STATE_BYTES), (5_236, 5_264, 5_265));
+    // The byte before them is the last of a triple, and the one behind them is not looked at.
+    out_of_form(&changed(&State::fresh(5, 0, 0), 5_235, &[1]));
+    in_form(&[&State::fresh(5, 0, 0).bytes()[..], &[16, 255]].concat());
+}
+
+/// What is counted of the states with damaged epochs: those with one out of form, by identifier;
+/// the own one's; those with the least value that is; and those in form with the greatest.
+#[derive(Default)]
+struct DamagedEpochs {
+    alone: [u64; NAMES as usize],
+    own: u64,
+    least: u64,
+    greatest: u64,
+}
+
+impl DamagedEpochs {
+    /// Counts a state. Whether it is in form.
+    fn count(&mut self, bytes: &[u8], own: u32) -> bool {
+        let epochs = &bytes[5_236..5_265];
+        let wrong: Vec<usize> = (0..epochs.len()).filter(|&n| epochs[n] > 15).collect();
+        if let [n] = wrong[..] {
+            self.alone[n] += 1;
+            self.own += u64::from(n == own as usize);
+            self.least += u64::from(epochs[n] == 16);
+        }
+        self.greatest += u64::from(wrong.is_empty() && epochs.contains(&15));
+        wrong.is_empty()
+    }
+
+    fn check(&self, numbers: &Numbers, enough: u64) {
+        let DamagedEpochs { alone, own, least, greatest } = self;
+        report(&format!(
+            "100,000 states with damaged epochs: one out of form by identifier {alone:?}, the own one's \
+             {own}, with 16 {least}, in form with 15 {greatest}, numbers {numbers:?}\n"
+        ));
+        assert!(alone.iter().chain([own, least, greatest]).all(|&count| count >= enough));
+        answered_both_ways(numbers, enough);
+    }
+}
+
+#[test]
+fn state_damaged_epochs_are_answered_alike() {
+    let mut damaged = DamagedEpochs::default();
+    let fill = |random: &mut Random, state: &mut State| state.epochs = epochs(random);
+    let count = |bytes: &[u8], own| damaged.count(bytes, own);
+    let numbers = damaged_are_25(100_000, fill, states::damage_epoch, count);
+    damaged.check(&numbers, 500);
 }
 
 // ---- all bytes

@@ -1,6 +1,7 @@
 //! Normal forms of sums (document 02, W-203): those that the second program makes of seeded sums,
 //! and those that both programs make of the same sums, dealt out to receipts and to entries.
 
+use second::branches::Branches;
 use second::calls::Call;
 use second::instants::Interval;
 use second::lent::Lent;
@@ -9,7 +10,6 @@ use second::predicates::{
     holds, implies, is_normal, normal, sets, Predicate, Term, ALL_NAMES, NAMES,
 };
 use second::random::Random;
-use second::receiving::Branches;
 use second::samples::{sums, Tally};
 use second::state::{Datum, State, DATUM_TERMS, ENTRY_TERMS, STATE_BYTES};
 use std::collections::BTreeSet;
@@ -211,7 +211,7 @@ fn message(random: &mut Random, own: u32, sent: Vec<Term>) -> Message {
     if random.once_in(2) {
         terms.retain(|&t| t != 1 << sender);
     }
-    Message { sender, interval: Interval { left: 20, right: 30 }, terms: Predicate::of(&terms) }
+    Message::of(sender, 20, 30, &terms)
 }
 
 /// A name of one of the sets, or of the last one if that has none.

@@ -1,14 +1,15 @@
 //! How long each call takes, by the engine and by the second program, from one run. `bench` is the
 //! full measure, `bench quick` a short one that shows that it runs.
 //!
-//! States are quiet, usual, full and the dearest that hill climbing finds for either program; of the
-//! first three also with triples saved of all 28 senders. Each line has the median times, and the engine's as a multiple of the second program's and of the
-//! time that copying a state's bytes takes.
+//! States are quiet, usual, full and the dearest that hill climbing finds for either program; of
+//! the first three also with triples saved of all 28 senders. Messages are also such with one epoch
+//! word and with 29. Each line has the median times, and the engine's as a multiple of the second
+//! program's and of the time that copying a state's bytes takes.
 
 use second::asking::{ANSWER_BYTES, FEWEST_BYTES, GREATEST_LIMIT};
 use second::message::MESSAGE_BYTES;
 use second::samples::climbing::Climb;
-use second::samples::loads::{Filling, Load, FULL, QUIET, READINGS, USUAL};
+use second::samples::loads::{self, Filling, Load, FULL, QUIET, READINGS, USUAL};
 use second::state::{State, STATE_BYTES};
 use second::timing::{least, medians, Effort};
 use second::{ageing, asking, engine, message, receiving, set_up, writing};
@@ -18,6 +19,8 @@ use std::hint::black_box;
 #[derive(Clone)]
 struct Case {
     state: Vec<u8>,
+    /// The state at first.
+    first: Vec<u8>,
     message: Vec<u8>,
     reading: u64,
     out: Vec<u8>,
@@ -31,7 +34,8 @@ impl Case {
     fn of(state: &[u8], message: &[u8]) -> Case {
         let reading = State::of(state).expect("a state in form").reading;
         let out = vec![0; MESSAGE_BYTES];
-        Case { state: state.to_vec(), message: message.to_vec(), reading, out }
+        let (state, message) = (state.to_vec(), message.to_vec());
+        Case { first: state.clone(), state, message, reading, out }
     }
 }
 
@@ -48,8 +52,8 @@ struct Call {
 
 const SET_UP: Call = Call {
     name: "set up",
-    engine: |case| engine::monitor_set_up(&mut case.state, 3, 100, 7),
-    second: |case| set_up::call(&mut case.state, 3, 100, 7),
+    engine: |case| engine::monitor_set_up(&mut case.state, 3, 100, 7, 1),
+    second: |case| set_up::call(&mut case.state, 3, 100, 7, 1),
     number: 0,
 };
 /// Nothing is held at that position, which is found out after the form.
@@ -85,6 +89,20 @@ const RECEIVE_WITH_READINGS: Call = Call {
         engine::monitor_receive_with_readings(state, 10, 60, READINGS, message)
     },
     second: |case| receiving::call(&mut case.state, 10, 60, Some(READINGS), &case.message),
+    number: 0,
+};
+/// Each time in the state as it was at first, which is copied back: the time has that copying in
+/// it.
+const RECEIVE_WITH_RISE: Call = Call {
+    name: "copy, and receive with a rise",
+    engine: |case| {
+        case.state.copy_from_slice(&case.first);
+        engine::monitor_receive(&mut case.state, 10, 60, &case.message)
+    },
+    second: |case| {
+        case.state.copy_from_slice(&case.first);
+        receiving::call(&mut case.state, 10, 60, None, &case.message)
+    },
     number: 0,
 };
 const WRITE: Call = Call {
@@ -174,20 +192,24 @@ const FULL_GOALS: Goals = Goals { form: Some(10.), receive: Some(46.), ask: [10.
 /// The lines of states that are filled in one way, with nothing saved of any sender's clock and with
 /// all saved.
 fn filled(effort: Effort, count: usize, filling: Filling, goals: Goals) {
-    let loads = [filling.loads(count, false), filling.loads(count, filling.entries > 0)];
+    let near = filling.loads(count, false);
+    let (far, mended) = (filling.loads(count, filling.entries > 0), near.iter().map(Load::mended));
+    let loads = [mended.collect(), near, far];
     let none = loads.each_ref().map(|loads| loads.iter().map(Case::new).collect());
     calls(effort, filling, filling.name, none, &goals);
     let all = loads.map(|loads| loads.iter().map(|load| Case::new(&load.with_clocks())).collect());
     calls(effort, filling, &format!("{}, 28 saved", filling.name), all, &goals);
 }
 
-/// The lines of the calls in such states; the second cases have a message from far off, if any has.
-fn calls(effort: Effort, filling: Filling, state: &str, cases: [Vec<Case>; 2], goals: &Goals) {
-    let [near, far] = cases;
+/// The lines of the calls in such states; the first cases have a message from a mended sender, the
+/// last ones one from far off, if any has.
+fn calls(effort: Effort, filling: Filling, state: &str, cases: [Vec<Case>; 3], goals: &Goals) {
+    let [mended, near, far] = cases;
     line(effort, &FORM, state, &near, goals.form);
     line(effort, &AGE, state, &near, goals.form);
     line(effort, &RECEIVE, state, &near, goals.receive);
     line(effort, &RECEIVE_WITH_READINGS, state, &near, goals.receive);
+    line(effort, &RECEIVE_WITH_RISE, state, &mended, None);
     if filling.entries > 0 {
         let state = format!("{state}, far off");
         line(effort, &RECEIVE, &state, &far, goals.receive);
@@ -208,6 +230,13 @@ fn messages(effort: Effort, count: usize) {
         let cases: Vec<Case> = filling.loads(count, false).iter().map(Case::new).collect();
         line(effort, &READ, filling.name, &cases, None);
         line(effort, &REWRITE, filling.name, &cases, None);
+    }
+    let fresh = State::fresh(0, 0, 0).bytes();
+    let names = ["one epoch word", "29 epoch words"];
+    for (name, message) in names.into_iter().zip(loads::with_fewest_and_most_epochs()) {
+        let case = [Case::of(&fresh, &message)];
+        line(effort, &READ, name, &case, None);
+        line(effort, &REWRITE, name, &case, None);
     }
 }
 

@@ -2,9 +2,8 @@
 //! one instant, and a few that are far off, so that entries are learnt.
 
 use crate::clocks::{Readings, Saved, Triple};
-use crate::instants::Interval;
-use crate::message::Message;
-use crate::predicates::{normal, Predicate, Term, GREATEST_NAME, NAMES};
+use crate::message::{self, Message, MOST_TERMS};
+use crate::predicates::{normal, Term, ALL_NAMES, GREATEST_NAME, NAMES};
 use crate::random::Random;
 use crate::receiving;
 use crate::state::{State, MOST_DATA, MOST_ENTRIES, STATE_BYTES};
@@ -32,6 +31,21 @@ impl Load {
         state.clocks[OWN as usize] = None;
         Load { state: state.bytes(), message: self.message.clone() }
     }
+
+    /// The same with the message that its sender would have sent once it was mended: to receive it
+    /// withdraws the old name.
+    pub fn mended(&self) -> Load {
+        let words = message::words_of(&self.message).expect("whole words");
+        let message = message::read(&words).expect("a sound message");
+        let sender = message.sender;
+        Load { state: self.state.clone(), message: message.at(&[(sender, 1)]).bytes() }
+    }
+}
+
+/// Messages with one epoch word, and with one for every identifier.
+pub fn with_fewest_and_most_epochs() -> [Vec<u8>; 2] {
+    let terms: Vec<Term> = (0..MOST_TERMS).rev().map(|n| ALL_NAMES & !(1 << n)).collect();
+    [&[][..], &terms].map(|terms| Message::of(1, INSTANT, INSTANT + 100, terms).bytes())
 }
 
 /// How full a state is to be.
@@ -91,11 +105,10 @@ impl Filling {
         let shift = if astray { 1_000_000 * u64::from(sender + 1) } else { 0 };
         let centre = INSTANT + shift + random.below(100);
         let (low, high) = (100 + random.below(1_000), 100 + random.below(1_000));
-        let interval = Interval { left: centre - low, right: centre + high };
         let terms = (0..random.below(self.terms + 1)).map(|_| self.term(random));
         let mut terms = normal(&terms.collect::<Vec<Term>>());
         terms.retain(|t| t >> OWN & 1 == 0);
-        (Message { sender, interval, terms: Predicate::of(&terms) }, astray)
+        (Message::of(sender, centre - low, centre + high, &terms), astray)
     }
 
     /// One to three names that a message came through, seldom one that is far off.

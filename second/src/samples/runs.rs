@@ -3,10 +3,12 @@
 use crate::ageing::advance;
 use crate::asking::GREATEST_LIMIT;
 use crate::calls::Call;
+use crate::claims::places;
 use crate::clocks::{Readings, Triple, GREATEST_CLOCK};
+use crate::epochs::{Epochs, GREATEST_EPOCH};
 use crate::instants::{Interval, GREATEST_END};
-use crate::message::{bytes_of, MOST_TERMS};
-use crate::predicates::{normal, Term, GREATEST_NAME, NAMES};
+use crate::message::{bytes_of, named, MOST_TERMS};
+use crate::predicates::{holds, normal, Predicate, Term, GREATEST_NAME, NAMES};
 use crate::random::Random;
 use crate::receiving::GREATEST_DELAY;
 use crate::state::{State, GREATEST_DRIFT, GREATEST_READING, MOST_ENTRIES};
@@ -26,6 +28,10 @@ pub struct World {
     drift: u32,
     /// At the start of the run.
     reading: u64,
+    /// The own one.
+    epoch: u8,
+    /// Once in so many names a message brings another epoch than the known one.
+    steady: u64,
     /// Senders and terms name those below it.
     names: u64,
     /// Intervals lie from here on at the start of the run, and move on with the reading.
@@ -45,11 +51,20 @@ impl World {
             own: random.below(names) as u32,
             drift: random.pick(&[0, 1, 100, drift, GREATEST_DRIFT]),
             reading: random.pick(&[0, 5, 1_000_000, GREATEST_READING - 3 * span]),
+            epoch: own_epoch(random),
+            steady: 40,
             names,
             base: random.pick(&[0, 0, 0, 1 << 29, GREATEST_END - 3 * span]),
             span,
             places: 0,
         }
+    }
+
+    /// The same, with names that are often mended and often old, and seldom few.
+    pub fn mending(random: &mut Random) -> World {
+        let world = World::small(random);
+        let names = random.pick(&[world.names, world.names, 7, 9]);
+        World { steady: random.pick(&[3, 6, 12]), names, ..world }
     }
 
     /// Many names and disjoint places, so that all rows fill.
@@ -58,6 +73,8 @@ impl World {
             own: random.below(NAMES.into()) as u32,
             drift: random.pick(&[0, 1, 100]),
             reading: random.below(1_000_000),
+            epoch: own_epoch(random),
+            steady: 200,
             names: random.pick(&[12, 20, NAMES]).into(),
             base: random.pick(&[0, 1 << 29, 1 << 40]),
             span: 1000,
@@ -72,6 +89,8 @@ impl World {
             own: state.own,
             drift: state.drift,
             reading: state.reading,
+            epoch: state.epochs[state.own as usize],
+            steady: 12,
             names: random.pick(&[3, 4, 5, 8, NAMES]).into(),
             base: random.pick(&[0, 0, left]),
             span: random.pick(&[12, 40]),
@@ -80,7 +99,8 @@ impl World {
     }
 
     pub fn set_up(&self) -> Call {
-        Call::SetUp { own: self.own, drift: self.drift, reading: self.reading }
+        let World { own, drift, reading, epoch, .. } = *self;
+        Call::SetUp { own, drift, reading, epoch: epoch.into() }
     }
 
     /// A call in a state: mostly receipts, and flawed arguments now and then.
@@ -104,6 +124,11 @@ impl World {
     }
 
     fn receive(&self, random: &mut Random, state: &State) -> Call {
+        if random.once_in(self.steady) {
+            if let Some(mended) = self.mended(random, state) {
+                return mended;
+            }
+        }
         if state.entries.len() == MOST_ENTRIES && random.once_in(4) {
             if let Some(jump) = self.jump(random, state) {
                 return jump;
@@ -122,7 +147,7 @@ impl World {
     /// A receipt from a sender whose clock has jumped and whom no entry names, if there is one: where
     /// all entries are in use there is no place for its name.
     fn jump(&self, random: &mut Random, state: &State) -> Option<Call> {
-        let named = state.entries.iter().flat_map(|entry| entry.iter()).fold(0, |all, t| all | t);
+        let named = names_in_use(state);
         let unnamed = |sender: u32| named >> sender & 1 == 0 && sender != state.own;
         let saved = (0..NAMES).filter(|&sender| unnamed(sender)).filter_map(|sender| {
             state.clocks[sender as usize].map(|saved| (sender, saved.previous))
@@ -135,8 +160,32 @@ impl World {
         let readings = Some(Readings::of(a, (b + 3 * w + 1_000).min(GREATEST_CLOCK), w, 0));
         let interval = self.interval(random, state, 0);
         let terms: &[Term] = random.pick(&[&[][..], &[0]]);
-        let words = super::sealed(sender, &in_any_form(random, interval), terms);
+        let words = super::sealed(sender, &state.epochs, &in_any_form(random, interval), terms);
         Some(Call::Receive { least: 0, greatest: 0, readings, message: bytes_of(&words) })
+    }
+
+    /// A receipt from a mended sender without whose old name two held data come under one
+    /// predicate, or an entry comes to imply a held one, if there is such a sender.
+    fn mended(&self, random: &mut Random, state: &State) -> Option<Call> {
+        // Only a term of several names becomes a smaller one.
+        let terms = state.held.iter().flat_map(|datum| datum.predicate.iter());
+        let several = terms.filter(|t| !t.is_power_of_two()).fold(0, |names, t| names | t);
+        let names = || places(several.into()).map(|n| n as u32);
+        let mut tell: Vec<u32> = names().filter(|&n| meet_without(state, n)).collect();
+        if tell.is_empty() {
+            tell = names().filter(|&n| implied_without(state, n)).collect();
+        }
+        if tell.is_empty() {
+            return None;
+        }
+        let (sender, mut epochs) = (random.pick(&tell), state.epochs);
+        let epoch = &mut epochs[sender as usize];
+        *epoch = (*epoch + 1).min(GREATEST_EPOCH);
+        let interval = self.interval(random, state, 0);
+        let terms: &[Term] = random.pick(&[&[][..], &[0], &[0]]);
+        let words = super::sealed(sender, &epochs, &in_any_form(random, interval), terms);
+        let (readings, message) = (None, bytes_of(&words));
+        Some(Call::Receive { least: 0, greatest: 0, readings, message })
     }
 
     /// Readings of the message's sender.
@@ -165,10 +214,11 @@ impl World {
     fn message(&self, random: &mut Random, state: &State, delay: u64) -> Vec<u8> {
         let (sender, terms) = self.predicate(random, state);
         let interval = self.interval(random, state, delay);
-        let mut words = super::sealed(sender, &in_any_form(random, interval), &terms);
-        if random.once_in(16) {
+        let epochs = self.epochs(random, state, named(sender, &terms));
+        let mut words = super::sealed(sender, &epochs, &in_any_form(random, interval), &terms);
+        if random.once_in(12) {
             super::damage(random, &mut words);
-            if !random.once_in(4) {
+            if !random.once_in(3) {
                 super::correct(&mut words);
             }
         }
@@ -179,19 +229,67 @@ impl World {
         bytes
     }
 
+    /// The known epochs, the own one among them, and now and then others for those that are named.
+    /// Where all entries are in use, a name that has none is mended more often: that makes no room.
+    fn epochs(&self, random: &mut Random, state: &State, named: Term) -> Epochs {
+        let (mut epochs, full) = (state.epochs, state.entries.len() == MOST_ENTRIES);
+        let in_use = if full { names_in_use(state) } else { !0 };
+        for identifier in places(named.into()) {
+            let steady = if in_use >> identifier & 1 == 0 { 8 } else { self.steady };
+            if random.once_in(steady) {
+                epochs[identifier] = other_epoch(random, epochs[identifier]);
+            }
+        }
+        epochs
+    }
+
     /// A sender, seldom the own name, and terms; now and then they repeat a held predicate.
     fn predicate(&self, random: &mut Random, state: &State) -> (u32, Vec<Term>) {
-        if !state.held.is_empty() && random.once_in(10) {
-            let terms = state.held[random.index(state.held.len())].predicate.to_vec();
-            if let Some(single) = terms.iter().find(|t| t.count_ones() == 1) {
-                return (single.trailing_zeros(), terms);
+        if !state.held.is_empty() && random.once_in(self.steady.clamp(6, 10)) {
+            let mut terms = state.held[random.index(state.held.len())].predicate.to_vec();
+            if let Some(sender) =
+                terms.iter().find(|t| t.is_power_of_two()).map(|t| t.trailing_zeros())
+            {
+                if random.once_in(self.steady.div_ceil(12)) {
+                    self.vary(random, &mut terms, 1 << sender | 1 << state.own);
+                }
+                return (sender, terms);
             }
         }
         let mut sender = random.below(self.names) as u32;
         if sender == state.own && !random.once_in(6) {
             sender = (sender + 1) % self.names as u32;
         }
+        if self.names >= 7 && random.once_in(24) {
+            return (sender, self.pairs(random, 1 << sender | 1 << state.own));
+        }
         (sender, self.terms(random))
+    }
+
+    /// Adds a name but these to a term that has none of them, or takes one from it: once the name
+    /// is mended the predicate is the same as before.
+    fn vary(&self, random: &mut Random, terms: &mut Vec<Term>, but: Term) {
+        let name = 1 << random.below(self.names) & !but;
+        if let Some(t) = terms.iter_mut().find(|t| **t & but == 0) {
+            *t = if t.is_power_of_two() { *t | name } else { *t & (*t - 1) };
+        }
+        *terms = normal(terms);
+    }
+
+    /// The most terms, each a pair of five names but these: with the sender's there are too many,
+    /// unless one of the names is old.
+    fn pairs(&self, random: &mut Random, but: Term) -> Vec<Term> {
+        let mut names: Vec<u64> = (0..self.names).filter(|n| but >> n & 1 == 0).collect();
+        while names.len() > 5 {
+            names.remove(random.index(names.len()));
+        }
+        let pairs =
+            names.iter().flat_map(|m| names.iter().filter(move |n| m < n).map(move |n| (m, n)));
+        let mut pairs: Vec<Term> = pairs.map(|(m, n)| 1 << m | 1 << n).collect();
+        while pairs.len() > MOST_TERMS as usize {
+            pairs.remove(random.index(pairs.len()));
+        }
+        normal(&pairs)
     }
 
     /// Mostly none or few terms, also the most and the empty one.
@@ -255,6 +353,55 @@ impl World {
     }
 }
 
+/// The names in a state's entries.
+fn names_in_use(state: &State) -> Term {
+    state.entries.iter().flat_map(|entry| entry.iter()).fold(0, |all, t| all | t)
+}
+
+/// Whether without a name two predicates of held data become one.
+fn meet_without(state: &State, name: u32) -> bool {
+    let left = without(state.held.iter().map(|datum| &datum.predicate), name);
+    let same = |i: usize, j: usize| left[i].0 != left[j].0 && left[i].1 == left[j].1;
+    let stays = |i: usize| !holds(0, &left[i].1);
+    (0..left.len()).any(|i| stays(i) && (0..i).any(|j| same(i, j)))
+}
+
+/// Whether without a name an entry comes to imply a held datum.
+fn implied_without(state: &State, name: u32) -> bool {
+    let held = without(state.held.iter().map(|datum| &datum.predicate), name);
+    let entries = without(state.entries.iter(), name);
+    let implied = |p: &Predicate, left: &Predicate| {
+        entries.iter().any(|(entry, after)| after.implies(left) && !entry.implies(p))
+    };
+    held.iter().any(|(p, left)| !holds(0, left) && implied(p, left))
+}
+
+/// Predicates, each with what is left of it without a name.
+fn without<'a>(
+    predicates: impl Iterator<Item = &'a Predicate>,
+    name: u32,
+) -> Vec<(Predicate, Predicate)> {
+    predicates.map(|p| (*p, p.after(1 << name))).collect()
+}
+
+/// Mostly the first one.
+fn own_epoch(random: &mut Random) -> u8 {
+    random.pick(&[0, 0, 1, 2, GREATEST_EPOCH])
+}
+
+/// An epoch about the known one, seldom any.
+fn other_epoch(random: &mut Random, known: u8) -> u8 {
+    let any = random.below(u64::from(GREATEST_EPOCH) + 1) as u8;
+    let (above, below) = ((known + 1).min(GREATEST_EPOCH), known.saturating_sub(1));
+    match random.below(24) {
+        0 => any,
+        1 => GREATEST_EPOCH,
+        2..=12 => above,
+        13 => 0,
+        _ => below,
+    }
+}
+
 /// Delays of a radio that has slept, which differ by a little or by far.
 fn slept(random: &mut Random, more: u64) -> (u64, u64) {
     let (first, last) = SLEPT.into_inner();
@@ -314,9 +461,11 @@ fn limit(random: &mut Random) -> u64 {
 /// Numbers at the edges of what is taken, and past them.
 fn flawed_set_up(random: &mut Random) -> Call {
     let (name, drift, low) = (GREATEST_NAME, GREATEST_DRIFT, random.bits() as u32);
+    let epoch = u64::from(GREATEST_EPOCH);
     Call::SetUp {
         own: random.pick(&[0, 2, name, name, name + 1, 256, low]),
         drift: random.pick(&[0, 1, drift, drift, drift + 1, 65_536, low]),
         reading: random.pick(&[0, 9, GREATEST_READING, GREATEST_READING + 1, u64::MAX]),
+        epoch: random.pick(&[0, 9, epoch, epoch, epoch + 1, 256, 1 << 32, u64::MAX]),
     }
 }

@@ -1,13 +1,14 @@
 //! Seeded states: in form, whether calls would reach them or not, and damaged ones.
 
+use crate::epochs::GREATEST_EPOCH;
 use crate::instants::{Interval, GREATEST_END};
 use crate::predicates::{normal, Predicate, Term, ALL_NAMES, GREATEST_NAME, NAMES};
 use crate::random::Random;
 use crate::state::{
-    clock_at, Datum, State, CLOCKS_AT, CLOCK_BYTES, DATA_AT, DATUM_BYTES, DATUM_TERMS, DRIFT_AT,
-    ENTRIES_AT, ENTRY_BYTES, ENTRY_COUNT_AT, ENTRY_TERMS, GREATEST_DRIFT, GREATEST_READING,
-    HELD_COUNT_AT, MOST_DATA, MOST_ENTRIES, OWN_AT, READING_AT, STATE_BYTES, TERM_COUNT_AT,
-    TRIPLES_AT,
+    clock_at, epoch_at, Datum, State, CLOCKS_AT, CLOCK_BYTES, DATA_AT, DATUM_BYTES, DATUM_TERMS,
+    DRIFT_AT, ENTRIES_AT, ENTRY_BYTES, ENTRY_COUNT_AT, ENTRY_TERMS, EPOCHS_AT, GREATEST_DRIFT,
+    GREATEST_READING, HELD_COUNT_AT, MOST_DATA, MOST_ENTRIES, OWN_AT, READING_AT, STATE_BYTES,
+    TERM_COUNT_AT, TRIPLES_AT,
 };
 
 /// Any state in form: data under one predicate, entries that imply each other or data, disjoint
@@ -29,6 +30,7 @@ pub fn in_form(random: &mut Random) -> State {
             .map(|_| predicate(random, own, names, ENTRY_TERMS))
             .collect(),
         clocks: super::clocks::clocks(random),
+        epochs: super::epochs(random),
     }
 }
 
@@ -145,6 +147,7 @@ pub fn to_ask(random: &mut Random) -> State {
         state.held.push(Datum { predicate, ..datum });
     }
     state.clocks = super::clocks::clocks(random);
+    state.epochs = super::epochs(random);
     state
 }
 
@@ -181,17 +184,18 @@ const NUMBERS: [usize; 7] = [
 /// One damage to the bytes of a state; it may leave them in form.
 pub fn damage(random: &mut Random, bytes: &mut [u8]) {
     let at = place(random, bytes);
-    let word = at / 4 * 4;
+    let word = word_at(at);
     let small = random.index(MOST_ENTRIES + 2) as u32;
-    match random.below(8) {
+    match random.below(9) {
         0 | 1 => bytes[at] ^= 1 << random.below(8),
         2 => bytes[at] = bytes[at].wrapping_add(random.pick(&[1, 255])),
         3 => put(bytes, word, random.pick(&[0, 1, small, 1 << 28, 1 << 29, u32::MAX])),
         4 => put(bytes, word, random.bits() as u32),
         5 => put(bytes, random.pick(&NUMBERS), small),
         6 => damage_clock(random, bytes),
+        7 => damage_epoch(random, bytes),
         _ => {
-            let from = place(random, bytes) / 4 * 4;
+            let from = word_at(place(random, bytes));
             bytes.copy_within(from..from + 4, word);
         }
     }
@@ -209,13 +213,27 @@ pub fn damage_clock(random: &mut Random, bytes: &mut [u8]) {
     }
 }
 
-/// A place in the head, in the data or entries that are held, in the names' places, or anywhere.
+/// Another epoch, about the greatest or far above it.
+pub fn damage_epoch(random: &mut Random, bytes: &mut [u8]) {
+    let at = epoch_at(random.below(NAMES.into()) as u32);
+    let (most, any) = (GREATEST_EPOCH, random.bits() as u8);
+    bytes[at] = random.pick(&[most, most, most + 1, most + 1, 32, 64, 128, 255, any, any & most]);
+}
+
+/// The four bytes of a state that a place is in; the last ones are counted from its end.
+fn word_at(place: usize) -> usize {
+    (place / 4 * 4).min(STATE_BYTES - 4)
+}
+
+/// A place in the head, in the data or entries that are held, in the names' places, among the
+/// epochs, or anywhere.
 fn place(random: &mut Random, bytes: &[u8]) -> usize {
     let data = DATUM_BYTES * usize::from(bytes[HELD_COUNT_AT]).clamp(1, MOST_DATA);
     let entries = ENTRY_BYTES * usize::from(bytes[ENTRY_COUNT_AT]).clamp(1, MOST_ENTRIES);
-    let (clocks, whole) = ((CLOCKS_AT, STATE_BYTES - CLOCKS_AT), (0, STATE_BYTES));
-    let rows = [(DATA_AT, data), (ENTRIES_AT, entries), clocks];
-    let (from, len) = random.pick(&[(0, DATA_AT), rows[0], rows[1], rows[2], whole]);
+    let (clocks, whole) = ((CLOCKS_AT, EPOCHS_AT - CLOCKS_AT), (0, STATE_BYTES));
+    let (rows, epochs) =
+        ([(DATA_AT, data), (ENTRIES_AT, entries), clocks], (EPOCHS_AT, NAMES as usize));
+    let (from, len) = random.pick(&[(0, DATA_AT), rows[0], rows[1], rows[2], epochs, whole]);
     from + random.index(len)
 }
 

@@ -2,21 +2,21 @@
 //! length that is allowed.
 
 use super::runs::World;
+use crate::branches::Branches;
 use crate::calls::Call;
 use crate::listing::LONGEST_LINE;
 use crate::message::MESSAGE_BYTES;
 use crate::random::Random;
-use crate::receiving::Branches;
 use crate::state::{State, GREATEST_READING, STATE_BYTES};
 
-/// Document 01's listing.
+/// Document 01's listing with epochs (document 02, W-204).
 pub const DOCUMENT_01: &str = "\
-set 5 100 0
-get 0 50 536870913 1073741824 1074741824 1610612736 1611612936 3760096585
+set 5 100 0 0
+get 0 50 536870913 1 1073741824 1074741824 1610612736 1611612936 3760096586
 ask 0
 age 2000000
 ask 0
-get 0 0 536870914 1073741824 1076742824 1610612736 1613613736 3764098386
+get 0 0 536870914 2 1073741824 1076742824 1610612736 1613613736 3764098388
 ask 0
 ask 1
 ask 2
@@ -87,7 +87,9 @@ fn take(call: &Call, state: &mut [u8]) {
 /// A call as a line. One that the listing does not have is another question.
 fn line(call: &Call) -> Vec<u8> {
     let line = match call {
-        Call::SetUp { own, drift, reading } => format!("set {own} {drift} {reading}"),
+        Call::SetUp { own, drift, reading, epoch } => {
+            format!("set {own} {drift} {reading} {epoch}")
+        }
         Call::Age { reading } => format!("age {reading}"),
         Call::Receive { least, greatest, message, .. } => {
             let words = message.as_chunks().0.iter().map(|&word| u32::from_le_bytes(word));
@@ -164,8 +166,10 @@ fn other_field(random: &mut Random, line: &[u8]) -> Vec<u8> {
 /// A line of about the length that is allowed, or far longer; it has a meaning now and then.
 fn of_length(random: &mut Random, line: Vec<u8>) -> Vec<u8> {
     let about = LONGEST_LINE - 1 + random.index(3);
+    // Lines of single digits have 255 numbers in 513 bytes.
+    let many = 507 + 2 * random.index(6);
     let len =
-        random.pick(&[about, about, about, about, 255, 256, 257, 4_095, 4_096, 4_097, 70_000]);
+        random.pick(&[about, about, about, many, many, 200, 201, 4_095, 4_096, 4_097, 70_000]);
     match random.below(4) {
         0 => vec![b'0'; len],
         1 => line.iter().copied().cycle().take(len).collect(),
