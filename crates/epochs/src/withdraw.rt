@@ -50,8 +50,8 @@ fn clear(terms: &mut [u32], n: usize)
 }
 
 // Counts the names of r as failed in the first n terms, which are in normal form, and makes what is left their normal form, with zeros in the
-// places given up. Answers how many terms there are. A predicate that names none of them stays as it is; one of which a term is left empty is true, and that
-// term alone is its normal form.
+// places given up. Answers how many terms there are. A predicate that names none of them stays as it is; one of which a term is left empty is
+// true, and that term alone is its normal form.
 pub fn withdraw(terms: &mut [u32], n: usize, r: u32) -> usize
     requires { ⌜ (n ≤ length (now terms)) × T (isNormal (take n (now terms))) ⌝ }
     ensures { λ k. ⌜ (k ≡ length (Epochs·withdraw r (take n (now (terms .entry))))) × (k ≤ n) ⌝ }

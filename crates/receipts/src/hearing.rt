@@ -53,7 +53,8 @@ pub(crate) fn close(
     readings: Readings,
 )
     requires { ⌜ (stateSize ≤ length (now state)) × T (inForm (now state)) × Named (now names) ⌝ }
-    requires { ⌜ (sender ≤ nameMost) × T (not (readingsFail readings)) × (risen ≡ older (headOf (now state) .epochs) (spoken own (now names) (headOf (now state) .epochs))) ⌝ }
+    requires { ⌜ (sender ≤ nameMost) × T (not (readingsFail readings))
+        × (risen ≡ older (headOf (now state) .epochs) (spoken own (now names) (headOf (now state) .epochs))) ⌝ }
     ensures { λ _. ⌜ (let h : Head = heardHead own (now (names .entry)) risen (headOf (now (state .entry))) in
         now (state .exit)
         ≡ put 0

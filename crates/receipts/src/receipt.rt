@@ -55,8 +55,8 @@ fn grow(state: &[u8], least: u64, greatest: u64, left: u64, right: u64) -> Ends
     }
 }
 
-// Forms in the row, of the term words, what the receiver `own` makes of a sender's predicate where the names of `late` count as failed. Answers how many
-// terms it has.
+// Forms in the row, of the term words, what the receiver `own` makes of a sender's predicate where the names of `late` count as failed. Answers
+// how many terms it has.
 fn form_row(words: &[u32], own: u32, sender: u32, late: u32, row: &mut [u32]) -> usize
     requires { ⌜ (length (now words) < length (now row)) × (own < 32) × (sender < 32) ⌝ }
     ensures { λ r. ⌜ (r ≡ length (withdraw late (formed own sender (masks (now (words .entry)))))) × (r ≤ length (now (words .entry)) + 1) ⌝ }

@@ -97,8 +97,8 @@ fn get_row(s: &[u8], i: usize, risen: u32, counts: &mut [u32], masks: &mut [u32]
     r + 1
 }
 
-// Reads the n entries of a state in form into the front of the table, oldest first, where the names of `risen` count as failed; those that have become
-// true are left out. Answers how many rows there are. What stands behind them is free.
+// Reads the n entries of a state in form into the front of the table, oldest first, where the names of `risen` count as failed; those that have
+// become true are left out. Answers how many rows there are. What stands behind them is free.
 fn get_entries(s: &[u8], n: usize, risen: u32, counts: &mut [u32], masks: &mut [u32]) -> usize
     requires { ⌜ (stateSize ≤ length (now s)) × T (inForm (now s)) × (n ≡ entryCount (now s)) ⌝ }
     requires { ⌜ TableFits entryTerms n (table (now counts) (now masks)) ⌝ }
