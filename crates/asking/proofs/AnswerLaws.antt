@@ -20,7 +20,7 @@ use Rattle.state.specs.Model.{Datum, Store, State}
 use Rattle.asking.specs.declared.Answer.{Answer}
 use Rattle.asking.specs.declared.Answer.the-variants.{Contradicted, Open, Between}
 use Rattle.asking.specs.Instants.{Within, InAll, Fine, Allowed, Counts, Gives}
-use Rattle.asking.specs.Asking.{interval, cut, common, active, leaves, setsOf, sets, either, leftBy, answer}
+use Rattle.asking.specs.Asking.{interval, cut, common, active, leaves, setsOf, sets, either, leftBy, exact, rounded, answer}
 use Rattle.asking.proofs.InstantLaws.{within-none, within-wider, within-meet, inall-between}
 
 -- ---- instants give one answer
@@ -209,8 +209,8 @@ allowed-out limit own s m = let r = setsOf-out own 29 limit s m in record { name
 
 -- ---- the answer
 
-pub answer-given : (limit : ℕ) (st : State) → Gives (Counts limit st) (answer limit st)
-unfolding answer
+pub answer-given : (limit : ℕ) (st : State) → Gives (Counts limit st) (exact limit st)
+unfolding exact
 answer-given limit st =
     gives-same (λ x. (s : ℕ) × In s (sets (st .head .own) limit) × Fine s (st .store) x) (Counts limit st)
     (leftBy (sets (st .head .own) limit) (st .store))
@@ -218,5 +218,9 @@ answer-given limit st =
     (λ x h. (h .0, allowed-in limit (st .head .own) (h .0) (h .1), h .2))
     (leftBy-given (sets (st .head .own) limit) (st .store))
 
-pub answer-is : (limit : ℕ) (st : State) (a : Answer) → Gives (Counts limit st) a → a ≡ answer limit st
-answer-is limit st a h = gives-one (Counts limit st) a (answer limit st) h (answer-given limit st)
+pub answer-is : (limit : ℕ) (st : State) (a : Answer) → Gives (Counts limit st) a → a ≡ exact limit st
+answer-is limit st a h = gives-one (Counts limit st) a (exact limit st) h (answer-given limit st)
+
+pub answer-rounded : (limit : ℕ) (st : State) (a : Answer) → a ≡ exact limit st → rounded a ≡ answer limit st
+unfolding answer
+answer-rounded limit st a e = ap rounded e

@@ -1,6 +1,6 @@
 -- From what the loops and the search find to the answer. The idea: an end that the arrays' search explains is one that the store's sets explain, and
 -- the other way round (`proofs.ArrayLaws`); what the ends then say is `proofs.EndLaws`. No contract cites this file. Assumes nothing.
-use Prim.Native.Nat.{ℕ, suc, _+_, _-_, _≤_, _<_, min, max}
+use Prim.Native.Nat.{ℕ, suc, _+_, _-_, _^_, _≤_, _<_, min, max}
 use mathlib.Core.Path.{_≡_, refl, sym, ap, _∙_}
 use mathlib.Core.Logic.{_⊎_, inl, inr, ⊎-elim}
 use mathlib.Core.Bool.{not}
@@ -19,20 +19,27 @@ use Rattle.names.specs.code.Parts.{others}
 use Rattle.names.proofs.SetLaws.{subset-refl}
 use Rattle.names.proofs.PartLaws.{others-lt}
 use Rattle.predicates.specs.Lists.{In}
-use Rattle.state.specs.Model.{Datum, Store, State, endLimit}
-use Rattle.state.specs.Layout.{datumPlace, heldCount, entryCount, datumAt, headOf, storeOf, stateOf, ownAt, rightIn}
+use Rattle.state.specs.Model.{Datum, Store, State, endLimit, lastWhole}
+use Rattle.state.specs.Layout.{heldCount, entryCount, datumAt, headOf, storeOf, stateOf, ownAt}
 use Rattle.state.specs.Form.{inForm}
 use Rattle.state.proofs.StateLaws.{length-held, length-entries, form-ok}
 use Rattle.state.proofs.StoreLaws.{column-front, length-column}
 use Rattle.asking.specs.declared.Answer.the-variants.{Contradicted, Open, Between}
-use Rattle.asking.specs.Asking.{interval, greatestLeft, leastRight, answer}
+use Rattle.asking.specs.Asking.{interval, greatestLeft, leastRight, exact, answer}
 use Rattle.asking.specs.code.Claims.{inside, neededAt, everything, Explained}
 use Rattle.search.specs.code.Search.{Rows, Fits, Best, preds}
 use Rattle.claims.specs.code.Tables.{entryClaim, claimAt, Loaded, Bounded, claimLeft, claimRight}
 use Rattle.search.specs.code.LeftEnds.{outside, Ready, needs, FirstEnd, Complete}
-use Rattle.claims.proofs.TableLaws.{bounded-in}
-use Rattle.claims.proofs.ReadyLaws.{ready-in, rows-most, ends-below}
+use Rattle.claims.specs.declared.keys.Scale.{Scale}
+use Rattle.claims.specs.code.Keys.{scaleOf, stepOf, downBy, upBy, keyOf, lastKey, keyed, keyedState}
+use Rattle.claims.proofs.KeyLaws.{mapped-loaded, bounded-in, keys-low}
+use Rattle.claims.proofs.ReadyLaws.{ready-in, rows-most}
+use Rattle.ends.specs.Ends.{countOf, Split, up}
+use Rattle.ends.specs.declared.End.{End}
+use Rattle.ends.proofs.EndLaws.{count-whole}
 use Rattle.asking.proofs.PlainLaws.{plain-contradicted, plain-open, plain-interval, form-bare, form-right}
+use Rattle.asking.proofs.AnswerLaws.{answer-rounded}
+use Rattle.asking.proofs.MappedLaws.{answer-keyed, keyed-low, keyed-everything}
 use Rattle.asking.proofs.EndLaws.{answer-open, answer-none, answer-between, right-too}
 use Rattle.predicates.proofs.IndexLaws.{in-at}
 use Rattle.claims.proofs.TableLaws.{claim-datum}
@@ -51,12 +58,12 @@ module _ (s : List ℕ) (i : ℕ) (h : i < heldCount s) where
       (drop-cons (tab (heldCount s) (datumAt s)) i (datumAt s i) (rw length-tab h)
       ∙ ap (λ (d : Datum). d ∷ drop (suc i) (tab (heldCount s) (datumAt s))) (getD-tab (heldCount s) i (datumAt s) (datumAt s i) h))
 
-  pub greatest-left-turn : (m l r : ℕ) → l ≡ num (datumPlace i) 8 s → r ≡ max m l → greatestLeft r (drop (i + 1) held) ≡ greatestLeft m (drop i held)
-  unfolding greatestLeft datumAt
+  pub greatest-left-turn : (m l r : ℕ) → l ≡ datumAt s i .left → r ≡ max m l → greatestLeft r (drop (i + 1) held) ≡ greatestLeft m (drop i held)
+  unfolding greatestLeft
   greatest-left-turn m l r e f = sym (ap (greatestLeft m) held-next ∙ ap (λ (x : ℕ). greatestLeft x (drop (i + 1) held)) (sym (f ∙ ap (max m) e)))
 
-  pub least-right-turn : (m l r : ℕ) → l ≡ num (datumPlace i + rightIn) 8 s → r ≡ min m l → leastRight r (drop (i + 1) held) ≡ leastRight m (drop i held)
-  unfolding leastRight datumAt
+  pub least-right-turn : (m l r : ℕ) → l ≡ datumAt s i .right → r ≡ min m l → leastRight r (drop (i + 1) held) ≡ leastRight m (drop i held)
+  unfolding leastRight
   least-right-turn m l r e f = sym (ap (leastRight m) held-next ∙ ap (λ (x : ℕ). leastRight x (drop (i + 1) held)) (sym (f ∙ ap (min m) e)))
 
 module _ (s : List ℕ) (i m : ℕ) (h : heldCount s ≤ i) where
@@ -83,7 +90,7 @@ module _ (limit : ℕ) (st : State) (n rows : ℕ) (table : Rows) (order : List 
   free = others (st .head .own)
 
   module _ (r : ℕ) (b : Best noSet limit 0 free (preds rows order table) noSet r) where
-    pub open-found : r < noSet → Open ≡ answer limit st
+    pub open-found : r < noSet → Open ≡ exact limit st
     open-found h = sym (answer-open limit st (go (b .from)))
       where
         go : (r ≡ noSet) ⊎ Fits limit 0 free (preds rows order table) r → Explained limit st (everything k)
@@ -123,7 +130,7 @@ module _ (limit : ℕ) (st : State) (n rows : ℕ) (table : Rows) (order : List 
     left-is d i l e = bounded .left-is i l ∙ ap (λ (c : Datum). c .left) e
 
     module _ (end set : ℕ) (first : FirstEnd n rows lefts rights table order limit free end set) where
-      pub ends-contradicted : noSet ≤ set → Contradicted ≡ answer limit st
+      pub ends-contradicted : noSet ≤ set → Contradicted ≡ exact limit st
       ends-contradicted h =
           sym (answer-none limit st every (λ d m w.
           let r = row-of d m in
@@ -166,7 +173,7 @@ module _ (limit : ℕ) (st : State) (n rows : ℕ) (table : Rows) (order : List 
         pub ends-room : end′ ≤ last
         ends-room = let p = place in omega (arith, p .2)
 
-        pub ends-between : Between end (last - end′) ≡ answer limit st
+        pub ends-between : Between end (last - end′) ≡ exact limit st
         ends-between =
             let p = place in
             let y : ℕ = getD rights (p .0) 0 in
@@ -191,37 +198,41 @@ module _ (s : List ℕ) (t : T (inForm s)) where
 
   pub plain-known : (n : ℕ) → n ≡ entryCount s → 0 < n → Contradicted ≡ answer 0 st
   unfolding stateOf
-  plain-known n e h = sym (plain-contradicted st (form-bare st (form-ok s t)) (rw length-entries (omega arith)))
+  plain-known n e h = answer-rounded 0 st Contradicted (sym (plain-contradicted st (form-bare st (form-ok s t)) (rw length-entries (omega arith))))
 
   module _ (n : ℕ) (a : n ≡ entryCount s) (z : n ≤ 0) where
     pub plain-free : (h : ℕ) → h ≡ heldCount s → h ≡ 0 → Open ≡ answer 0 st
     unfolding stateOf
-    plain-free h b e = sym (plain-open st (form-bare st (form-ok s t)) (rw length-entries (omega arith)) (rw length-held (omega arith)))
+    plain-free h b e =
+        answer-rounded 0 st Open
+        (sym (plain-open st (form-bare st (form-ok s t)) (rw length-entries (omega arith)) (rw length-held (omega arith))))
 
-    module _ (h : ℕ) (b : h ≡ heldCount s) (some : h ≡ 0 → ⊥) (l r : ℕ) (c : l ≡ greatestLeft 0 (storeOf s .held)) (d : r ≡ leastRight endLimit (storeOf s .held)) where
-      ends : answer 0 st ≡ interval l r
+    module _ (h : ℕ) (b : h ≡ heldCount s) (some : h ≡ 0 → ⊥) (l r : End) (c : countOf l ≡ greatestLeft 0 (storeOf s .held))
+        (d : countOf r ≡ leastRight endLimit (storeOf s .held)) where
+      ends : exact 0 st ≡ interval (countOf l) (countOf r)
       unfolding stateOf
       ends =
           rw (c, d) (plain-interval st (form-bare st (form-ok s t)) (rw length-entries (omega arith)) (rw length-held (rw b at (above-zero some))) (form-right st (form-ok s t)))
 
-      pub plain-apart : r < l → Contradicted ≡ answer 0 st
-      plain-apart k = sym (ends ∙ rw (lt-leb l r k))
+      pub plain-apart : countOf r < countOf l → Contradicted ≡ answer 0 st
+      plain-apart k = answer-rounded 0 st Contradicted (sym (ends ∙ rw (lt-leb (countOf l) (countOf r) k)))
 
-      pub plain-between : l ≤ r → Between l r ≡ answer 0 st
-      plain-between k = sym (ends ∙ rw (le-leb l r k))
+      pub plain-between : Split l → countOf l ≤ countOf r → (x : ℕ) → x ≡ up (countOf r) → Between (l .whole) x ≡ answer 0 st
+      plain-between p k x e =
+          rw (e, sym (count-whole (l .whole) (l .millionths) p))
+          (answer-rounded 0 st (Between (countOf l) (countOf r)) (sym (ends ∙ rw (le-leb (countOf l) (countOf r) k))))
 
 -- ---- the ends of a state in form, in the arrays that the code fills
 
--- "Stored ends lie from 0 to 2^58 − 1"
 abbrev last : ℕ
-last = 288230376151711743
+last = lastKey
 
 module _ (s : List ℕ) (t : T (inForm s)) (n rows : ℕ) (table : Rows) (order : List ℕ) (loaded : Loaded (storeOf s) n rows table)
     (complete : Complete rows order) where
   entries-count : n ≡ entryCount s
   entries-count = loaded .entries-are ∙ length-entries s
 
-  rows-count : rows ≡ n + heldCount s
+  pub rows-count : rows ≡ n + heldCount s
   rows-count = loaded .rows-are ∙ ap (λ (h : ℕ). n + h) (length-held s)
 
   pub rows-fit : rows ≤ 48
@@ -232,23 +243,31 @@ module _ (s : List ℕ) (t : T (inForm s)) (n rows : ℕ) (table : Rows) (order 
   module _ (limit free r : ℕ) (g : free ≡ others (num ownAt 4 s)) (b : Best noSet limit 0 free (preds rows order table) noSet r) where
     pub asked-open : r < noSet → Open ≡ answer limit (stateOf s)
     unfolding stateOf headOf
-    asked-open h = open-found limit (stateOf s) n rows table order loaded complete r (rw g at b) h
+    asked-open h = answer-rounded limit (stateOf s) Open (open-found limit (stateOf s) n rows table order loaded complete r (rw g at b) h)
 
     pub asked-tied : noSet ≤ r → Explained limit (stateOf s) (everything (storeOf s)) → ⊥
     unfolding stateOf headOf
     asked-tied h = open-none limit (stateOf s) n rows table order loaded complete r (rw g at b) h
 
-  module _ (l₀ r₀ l r : List ℕ) (p : rows ≤ length l₀) (q : rows ≤ length r₀) (e : l ≡ tab rows (λ i. claimLeft s n i) ++ drop rows l₀)
-      (f : r ≡ tab rows (λ i. claimRight s n i) ++ drop rows r₀) where
-    pub ends-bounded : Bounded (storeOf s) rows l r
-    ends-bounded = bounded-in s t n (heldCount s) rows entries-count refl rows-count l₀ r₀ l r p q e f
+  -- keys for ends
+  keyed-loaded : Loaded (keyed s) n rows table
+  unfolding keyed
+  keyed-loaded = mapped-loaded (keyOf s) (storeOf s) loaded
+
+  keyed-tied : (limit : ℕ) → (Explained limit (stateOf s) (everything (storeOf s)) → ⊥) → Explained limit (keyedState s) (everything (keyed s)) → ⊥
+  unfolding stateOf keyedState
+  keyed-tied limit every = rw (keyed-everything s t) every
+
+  module _ (l₀ r₀ l r : List ℕ) (p : rows ≤ length l₀) (q : rows ≤ length r₀) (e : l ≡ tab rows (claimLeft (keyOf s) s n) ++ drop rows l₀)
+      (f : r ≡ tab rows (claimRight (keyOf s) s n) ++ drop rows r₀) where
+    pub ends-bounded : Bounded (keyed s) rows l r
+    ends-bounded = bounded-in s t n rows entries-count rows-count l₀ r₀ l r p q e f
 
     pub ends-low : (i : ℕ) → i < rows → (getD l i 0 ≤ last) × (getD r i 0 ≤ last)
-    unfolding stateOf
-    ends-low = ends-below (stateOf s) (form-ok s t) loaded ends-bounded
+    ends-low = keys-low s t n rows entries-count rows-count l₀ r₀ l r p q e f
 
     pub ends-ready : Ready n rows l r table order
-    ends-ready = ready-in loaded rows-fit l r order ends-bounded complete (λ i h. omega (arith, ends-low i h .0))
+    ends-ready = ready-in keyed-loaded rows-fit l r order ends-bounded complete (λ i h. omega (arith, ends-low i h .0))
 
     -- as seen from the last end
     module _ (low₀ high₀ low high : List ℕ) (a : rows ≤ length low₀) (b : rows ≤ length high₀)
@@ -280,22 +299,30 @@ module _ (s : List ℕ) (t : T (inForm s)) (n rows : ℕ) (table : Rows) (order 
           (end set end′ set′ : ℕ) (first : FirstEnd n rows l r table order limit free end set) (some : set < noSet)
           (first′ : FirstEnd n rows low high table order limit free end′ set′) where
         pub between-room : end′ ≤ last
-        unfolding stateOf headOf
+        unfolding keyedState headOf
         between-room =
-            ends-room limit (stateOf s) n rows table order loaded complete every l r ends-bounded end set (rw g at first) some last low high low-is
-            high-is ends-low end′ set′ (rw g at first′)
+            ends-room limit (keyedState s) n rows table order keyed-loaded complete (keyed-tied limit every) l r ends-bounded end set (rw g at first) some
+            last low high low-is high-is ends-low end′ set′ (rw g at first′)
 
-        pub between-is : Between end (last - end′) ≡ answer limit (stateOf s)
-        unfolding stateOf headOf
-        between-is =
-            ends-between limit (stateOf s) n rows table order loaded complete every l r ends-bounded end set (rw g at first) some last low high low-is
-            high-is ends-low end′ set′ (rw g at first′)
+        exact-between : Between end (last - end′) ≡ exact limit (keyedState s)
+        unfolding keyedState headOf
+        exact-between =
+            ends-between limit (keyedState s) n rows table order keyed-loaded complete (keyed-tied limit every) l r ends-bounded end set (rw g at first) some
+            last low high low-is high-is ends-low end′ set′ (rw g at first′)
+
+        module _ (scale : Scale) (k : scale ≡ scaleOf s) where
+          pub between-low : (scale .base ≤ lastWhole) × (last - end′ + stepOf scale ≤ 2 ^ 64)
+          between-low = keyed-low s t limit scale k end (last - end′) exact-between
+
+          pub between-is : Between (downBy scale end) (upBy scale (last - end′)) ≡ answer limit (stateOf s)
+          between-is = answer-keyed s t limit scale k (Between end (last - end′)) exact-between
 
     pub between-none : (limit free : ℕ) → free ≡ others (num ownAt 4 s) → (Explained limit (stateOf s) (everything (storeOf s)) → ⊥) → (end set : ℕ)
         → FirstEnd n rows l r table order limit free end set → noSet ≤ set → Contradicted ≡ answer limit (stateOf s)
-    unfolding stateOf headOf
+    unfolding keyedState headOf
     between-none limit free g every end set first h =
-        ends-contradicted limit (stateOf s) n rows table order loaded complete every l r ends-bounded end set (rw g at first) h
+        answer-keyed s t limit (scaleOf s) refl Contradicted
+        (ends-contradicted limit (keyedState s) n rows table order keyed-loaded complete (keyed-tied limit every) l r ends-bounded end set (rw g at first) h)
 
 -- no other name is beyond 28
 pub free-lt : (own free : ℕ) → free ≡ others own → free < noSet

@@ -16,7 +16,7 @@ use Rattle.state.specs.Model.{Datum, Store, State}
 use Rattle.asking.specs.declared.Answer.{Answer}
 use Rattle.asking.specs.declared.Answer.the-variants.{Contradicted, Open, Between}
 use Rattle.asking.specs.Instants.{Within, InAll, Fine, Counts, Gives}
-use Rattle.asking.specs.Asking.{cut, common, active, answer}
+use Rattle.asking.specs.Asking.{cut, common, active, exact}
 use Rattle.asking.specs.code.Claims.{neededAt, everything, Explained}
 use Rattle.asking.proofs.InstantLaws.{within-wider}
 use Rattle.asking.proofs.ClaimLaws.{everything-in, everything-out, needed-in, counts-in}
@@ -94,7 +94,7 @@ fine-ends s k x h = go (common (active s (k .held))) (common-given s (k .held)) 
 -- ---- the answer from the ends that count
 
 module _ (limit : ℕ) (st : State) where
-  pub answer-open : Explained limit st (everything (st .store)) → answer limit st ≡ Open
+  pub answer-open : Explained limit st (everything (st .store)) → exact limit st ≡ Open
   answer-open h = sym (answer-is limit st Open (λ x. (h .0, h .1, everything-out (h .0) (st .store) (h .2) x)))
 
   module _ (tied : Explained limit st (everything (st .store)) → ⊥) where
@@ -103,7 +103,7 @@ module _ (limit : ℕ) (st : State) where
     counts-reached x c = ⊎-elim (λ t. absurd (tied (c .0, c .1, t))) (λ r. r) (fine-ends (c .0) (st .store) x (c .2))
 
     pub answer-none : ((d : Datum) → In d (st .store .held) → Explained limit st (neededAt (d .left) (st .store)) → ⊥)
-        → answer limit st ≡ Contradicted
+        → exact limit st ≡ Contradicted
     answer-none f =
         sym (answer-is limit st Contradicted (λ x c.
         let e = counts-reached x c in f (e .first) (e .first-held) (c .0, c .1, e .first-true)))
@@ -112,7 +112,7 @@ module _ (limit : ℕ) (st : State) where
         → ((d : Datum) → In d (st .store .held) → d .left < l → Explained limit st (neededAt (d .left) (st .store)) → ⊥)
         → Explained limit st (neededAt r (st .store))
         → ((d : Datum) → In d (st .store .held) → r < d .right → Explained limit st (neededAt (d .right) (st .store)) → ⊥)
-        → answer limit st ≡ Between l r
+        → exact limit st ≡ Between l r
     answer-between l r a f b g =
         sym (answer-is limit st (Between l r) (counts-in limit st l a, counts-in limit st r b, λ x c. wide x c (counts-reached x c)))
       where

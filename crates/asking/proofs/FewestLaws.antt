@@ -1,6 +1,6 @@
 -- The computed fewest failures are the fewest, and there are no others: the order of sets is total, so the best of the listed sets that work stands
 -- before each of them. And what a search by rising counts has to find, set by set. Assumes nothing.
-use mathlib.Core.Path.{_≡_, refl, sym, ap₂, subst}
+use mathlib.Core.Path.{_≡_, refl, sym, ap₂, subst, _∙_}
 use mathlib.Core.Logic.{_⊎_, inl, inr, ⊎-elim}
 use mathlib.Core.Bool.{Bool, true, false, _&&_, not, cond}
 use mathlib.Core.List.{List, [], _∷_}
@@ -21,7 +21,7 @@ use Rattle.asking.specs.declared.Answer.the-variants.{Contradicted, Open
 use Rattle.asking.specs.declared.Fewest.{Fewest}
 use Rattle.asking.specs.declared.Fewest.the-variants.{Over, Few}
 use Rattle.asking.specs.Instants.{Fine, Allowed, Counts, Gives}
-use Rattle.asking.specs.Asking.{leaves, sets, answer}
+use Rattle.asking.specs.Asking.{leaves, sets, exact, rounded, answer}
 use Rattle.asking.specs.code.Claims.{neededAt, everything}
 use Rattle.asking.specs.Fewest.{notContradicted, works, smaller, best, choose, fewest, Works, Smaller, FewestOf}
 use Rattle.asking.proofs.AnswerLaws.{leaves-given, allowed-in, allowed-out, answer-given}
@@ -117,15 +117,32 @@ not-contradicted-out P Contradicted g h = absurd h
 not-contradicted-out P Open g h = (pos 0, g (pos 0))
 not-contradicted-out P (Between l r) g h = (pos l, g .0)
 
+pub works-in : (st : State) (u : ℕ) → Allowed 4 (st .head .own) u → T (works (st .store) u) → Works st u
+unfolding works
+works-in st u a h = (a, not-contradicted-out (λ x. Fine u (st .store) x) (leaves u (st .store)) (leaves-given u (st .store)) h)
+
+pub works-out : (st : State) (u : ℕ) → Works st u → T (works (st .store) u)
+unfolding works
+works-out st u w = not-contradicted-in (λ x. Fine u (st .store) x) (leaves u (st .store)) (leaves-given u (st .store)) (w .1)
+
 pub fewest-is : (st : State) → FewestOf (Works st) (fewest st)
-unfolding fewest works
+unfolding fewest
 fewest-is st =
     let k = st .store in
     let own = st .head .own in
     choose-fewest (Works st) (keep (works k) (sets own 4))
-    (λ s m. let r = keep-out (works k) (sets own 4) s m in
-    (allowed-out 4 own s (r .0), not-contradicted-out (λ x. Fine s k x) (leaves s k) (leaves-given s k) (r .1)))
-    (λ s w. keep-in (works k) (sets own 4) s (allowed-in 4 own s (w .0)) (not-contradicted-in (λ x. Fine s k x) (leaves s k) (leaves-given s k) (w .1)))
+    (λ s m. let r = keep-out (works k) (sets own 4) s m in works-in st s (allowed-out 4 own s (r .0)) (r .1))
+    (λ s w. keep-in (works k) (sets own 4) s (allowed-in 4 own s (w .0)) (works-out st s w))
+
+-- rounding keeps that an instant counts
+rounded-same : (st : State) → notContradicted (answer 0 st) ≡ notContradicted (exact 0 st)
+unfolding answer
+rounded-same st = go (exact 0 st)
+  where
+    go : (a : Answer) → notContradicted (rounded a) ≡ notContradicted a
+    go Contradicted = refl
+    go Open = refl
+    go (Between l r) = refl
 
 -- ---- what a search finds
 
@@ -159,7 +176,7 @@ module _ (st : State) where
   -- an instant counts for no failed name
   pub fewest-none : notContradicted (answer 0 st) ≡ true → Few 0 0 ≡ fewest st
   fewest-none e =
-      let w = counted (answer 0 st) (answer-given 0 st) e in
+      let w = counted (exact 0 st) (answer-given 0 st) (sym (rounded-same st) ∙ e) in
       let c = w .1 in
       let none : c .0 ≡ 0 = ones-none (c .0) (omega (arith, c .1 .few)) in
       let a : Allowed 4 (st .head .own) (c .0) = record { names = c .1 .names; few = omega (arith, c .1 .few); others = c .1 .others } in
@@ -184,4 +201,4 @@ module _ (st : State) where
       go (yes h) = h
       go (no h) =
           let a : Allowed 0 (st .head .own) s = record { names = w .0 .names; few = omega arith; others = w .0 .others } in
-          absurd (uncounted (answer 0 st) (answer-given 0 st) e (w .1 .0) (s, a, w .1 .1))
+          absurd (uncounted (exact 0 st) (answer-given 0 st) (sym (rounded-same st) ∙ e) (w .1 .0) (s, a, w .1 .1))

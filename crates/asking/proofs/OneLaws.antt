@@ -25,8 +25,8 @@ use Rattle.predicates.proofs.ListLaws.{true-T, T-true, T-false, cond-ind, keep-
 use Rattle.predicates.proofs.PredicateLaws.{holds-in, holds-out}
 use Rattle.predicates.proofs.MarkLaws.{singles-holds}
 use Rattle.search.proofs.PartedLaws.{singles-in}
-use Rattle.state.specs.Model.{Datum, State, endLimit}
-use Rattle.state.specs.Form.{stateOk}
+use Rattle.state.specs.Model.{Datum}
+use Rattle.search.specs.code.LeftEnds.{noEnd}
 use Rattle.asking.specs.declared.Answer.{Answer}
 use Rattle.asking.specs.declared.Answer.the-variants.{Contradicted, Between}
 use Rattle.asking.specs.Instants.{Within, InAll, Gives}
@@ -34,7 +34,7 @@ use Rattle.asking.specs.Asking.{interval, greatestLeft, leastRight, acti
 use Rattle.asking.specs.code.One.{masksOf, commonNames, allNames, OneOf, Hull}
 use Rattle.asking.proofs.InstantLaws.{within-none, within-wider}
 use Rattle.asking.proofs.AnswerLaws.{common-given}
-use Rattle.asking.proofs.PlainLaws.{common-interval, none-common, form-right}
+use Rattle.asking.proofs.PlainLaws.{right-below, common-interval, none-common}
 
 -- ---- one name and a predicate
 
@@ -121,18 +121,10 @@ unfolding greatestLeft
 none-left-of [] e = refl
 none-left-of (d ∷ ds) e = absurd (omega arith)
 
-right-below : (m : ℕ) (ds : List Datum) → leastRight m ds ≤ m
-unfolding leastRight
-right-below m [] = omega arith
-right-below m (d ∷ ds) = omega (arith, right-below (min m (d .right)) ds)
-
-module _ (st : State) (ok : T (stateOk st)) (u left right : ℕ) (a : left ≡ greatestLeft 0 (active u (st .store .held)))
-    (b : right ≡ leastRight endLimit (active u (st .store .held))) where
-  abbrev held : List Datum
-  held = st .store .held
-
-  pub span-right : right ≤ endLimit
-  span-right = omega (arith, b, right-below endLimit (active u held))
+module _ (held : List Datum) (lasts : (d : Datum) → In d held → d .right < noEnd) (u left right : ℕ) (a : left ≡ greatestLeft 0 (active u held))
+    (b : right ≡ leastRight noEnd (active u held)) where
+  pub span-right : right ≤ noEnd
+  span-right = omega (arith, b, right-below noEnd (active u held))
 
   -- where it leaves some predicate false
   pub span-given : 0 < length (active u held) → Gives (InAll u held) (interval left right)
@@ -140,7 +132,7 @@ module _ (st : State) (ok : T (stateOk st)) (u left right : ℕ) (a : left ≡ g
   span-given h =
       rw (a, b)
       (subst (λ (x : Answer). Gives (InAll u held) x)
-      (common-interval endLimit (active u held) h (λ d m. form-right st ok d (keep-out (λ (e : Datum). not (holds u (e .terms))) held d m .0)))
+      (common-interval noEnd (active u held) h (λ d m. lasts d (keep-out (λ (e : Datum). not (holds u (e .terms))) held d m .0)))
       (common-given u held))
 
   -- where it does not
@@ -177,7 +169,7 @@ module _ (ds : List Datum) (U W : ℕ → Type 0) where
 
   -- one set more
   module _ (u al ar bl br : ℕ) (w : Hull ds U al ar) (old : (v : ℕ) → U v → W v) (new : W u) (cases : (v : ℕ) → W v → U v ⊎ (v ≡ u))
-      (g : Gives (InAll u ds) (interval bl br)) (most : br ≤ endLimit) where
+      (g : Gives (InAll u ds) (interval bl br)) (most : br ≤ noEnd) where
     hull-none : br < bl → Hull ds W al ar
     hull-none h =
         record {

@@ -5,7 +5,7 @@ use mathlib.Core.Path.{_≡_, refl, sym, ap, ap₂, _∙_}
 use mathlib.Core.Logic.{inl, inr}
 use mathlib.Core.Bool.{true, false, not, cond}
 use mathlib.Core.List.{List, [], _∷_}
-use Prim.Native.Nat.{ℕ, _<_, min, max}
+use Prim.Native.Nat.{ℕ, _≤_, _<_, min, max}
 use native.Mathlib.Omega.{arith}
 use borrow.Author.Tests.{lt-leb}
 use lib.Dec.{T, not-T, leb, nleb→lt, ltb, ltb→lt}
@@ -21,7 +21,7 @@ use Rattle.predicates.proofs.IndexLaws.{all-mono}
 use Rattle.state.proofs.StateLaws.{state-out}
 use Rattle.asking.specs.declared.Answer.{Answer}
 use Rattle.asking.specs.declared.Answer.the-variants.{Contradicted, Open, Between}
-use Rattle.asking.specs.Asking.{interval, cut, common, greatestLeft, leastRight, active, leaves, setsOf, sets, either, leftBy, answer}
+use Rattle.asking.specs.Asking.{interval, cut, common, greatestLeft, leastRight, active, leaves, setsOf, sets, either, leftBy, exact}
 use Rattle.asking.specs.code.Claims.{everything}
 use Rattle.asking.proofs.ClaimLaws.{claims-in, claims-out}
 use Rattle.state.specs.Layout.{entryTerms}
@@ -49,6 +49,11 @@ least-right-min m n (d ∷ ds) =
     let e : min (min m n) (d .right) ≡ min (min m (d .right)) n = omega arith in
     ap (λ (x : ℕ). leastRight x ds) e ∙ least-right-min (min m (d .right)) n ds
 
+pub right-below : (m : ℕ) (ds : List Datum) → leastRight m ds ≤ m
+unfolding leastRight
+right-below m [] = omega arith
+right-below m (d ∷ ds) = omega (arith, right-below (min m (d .right)) ds)
+
 -- from the greatest left end to the least right end; m is above every right end
 pub common-interval : (m : ℕ) (ds : List Datum) → 0 < length ds → ((d : Datum) → In d ds → d .right < m)
     → common ds ≡ interval (greatestLeft 0 ds) (leastRight m ds)
@@ -71,8 +76,8 @@ either-none Open = refl
 either-none (Between l r) = refl
 
 -- it is the only one
-answer-leaves : (st : State) → answer 0 st ≡ leaves 0 (st .store)
-unfolding answer sets setsOf leftBy
+answer-leaves : (st : State) → exact 0 st ≡ leaves 0 (st .store)
+unfolding exact sets setsOf leftBy
 answer-leaves st = either-none (leaves 0 (st .store))
 
 pub all-active : (ds : List Datum) → ((d : Datum) → In d ds → T (not (holds 0 (d .terms)))) → active 0 ds ≡ ds
@@ -101,22 +106,22 @@ module _ (st : State) (bare : T (all (λ p. not (holds 0 p)) (everything (st .st
   unfolding everything
   each-bare = claims-out (λ p. not (holds 0 p)) (st .store .entries) (st .store .held) bare
 
-  plain-leaves : answer 0 st ≡ cond (all (holds 0) (st .store .entries)) (common (st .store .held)) Contradicted
+  plain-leaves : exact 0 st ≡ cond (all (holds 0) (st .store .entries)) (common (st .store .held)) Contradicted
   unfolding leaves
   plain-leaves = answer-leaves st ∙ rw (all-active (st .store .held) (each-bare .1))
 
-  pub plain-contradicted : 0 < length (st .store .entries) → answer 0 st ≡ Contradicted
+  pub plain-contradicted : 0 < length (st .store .entries) → exact 0 st ≡ Contradicted
   plain-contradicted h = plain-leaves ∙ rw (some-false (st .store .entries) h (each-bare .0))
 
-  plain-common : length (st .store .entries) ≡ 0 → answer 0 st ≡ common (st .store .held)
+  plain-common : length (st .store .entries) ≡ 0 → exact 0 st ≡ common (st .store .held)
   plain-common e = plain-leaves ∙ rw (none-false (st .store .entries) e)
 
-  pub plain-open : length (st .store .entries) ≡ 0 → length (st .store .held) ≡ 0 → answer 0 st ≡ Open
+  pub plain-open : length (st .store .entries) ≡ 0 → length (st .store .held) ≡ 0 → exact 0 st ≡ Open
   plain-open e h = plain-common e ∙ none-common (st .store .held) h
 
   pub plain-interval : length (st .store .entries) ≡ 0 → 0 < length (st .store .held)
       → ((d : Datum) → In d (st .store .held) → d .right < endLimit)
-      → answer 0 st ≡ interval (greatestLeft 0 (st .store .held)) (leastRight endLimit (st .store .held))
+      → exact 0 st ≡ interval (greatestLeft 0 (st .store .held)) (leastRight endLimit (st .store .held))
   plain-interval e h f = plain-common e ∙ common-interval endLimit (st .store .held) h f
 
 -- ---- a state in form

@@ -29,7 +29,7 @@ use Rattle.asking.specs.declared.Answer.the-variants.{Contradicted, Open
 use Rattle.asking.specs.Instants.{Allowed}
 use Rattle.asking.specs.Asking.{answer}
 use Rattle.asking.specs.code.Claims.{hopeless}
-use Rattle.asking.proofs.AnswerLaws.{answer-is}
+use Rattle.asking.proofs.AnswerLaws.{answer-is, answer-rounded}
 use Rattle.asking.proofs.ArrayLaws.{entries-at, everything-at, at-everything}
 use Rattle.asking.proofs.EndLaws.{answer-open}
 use Rattle.asking.proofs.PlainLaws.{form-terms}
@@ -59,7 +59,9 @@ module _ (limit : ℕ) (st : State) (ok : T (stateOk st)) where
       le→leb (degree (claimAt k i .terms)) limit (omega (arith, degree-least u (claimAt k i .terms) (entries-at k (holds u) h i l), a .few))))
 
   pub hopeless-contradicted : hopeless limit st ≡ true → Contradicted ≡ answer limit st
-  hopeless-contradicted e = answer-is limit st Contradicted (λ x c. hopeless-none (true-T (hopeless limit st) e) (c .0) (c .1) (c .2 .0))
+  hopeless-contradicted e =
+      answer-rounded limit st Contradicted
+      (answer-is limit st Contradicted (λ x c. hopeless-none (true-T (hopeless limit st) e) (c .0) (c .1) (c .2 .0)))
 
   -- ---- one name for each claim
 
@@ -98,7 +100,7 @@ module _ (limit : ℕ) (st : State) (ok : T (stateOk st)) where
       let l = leb→le rows limit (both-l (leb rows limit) _ t) in
       let w = picked rows (omega arith) (both-r (leb rows limit) _ t) in
       let a : Allowed limit own (w .set) = record { names = others-lt own (w .set) (w .free); few = omega (arith, w .few); others = others-out own (w .set) (w .free) } in
-      sym (answer-open limit st (w .set, a, at-everything k rows e (holds (w .set)) (w .holding)))
+      answer-rounded limit st Open (sym (answer-open limit st (w .set, a, at-everything k rows e (holds (w .set)) (w .holding))))
 
 -- ---- on the bytes
 

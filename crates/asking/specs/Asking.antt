@@ -7,6 +7,7 @@ use lib.Dec.{leb, eqb}
 use Rattle.names.specs.Sets.{union}
 use Rattle.predicates.specs.Lists.{all, keep}
 use Rattle.predicates.specs.Predicates.{holds}
+use Rattle.ends.specs.Ends.{down, up}
 use Rattle.state.specs.Model.{Datum, Store, State}
 use Rattle.asking.specs.declared.Answer.{Answer}
 use Rattle.asking.specs.declared.Answer.the-variants.{Contradicted, Open, Between}
@@ -71,9 +72,19 @@ unfoldable pub leftBy : List ℕ → Store → Answer
 leftBy [] k = Contradicted
 leftBy (s ∷ ss) k = either (leaves s k) (leftBy ss k)
 
+-- with the ends as they are held, in millionths
+unfoldable pub exact : ℕ → State → Answer
+exact limit st = leftBy (sets (st .head .own) limit) (st .store)
+
+-- "Answers and messages round the left end down and the right end up" (document 02, W-205)
+abbrev pub rounded : Answer → Answer
+rounded Contradicted = Contradicted
+rounded Open = Open
+rounded (Between l r) = Between (down l) (up r)
+
 -- "the answer is over the state"
 unfoldable pub answer : ℕ → State → Answer
-answer limit st = leftBy (sets (st .head .own) limit) (st .store)
+answer limit st = rounded (exact limit st)
 
 -- ---- for C: "0 contradicted, 1 open, 2 between; left; right, both 0 unless between"
 

@@ -1,7 +1,7 @@
 // Asking (document 01, "Asking"): open, contradicted, or from the first left end that can be explained to the last right end.
 ghost use mathlib.Core.Path.{_≡_};
 ghost use mathlib.Core.List.{_++_};
-ghost use Prim.Native.Nat.{ℕ, _+_, _-_, _≤_, _<_};
+ghost use Prim.Native.Nat.{ℕ, _+_, _-_, _^_, _≤_, _<_};
 ghost use mathlib.Core.Bool.{_&&_};
 ghost use lib.Dec.{T, leb};
 ghost use lib.ListN.{length, getD, drop};
@@ -14,44 +14,56 @@ ghost use Rattle.asking.specs.code.Claims.{everything, Explained, hopele
 ghost use Rattle.predicates.specs.Lists.{allBelow};
 ghost use Rattle.claims.specs.code.Degrees.{degreeWithin};
 ghost use Rattle.claims.specs.code.Tables.{Loaded, Room};
-ghost use Rattle.asking.specs.code.Sizes.{fewRows, lastEnd};
+ghost use Rattle.asking.specs.code.Sizes.{fewRows};
 ghost use Rattle.search.specs.code.LeftEnds.{Complete};
-ghost use Rattle.state.specs.Model.{endLimit};
+ghost use Rattle.state.specs.Model.{endLimit, lastWhole};
 ghost use Rattle.search.specs.code.Search.{Rows, rowsOf};
+ghost use Rattle.ends.specs.Ends.{countOf, BothSplit};
+ghost use Rattle.claims.specs.code.Keys.{stepOf, downBy, upBy, lastKey};
+ghost use Rattle.asking.specs.declared.Answer.the-variants.{Between};
 use super::Answer;
+use claims::keys::Scale;
+use ends::End;
+use ends::Ends;
 
 // So many rows are few, and their masks.
 const FEW_ROWS: usize = 12;
 
 const FEW_MASKS: usize = FEW_ROWS * search::ROW_WIDTH;
 
-// The last end that can be stored.
-const LAST_END: u64 = state::END_LIMIT - 1;
-
-// The ends of an interval, in order or not.
-pub struct Overlap {
-    pub left: u64,
-    pub right: u64,
+// The answer between two keys, in whole microseconds: the left end rounds down and the right end up.
+pub(crate) fn rounded(scale: Scale, left: u64, right: u64) -> Answer
+    requires { ⌜ (scale .base ≤ lastWhole) × (right + stepOf scale ≤ 2 ^ 64) ⌝ }
+    ensures { λ r. ⌜ r ≡ Between (downBy scale left) (upBy scale right) ⌝ }
+{
+    Answer::Between(
+        claims::keys::down(scale, left),
+        claims::keys::up(scale, right),
+    )
 }
 
 // The greatest left end of the held data and the least right end.
-fn meeting(s: &[u8], h: usize) -> Overlap
-    requires { ⌜ (stateSize ≤ length (now s)) × (h ≡ heldCount (now s)) × (h ≤ dataMost) ⌝ }
-    ensures { λ r. ⌜ (r .left ≡ greatestLeft 0 (storeOf (now (s .entry)) .held))
-        × (r .right ≡ leastRight endLimit (storeOf (now (s .entry)) .held)) ⌝ }
+fn meeting(s: &[u8], h: usize) -> Ends
+    requires { ⌜ (stateSize ≤ length (now s)) × T (inForm (now s)) × (h ≡ heldCount (now s)) ⌝ }
+    ensures { λ r. ⌜ (countOf (r .left) ≡ greatestLeft 0 (storeOf (now (s .entry)) .held))
+        × (countOf (r .right) ≡ leastRight endLimit (storeOf (now (s .entry)) .held)) × BothSplit r ⌝ }
 {
-    let mut left: u64 = 0;
-    let mut right: u64 = state::END_LIMIT;
+    let mut left = End {
+        whole: 0,
+        millionths: 0,
+    };
+    let mut right = End {
+        whole: state::LAST_WHOLE,
+        millionths: 1,
+    };
     let mut i: usize = 0;
     while i < h {
-        let at = state::DATA_AT + i * state::DATUM_SIZE;
-        let l = numbers::get64(s, at);
-        let r = numbers::get64(s, at + state::RIGHT_IN);
-        left = numbers::greater(left, l);
-        right = numbers::lesser(right, r);
+        let next = state::intervals::get(s, i);
+        left = ends::later(left, next.left);
+        right = ends::earlier(right, next.right);
         i += 1;
     }
-    Overlap { left, right }
+    Ends { left, right }
 }
 
 // The answer at limit 0, where no name may have failed: what all held intervals have in common, if nothing is known to have failed.
@@ -66,11 +78,12 @@ fn plain(s: &[u8]) -> Answer
     if h == 0 {
         return Answer::Open;
     }
-    let ends = meeting(s, h);
-    if ends.right < ends.left {
+    let common = meeting(s, h);
+    if ends::precedes(common.right, common.left) {
         return Answer::Contradicted;
     }
-    Answer::Between(ends.left, ends.right)
+    let left = common.left;
+    Answer::Between(left.whole, ends::round_up(common.right))
 }
 
 // Whether an instant counts where no name has failed.
@@ -85,17 +98,17 @@ pub fn agree(s: &[u8]) -> bool
     }
 }
 
-// The ends as seen from 2^58 - 1, so that the right ends are left ones and their falling is a rising.
+// The keys as seen from the last one, so that the right ends are left ones and their falling is a rising.
 fn mirror(lefts: &[u64], rights: &[u64], rows: usize, low: &mut [u64], high: &mut [u64])
     requires { ⌜ (rows ≤ length (now lefts)) × (rows ≤ length (now rights)) × (rows ≤ length (now low)) × (rows ≤ length (now high)) ⌝ }
-    requires { ⌜ ((i : ℕ) → i < rows → (getD (now lefts) i 0 ≤ lastEnd) × (getD (now rights) i 0 ≤ lastEnd)) ⌝ }
-    ensures { λ _. ⌜ now (low .exit) ≡ tab rows (λ i. lastEnd - getD (now (rights .entry)) i 0) ++ drop rows (now (low .entry)) ⌝ }
-    ensures { λ _. ⌜ now (high .exit) ≡ tab rows (λ i. lastEnd - getD (now (lefts .entry)) i 0) ++ drop rows (now (high .entry)) ⌝ }
+    requires { ⌜ ((i : ℕ) → i < rows → (getD (now lefts) i 0 ≤ lastKey) × (getD (now rights) i 0 ≤ lastKey)) ⌝ }
+    ensures { λ _. ⌜ now (low .exit) ≡ tab rows (λ i. lastKey - getD (now (rights .entry)) i 0) ++ drop rows (now (low .entry)) ⌝ }
+    ensures { λ _. ⌜ now (high .exit) ≡ tab rows (λ i. lastKey - getD (now (lefts .entry)) i 0) ++ drop rows (now (high .entry)) ⌝ }
 {
     let mut i: usize = 0;
     while i < rows {
-        low[i] = LAST_END - rights[i];
-        high[i] = LAST_END - lefts[i];
+        low[i] = claims::keys::LAST - rights[i];
+        high[i] = claims::keys::LAST - lefts[i];
         i += 1;
     }
 }
@@ -120,7 +133,7 @@ fn between(
 {
     let mut lefts = [0u64; search::ROWS_MOST];
     let mut rights = [0u64; search::ROWS_MOST];
-    claims::get_ends(s, n, rows, &mut lefts, &mut rights);
+    let scale = claims::keys::get_ends(s, n, rows, &mut lefts, &mut rights);
     let mut listed = [0u32; search::ROWS_MOST];
     let free = names::others(numbers::get32(s, state::OWN_AT));
     let left = search::ends::first_end(
@@ -157,7 +170,7 @@ fn between(
         limit,
         free,
     );
-    Answer::Between(left.end, LAST_END - right.end)
+    rounded(scale, left.end, claims::keys::LAST - right.end)
 }
 
 // The answer over a state in form, with the arrays that its claims are read into.

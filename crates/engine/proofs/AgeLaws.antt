@@ -1,16 +1,17 @@
 -- Laws of ageing on numbers and lists: the drift in 64 bits, the test of the right ends, and the refusals in the code's words.
--- The idea: with d = q × 1,000,000 + m, the drift over d is that over the millions, exactly, and that over m, rounded up; both advances are
--- d less and plus it. What the writers leave is in `proofs.WidenLaws`. No contract cites this file. Assumes nothing.
+-- The idea: with d = q × 1,000,000 + m, d × r is q × r microseconds and m × r millionths; both advances are d less and plus it. What the writers
+-- leave is in `proofs.WidenLaws`. No contract cites this file. Assumes nothing.
 use Prim.Native.Nat.{ℕ, zero, suc, _+_, _*_, _-_, _/_, _%_, _≤_, _<_}
 use mathlib.Core.Path.{_≡_, refl, sym, ap, _∙_}
 use mathlib.Core.Bool.{Bool, true, false, _&&_, _||_, not, cond, and-true, and-assoc}
 use mathlib.Core.List.{List, [], _∷_, _++_, map}
-use native.Mathlib.Nat.{mul-add, add-mul, mul-assoc, mul-comm, mul-le-mul-left, mod-add-div', add-mul-div-right, add-comm}
+use native.Mathlib.Nat.{mul-add, add-mul, mul-assoc, mul-comm, mod-add-div'}
 use native.Mathlib.Omega.{arith}
 use borrow.Author.Tests.{ltb-true, ltb-false, lt-ltb, le-ltb, lt-leb, le-leb}
-use lib.Dec.{T, leb, ltb, ltb→lt, lit<}
+use lib.Dec.{T, leb, ltb, ltb→lt}
 use Rattle.predicates.specs.Lists.{any, all, allBelow}
 use Rattle.numbers.specs.Numbers.{num, tab}
+use Rattle.ends.specs.Ends.{million, count}
 use Rattle.state.specs.Model.{Datum, Store, endLimit, readingLimit, driftMost}
 use Rattle.state.specs.Layout.{datumAt, heldCount, headOf, storeOf, stateOf, driftAt, readingAt}
 use Rattle.state.specs.Form.{inForm}
@@ -18,39 +19,30 @@ use Rattle.predicates.proofs.IndexLaws.{below-out}
 use Rattle.state.proofs.StateLaws.{state-out, form-ok}
 use Rattle.engine.specs.Ageing.{leastAdvance, greatestAdvance, slow, fast, widened, aged}
 use Rattle.engine.specs.Refusals.{passesEnd, ageRefusal}
-use Rattle.engine.specs.code.Ageing.{driftOver, staysBelow}
+use Rattle.engine.specs.code.Ageing.{staysBelow}
 
 -- ---- the drift
 
--- (d × r + 999,999) / 1,000,000 by the quotient and the remainder of d
-pub drift-split : (r d : ℕ) → driftOver r d ≡ d / 1_000_000 * r + (d % 1_000_000 * r + 999_999) / 1_000_000
-unfolding driftOver
+-- d × r by the quotient and the remainder of d
+pub drift-split : (r d : ℕ) → count (d / million * r + d % million * r / million) (d % million * r % million) ≡ d * r
 drift-split r d =
-    let q = d / 1_000_000 in
-    let m = d % 1_000_000 in
-    let e : d * r ≡ m * r + q * 1_000_000 * r = ap (λ (x : ℕ). x * r) (sym (mod-add-div' d 1_000_000)) ∙ add-mul m (q * 1_000_000) r in
-    let f : q * 1_000_000 * r ≡ q * r * 1_000_000 =
-    mul-assoc q 1_000_000 r ∙ ap (λ (x : ℕ). q * x) (mul-comm 1_000_000 r) ∙ sym (mul-assoc q r 1_000_000) in
-    let g : d * r + 999_999 ≡ m * r + 999_999 + q * r * 1_000_000 = omega arith in
-    ap (λ (x : ℕ). x / 1_000_000) g ∙ add-mul-div-right (m * r + 999_999) (q * r) {z = 1_000_000} (lit< tt) ∙ add-comm _ _
+    let q = d / million in
+    let m = d % million in
+    let e : d * r ≡ m * r + q * million * r = ap (λ (x : ℕ). x * r) (sym (mod-add-div' d million)) ∙ add-mul m (q * million) r in
+    let f : q * million * r ≡ q * r * million =
+    mul-assoc q million r ∙ ap (λ (x : ℕ). q * x) (mul-comm million r) ∙ sym (mul-assoc q r million) in
+    omega arith
 
--- the drift is at most 1,000 parts per million
-pub drift-le : (r d : ℕ) → r ≤ driftMost → driftOver r d ≤ d
-unfolding driftOver
-drift-le r d h = omega (arith, mul-le-mul-left d h)
-
--- "floor(d × (1,000,000 − r) / 1,000,000)"
-pub least-drift : (r d : ℕ) → r ≤ driftMost → leastAdvance r d ≡ d - driftOver r d
-unfolding leastAdvance driftOver
+-- d × (1,000,000 − r) and d × (1,000,000 + r)
+pub least-drift : (r d : ℕ) → r ≤ driftMost → leastAdvance r d + d * r ≡ d * million
+unfolding leastAdvance
 least-drift r d h =
-    let rest = 1_000_000 - r in
-    let e : rest + r ≡ 1_000_000 = omega arith in
-    omega (arith, mul-add d rest r, ap (λ (x : ℕ). d * x) e, mul-le-mul-left d h)
+    let e : (million - r) + r ≡ million = omega arith in
+    sym (mul-add d (million - r) r) ∙ ap (λ (x : ℕ). d * x) e
 
--- "ceil(d × (1,000,000 + r) / 1,000,000)"
-pub greatest-drift : (r d : ℕ) → greatestAdvance r d ≡ d + driftOver r d
-unfolding greatestAdvance driftOver
-greatest-drift r d = omega (arith, mul-add d 1_000_000 r)
+pub greatest-drift : (r d : ℕ) → greatestAdvance r d ≡ d * million + d * r
+unfolding greatestAdvance
+greatest-drift r d = mul-add d million r
 
 -- ---- the right ends
 
@@ -109,27 +101,27 @@ pub drift-held : (s : List ℕ) → T (inForm s) → num driftAt 4 s ≤ driftMo
 unfolding stateOf headOf
 drift-held s t = state-out (stateOf s) (form-ok s t) .drift-le
 
--- the code's words for what passed: the last reading, the drift, and what it adds
-module _ (s : List ℕ) (t : T (inForm s)) (reading last drift over : ℕ)
-    (at-last : last ≡ num readingAt 8 s) (at-drift : drift ≡ num driftAt 4 s) (drifted : over ≡ driftOver drift (reading - last)) where
-  slow-code : slow (headOf s) reading ≡ reading - last - over
+-- the code's words for what passed: the last reading, the drift, and both advances
+module _ (s : List ℕ) (reading last drift : ℕ) (at-last : last ≡ num readingAt 8 s) (at-drift : drift ≡ num driftAt 4 s) where
+  slow-code : leastAdvance drift (reading - last) ≡ slow (headOf s) reading
   unfolding slow headOf
-  slow-code = rw (drifted, at-last, at-drift) (least-drift (num driftAt 4 s) (reading - num readingAt 8 s) (drift-held s t))
+  slow-code = rw (at-last, at-drift)
 
-  fast-code : fast (headOf s) reading ≡ reading - last + over
+  fast-code : greatestAdvance drift (reading - last) ≡ fast (headOf s) reading
   unfolding fast headOf
-  fast-code = rw (drifted, at-last, at-drift) (greatest-drift (num driftAt 4 s) (reading - num readingAt 8 s))
+  fast-code = rw (at-last, at-drift)
 
-  pub aged-code : (k : Store) → aged (reading - last - over) (reading - last + over) k ≡ aged (slow (headOf s) reading) (fast (headOf s) reading) k
-  aged-code k = rw (slow-code, fast-code)
+  pub aged-code : (lo hi : ℕ) (k : Store) → lo ≡ leastAdvance drift (reading - last) → hi ≡ greatestAdvance drift (reading - last)
+      → aged lo hi k ≡ aged (slow (headOf s) reading) (fast (headOf s) reading) k
+  aged-code lo hi k e f = rw (e, f, slow-code, fast-code)
 
   -- the last of the tests decides
-  pub age-tests : (b : Bool) → reading < readingLimit → last ≤ reading → b ≡ staysBelow (reading - last + over) (storeOf s)
+  pub age-tests : (hi : ℕ) (b : Bool) → hi ≡ greatestAdvance drift (reading - last) → reading < readingLimit → last ≤ reading → b ≡ staysBelow hi (storeOf s)
       → ageRefusal (stateOf s) reading ≡ cond b 0 30
   unfolding ageRefusal stateOf headOf
-  age-tests b h k e =
+  age-tests hi b f h k e =
       let later : ltb reading (num readingAt 8 s) ≡ false = rw at-last at (le-ltb reading last k) in
-      rw (lt-leb readingLimit reading h, later, passes-stays (slow (headOf s) reading) (fast (headOf s) reading) (storeOf s), fast-code, ← e)
+      rw (lt-leb readingLimit reading h, later, passes-stays (slow (headOf s) reading) (fast (headOf s) reading) (storeOf s), ← fast-code, ← f, ← e)
       (turned b)
     where
       turned : (a : Bool) → _≡_ {A = ℕ} (cond (not a) 30 0) (cond a 0 30)

@@ -3,6 +3,7 @@ pub mod WatchLaws
 pub mod HearingLaws
 pub mod CallLaws
 pub mod EndLaws
+pub mod TwiceLaws
 pub mod SameLaws
 pub mod AgeLaws
 pub mod WidenLaws

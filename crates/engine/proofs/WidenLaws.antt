@@ -5,26 +5,32 @@
 use Prim.Native.Nat.{ℕ, _+_, _*_, _-_, _≤_, _<_}
 use mathlib.Core.Path.{_≡_, sym, _∙_}
 use mathlib.Core.List.{List}
-use mathlib.Core.Logic.{inr}
 use native.Mathlib.Omega.{arith}
-use lib.Dec.{T, leb→le, ltb→lt}
+use mathlib.Core.Bool.{true}
+use lib.Dec.{T, leb→le, ltb, ltb→lt, lt→ltb}
 use lib.ListN.{length, drop, length-append, length-replicate}
-use Rattle.predicates.proofs.ListLaws.{both-l, both-r}
+use Rattle.predicates.proofs.ListLaws.{both-l, both-r, true-T, T-true}
 use Rattle.numbers.specs.Numbers.{num, bytes, put, tab, Bytes}
-use Rattle.numbers.proofs.NumberLaws.{length-bytes, num-put-apart, put-append, put-num-same, length-tab, map-tab}
-use Rattle.state.specs.Model.{Datum, endLimit}
+use Rattle.numbers.proofs.NumberLaws.{length-bytes, put-append, put-num-same, length-tab, map-tab}
+use Rattle.ends.specs.declared.End.{End}
+use Rattle.ends.specs.declared.Ends.{Ends}
+use Rattle.ends.specs.Ends.{countOf, Split, BothSplit}
+use Rattle.state.specs.Model.{Datum, lastWhole, endLimit}
+use Rattle.state.specs.code.Tables.{endsAt, withEnds}
 use Rattle.state.specs.Layout.{stateSize, readingAt, heldAt, dataAt, dataMost, datumSize, zeros, joined, rowBytes, datumBytes, dataBytes, parts, stateBytes, rightIn, rowIn, datumTerms, ownAt}
 use Rattle.state.specs.Layout.{datumPlace, datumAt, heldCount, headOf, storeOf, stateOf}
 use Rattle.state.specs.Form.{termsFit, datumFits, dataFit, inForm, datumOk}
-use Rattle.predicates.proofs.IndexLaws.{below-out}
+use Rattle.predicates.proofs.IndexLaws.{below-in, below-out}
 use Rattle.state.proofs.LayoutLaws.{part, At, length-datum}
-use Rattle.state.proofs.FormLaws.{zeros-out, row-part, datum-row}
-use Rattle.state.proofs.StateLaws.{held-count-le, datum-at-ok, begins-form}
-use Rattle.state.proofs.RowLoops.{datum-put}
+use Rattle.state.proofs.FormLaws.{zeros-out, row-part, datum-row, ends-split}
+use Rattle.state.proofs.StateLaws.{held-count-le, form-datum, datum-at-ok, begins-form}
+use Rattle.state.proofs.RowLoops.{ends-put, ends-behind}
 use Rattle.state.proofs.PutLaws.{part-stands, put-stands, drop-put, length-joined-tab, joined-next}
 use Rattle.state.proofs.PartLaws.{part-stored}
 use Rattle.engine.specs.Ageing.{slow, fast, widened, aged}
 use Rattle.engine.specs.Calls.{age, moved, made, done}
+use Rattle.engine.specs.code.Ageing.{farBelow, staysBelow}
+use Rattle.engine.proofs.AgeLaws.{staysAt, stays-below}
 
 -- ---- a held datum
 
@@ -45,6 +51,28 @@ held-facts own d t =
 pub held-at : (s : List ℕ) → T (inForm s) → (i : ℕ) → i < heldCount s → HeldFacts (datumAt s i)
 held-at s t i h = held-facts _ (datumAt s i) (datum-at-ok s t i h)
 
+-- the two numbers of each end are those of the datum
+pub record EndsHeld (d : Datum) (e : Ends) : Type 0 where
+  pub split : BothSplit e
+  pub left-is : countOf (e .left) ≡ d .left
+  pub right-is : countOf (e .right) ≡ d .right
+
+pub ends-held : (s : List ℕ) → T (inForm s) → (i : ℕ) → i < heldCount s → (e : Ends) → e ≡ endsAt s i → EndsHeld (datumAt s i) e
+unfolding datumAt endsAt
+ends-held s t i h e r = record { split = rw r (ends-split (num ownAt 4 s) s i (form-datum s t i h)); left-is = rw r; right-is = rw r }
+
+-- the whole microseconds alone tell that every right end can be stored
+pub far-stays : (s : List ℕ) → T (inForm s) → (hi : End) → Split hi → farBelow (hi .whole) s ≡ true → staysBelow (countOf hi) (storeOf s) ≡ true
+unfolding farBelow datumAt endsAt
+far-stays s t hi split e =
+    rw (stays-below (countOf hi) s)
+    (T-true _ (below-in (heldCount s) (staysAt (countOf hi) s)
+    (λ i h.
+    let told = below-out (heldCount s) (λ k. ltb (num (datumPlace k + rightIn) 8 s + hi .whole) (lastWhole - 1)) (true-T _ e) i h in
+    let low = ltb→lt (num (datumPlace i + rightIn) 8 s + hi .whole) (lastWhole - 1) told in
+    let small = ends-split (num ownAt 4 s) s i (form-datum s t i h) .1 in
+    lt→ltb (datumAt s i .right + countOf hi) endLimit (omega (arith, low, small, split)))))
+
 -- ---- the loop
 
 module _ (s : List ℕ) (lo hi : ℕ) where
@@ -56,28 +84,20 @@ module _ (s : List ℕ) (lo hi : ℕ) where
   front i = joined datumBytes (tab i wide)
 
 module _ (s : List ℕ) (t : T (inForm s)) (lo hi : ℕ) where
-  length-wide : (i : ℕ) → i < heldCount s → length (datumBytes (wide s lo hi i)) ≡ 52
+  length-wide : (i : ℕ) → i < heldCount s → length (datumBytes (wide s lo hi i)) ≡ 60
   unfolding widened
   length-wide i h = length-datum _ (held-at s t i h .few)
 
   pub length-front : (i : ℕ) → i ≤ heldCount s → length (front s lo hi i) ≡ i * datumSize
-  length-front i h = length-joined-tab datumBytes 52 i (wide s lo hi) (λ k p. length-wide k (omega arith))
+  length-front i h = length-joined-tab datumBytes 60 i (wide s lo hi) (λ k p. length-wide k (omega arith))
 
-  -- a number behind the first i data is as it was
-  num-behind : (i at : ℕ) (u : List ℕ) → i ≤ heldCount s → datumPlace i ≤ at → u ≡ put dataAt (front s lo hi i) s → num at 8 u ≡ num at 8 s
-  num-behind i at u h k e = rw e (num-put-apart 8 24 at (front s lo hi i) s (inr (omega (arith, length-front i h))))
+  -- from datum i on all is as it was
+  behind-same : (i : ℕ) (u : List ℕ) → i ≤ heldCount s → u ≡ put dataAt (front s lo hi i) s → drop (datumPlace i) u ≡ drop (datumPlace i) s
+  behind-same i u h p = rw (p, drop-put (datumPlace i) dataAt (front s lo hi i) s (omega (arith, length-front i h)))
 
   -- the ends that a turn reads
-  module _ (i : ℕ) (u : List ℕ) (h : i < heldCount s) (p : u ≡ put dataAt (front s lo hi i) s) where
-    pub left-there : num (datumPlace i) 8 u ≡ datumAt s i .left
-    unfolding datumAt
-    left-there = num-behind i (datumPlace i) u (omega arith) (omega arith) p
-
-    pub right-there : (x : ℕ) (v : List ℕ) → v ≡ put (datumPlace i) (bytes 8 x) u → num (datumPlace i + rightIn) 8 v ≡ datumAt s i .right
-    unfolding datumAt
-    right-there x v q =
-        rw q (num-put-apart 8 (datumPlace i) (datumPlace i + rightIn) (bytes 8 x) u (inr (omega (arith, length-bytes 8 x))))
-        ∙ num-behind i (datumPlace i + rightIn) u (omega arith) (omega arith) p
+  pub ends-there : (i : ℕ) (u : List ℕ) → i < heldCount s → u ≡ put dataAt (front s lo hi i) s → (e : Ends) → e ≡ endsAt u i → EndsHeld (datumAt s i) e
+  ends-there i u h p e r = ends-held s t i h e (r ∙ ends-behind i s u (behind-same i u (omega arith) p))
 
   module _ (b : Bytes s) (l : stateSize ≤ length s) where
     row-stands : (i : ℕ) → i < heldCount s → At (datumPlace i + rowIn) (rowBytes datumTerms (datumAt s i .terms)) s
@@ -88,28 +108,16 @@ module _ (s : List ℕ) (t : T (inForm s)) (lo hi : ℕ) where
         rw (row-part (num ownAt 4 s) datumTerms (datumPlace i + rowIn) s (datum-row (num ownAt 4 s) s i fits) b (omega arith)) (part-stands (datumPlace i + rowIn) 36 s)
 
     -- a turn
-    pub widen-next : (i : ℕ) (u v w : List ℕ) → i < heldCount s → u ≡ put dataAt (front s lo hi i) s
-        → v ≡ put (datumPlace i) (bytes 8 (num (datumPlace i) 8 u + lo)) u → w ≡ put (datumPlace i + rightIn) (bytes 8 (num (datumPlace i + rightIn) 8 v + hi)) v
+    pub widen-next : (i : ℕ) (u w : List ℕ) (e : Ends) → i < heldCount s → u ≡ put dataAt (front s lo hi i) s → BothSplit e
+        → countOf (e .left) ≡ datumAt s i .left + lo → countOf (e .right) ≡ datumAt s i .right + hi → w ≡ withEnds i e u
         → w ≡ put dataAt (front s lo hi (i + 1)) s
     unfolding widened
-    widen-next i u v w h p q r =
-        let at = datumPlace i in
-        let d = datumAt s i in
-        let a : v ≡ put at (bytes 8 (d .left + lo)) u = rw (left-there i u h p) at q in
-        let c : w ≡ put (at + 8) (bytes 8 (d .right + hi)) v = rw (right-there i u h p (d .left + lo) v a) at r in
+    widen-next i u w e h p split x y q =
         let row = row-stands i h in
-        let same : drop (at + 16) w ≡ drop (at + 16) s =
-        rw (
-          c,
-          drop-put (at + 16) (at + 8) (bytes 8 (d .right + hi)) v (omega (arith, length-bytes 8 (d .right + hi))),
-          a,
-          drop-put (at + 16) at (bytes 8 (d .left + lo)) u (omega (arith, length-bytes 8 (d .left + lo))),
-          p,
-          drop-put (at + 16) dataAt (front s lo hi i) s (omega (arith, length-front i (omega arith))),
-        ) in
-        let stored : w ≡ put (at + 16) (rowBytes datumTerms (d .terms)) w = sym (put-stands (at + 16) _ w (row .0, same ∙ row .1)) in
-        joined-next datumBytes 52 24 i (wide s lo hi) s u w (λ n m. length-wide n (omega arith)) p
-        (datum-put at (d .left + lo) (d .right + hi) (d .terms) u v w w a c stored)
+        let same : drop (datumPlace i + rowIn) u ≡ drop (datumPlace i + rowIn) s =
+        rw (p, drop-put (datumPlace i + rowIn) dataAt (front s lo hi i) s (omega (arith, length-front i (omega arith)))) in
+        let stored = q ∙ ends-put i e (datumAt s i .terms) u split (held-at s t i h .few) (row .0, same ∙ row .1) in
+        joined-next datumBytes 60 24 i (wide s lo hi) s u w (λ n m. length-wide n (omega arith)) p (rw (x, y) at stored)
 
 -- all data, as the definition has them
 pub held-tab : (lo hi : ℕ) (s : List ℕ) → aged lo hi (storeOf s) .held ≡ tab (heldCount s) (wide s lo hi)

@@ -1,15 +1,17 @@
 -- Ageing (document 01, "Ageing"). Assumes nothing: these are definitions.
-use Prim.Native.Nat.{ℕ, _+_, _*_, _-_, _/_}
+use Prim.Native.Nat.{ℕ, _+_, _*_, _-_}
 use mathlib.Core.List.{map}
+use Rattle.ends.specs.Ends.{million}
 use Rattle.state.specs.Model.{Datum, Head, Store}
 
--- "With drift r parts per million and d local microseconds passed, true time advances by at least floor(d × (1,000,000 − r) / 1,000,000)"
+-- "With drift r parts per million and d local microseconds passed, true time advances by at least" d × (1,000,000 − r) millionths of a microsecond: "an
+-- advance is exact" (document 02, W-205)
 unfoldable pub leastAdvance : ℕ → ℕ → ℕ
-leastAdvance r d = d * (1_000_000 - r) / 1_000_000
+leastAdvance r d = d * (million - r)
 
--- "and at most ceil(d × (1,000,000 + r) / 1,000,000)"
+-- "and at most" d × (1,000,000 + r)
 unfoldable pub greatestAdvance : ℕ → ℕ → ℕ
-greatestAdvance r d = (d * (1_000_000 + r) + 999_999) / 1_000_000
+greatestAdvance r d = d * (million + r)
 
 -- the two advances of an ageing to a reading
 unfoldable pub slow : Head → ℕ → ℕ

@@ -46,7 +46,7 @@ setUpRefusal u =
 abbrev pub goesBack : Head → ℕ → Bool
 goesBack h reading = ltb reading (h .reading)
 
--- "30 an end would pass 2^58 − 1": one of the datum's two ends lies beyond it
+-- "30 an end would pass 2^58 − 1": one of the datum's two ends, "with its fraction" (document 02, W-205), lies beyond it
 abbrev pub anEndPasses : Datum → Bool
 anEndPasses d = leb endLimit (d .left) || leb endLimit (d .right)
 

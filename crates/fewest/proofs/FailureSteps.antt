@@ -14,7 +14,8 @@ use lib.ListN.{length, getD}
 use Rattle.names.specs.Sets.{noSet}
 use Rattle.names.specs.code.Parts.{others}
 use Rattle.state.specs.Model.{Datum, Store, State}
-use Rattle.state.specs.Form.{stateOk}
+use Rattle.state.specs.Layout.{stateOf}
+use Rattle.state.specs.Form.{inForm, stateOk}
 use Rattle.search.specs.code.Search.{Rows}
 use Rattle.asking.specs.declared.Fewest.the-variants.{Over, Few}
 use Rattle.asking.specs.Instants.{Allowed}
@@ -31,7 +32,9 @@ use Rattle.predicates.proofs.IndexLaws.{at-in}
 use Rattle.claims.proofs.TableLaws.{claim-datum}
 use Rattle.asking.proofs.ArrayLaws.{fits-allowed, allowed-fits, order-everything, everything-order, needs-needed, needed-needs, left-outside}
 use Rattle.predicates.proofs.IndexLaws.{in-at}
+use Rattle.claims.specs.code.Keys.{keyedState}
 use Rattle.claims.proofs.ReadyLaws.{Prepared}
+use Rattle.asking.proofs.MappedLaws.{keyed-works}
 use Rattle.asking.proofs.FewestLaws.{Seen, works-ends, ends-works, fewest-found, fewest-over, works-failed}
 use Rattle.search.proofs.LeastLaws.{Tried, least-out}
 
@@ -102,6 +105,10 @@ module _ (k : Store) (n rows : ℕ) (table : Rows) (order lefts rights : List �
 
 pub floor-one : (st : State) → notContradicted (answer 0 st) ≡ false → Floor st 1
 floor-one st e = record { under = λ s w. omega (arith, works-failed st e s w) }
+
+-- the same sets work where keys stand for ends
+pub floor-keyed : (s : List ℕ) → T (inForm s) → (limit : ℕ) → Floor (stateOf s) limit → Floor (keyedState s) limit
+floor-keyed s t limit f = record { under = λ u w. f .under u (keyed-works s t u w) }
 
 -- a name that works alone is the fewest; else two names are needed
 pub one-fewest : (st : State) (r n : ℕ) → Floor st 1 → FewestOne st r → r < noSet → n ≡ ones r → Few n r ≡ fewest st

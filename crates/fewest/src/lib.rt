@@ -51,7 +51,7 @@ fn fewest_from(s: &[u8], from: u32) -> Fewest
     );
     let mut lefts = [0u64; search::ROWS_MOST];
     let mut rights = [0u64; search::ROWS_MOST];
-    claims::get_ends(s, n, rows, &mut lefts, &mut rights);
+    claims::keys::get_ends(s, n, rows, &mut lefts, &mut rights);
     let free = names::others(own);
     let mut listed = [0u32; search::ROWS_MOST];
     let mut limit = from;

@@ -16,7 +16,7 @@ use Rattle.numbers.proofs.NumberLaws.{length-tab, length-bytesOf, words-bytes, 
 use Rattle.predicates.specs.Lists.{all}
 use Rattle.predicates.specs.Predicates.{isNormal}
 use Rattle.predicates.proofs.ListLaws.{both-l, both-r, T-false}
-use Rattle.message.specs.Words.{payload, masks}
+use Rattle.message.specs.Words.{payload, masks, endsLimit}
 use Rattle.message.specs.Read.{termWords}
 use Rattle.message.specs.Write.{messageWords}
 use Rattle.message.specs.declared.Reading.the-variants.{Message}
@@ -26,9 +26,9 @@ use Rattle.radio.specs.Names.{wanted, namesFit, namesOf}
 use Rattle.radio.specs.Read.{epochWords}
 use Rattle.radio.proofs.NameLaws.{fit-few, wanted-lt}
 use Rattle.radio.proofs.MessageLaws.{names-known, words-message, read-write, terms-write, epochs-write}
-use Rattle.state.specs.Layout.{datumPlace, masksAt, rowAt, datumAt, heldCount, ownAt, epochsAt, rightIn, rowIn, datumTerms}
+use Rattle.state.specs.Layout.{datumPlace, masksAt, rowAt, datumAt, heldCount, ownAt, epochsAt, leftMillionthsIn, rowIn, datumTerms}
 use Rattle.state.specs.Form.{termFits, termsFit, inForm}
-use Rattle.state.proofs.StateLaws.{datum-at-ok, length-datum-at, epochs-fit}
+use Rattle.state.proofs.StateLaws.{form-datum, datum-at-ok, length-datum-at, epochs-fit}
 use Rattle.state.specs.Refusal.{after}
 use Rattle.state.proofs.LentLaws.{refuse-none, lent-passed}
 use Rattle.state.proofs.OkLaws.{ok-datum-out, ok-terms-out}
@@ -36,7 +36,12 @@ use Rattle.state.proofs.StateLaws.{own-fits}
 use Rattle.monitor.specs.Messages.{readBytes, readNumber, readingBytes, answered}
 use Rattle.monitor.specs.Calls.{writtenWords, writtenBytes, writeNumber, writeOutput}
 use Rattle.names.specs.Sets.{noSet}
-use Rattle.state.specs.Model.{endLimit, nameMost}
+use Rattle.ends.specs.declared.Ends.{Ends}
+use Rattle.ends.specs.Ends.{down, up, countOf, Split, BothSplit}
+use Rattle.ends.proofs.EndLaws.{count-whole}
+use Rattle.state.specs.Model.{nameMost}
+use Rattle.state.specs.code.Tables.{endsAt}
+use Rattle.state.proofs.FormLaws.{ends-split}
 
 -- ---- terms of a state
 
@@ -58,8 +63,9 @@ masks-same (t ∷ ts) m = let e : payload t ≡ t = omega (arith, m 0) in rw (e,
 -- the facts that the message of it asks
 pub record Held (s : List ℕ) (position : ℕ) : Type 0 where
   pub own-le : num ownAt 4 s ≤ nameMost
-  pub ends : datumAt s position .left ≤ datumAt s position .right
-  pub below : datumAt s position .right < endLimit
+  pub ends : down (datumAt s position .left) ≤ up (datumAt s position .right)
+  pub below : up (datumAt s position .right) < endsLimit
+  pub split : BothSplit (endsAt s position)
   pub few : length (datumAt s position .terms) ≤ 8
   pub norm : T (isNormal (datumAt s position .terms))
   pub small : Masks (datumAt s position .terms)
@@ -77,8 +83,9 @@ module _ (s : List ℕ) (t : T (inForm s)) (position : ℕ) (h : position < held
       let p = ok-terms-out (num ownAt 4 s) datumTerms (datumAt s position .terms) (d .fit) in
       record {
         own-le = own-fits s t;
-        ends = d .ends;
-        below = d .below;
+        ends = omega (arith, d .ends);
+        below = omega (arith, d .below);
+        split = ends-split (num ownAt 4 s) s position (form-datum s t position h);
         few = p .few;
         norm = p .norm;
         small = terms-small (d .fit);
@@ -121,11 +128,24 @@ module _ (s : List ℕ) (position : ℕ) (f : Held s position) where
   pub length-written : length (writtenWords s position) ≡ length given + num (datumPlace position + rowIn) 4 s + 6
   unfolding writtenWords
   length-written =
-      omega (arith, length-message-more (num ownAt 4 s) given (datumAt s position .left) (datumAt s position .right) (datumAt s position .terms), f .count)
+      omega (arith, length-message-more (num ownAt 4 s) given (down (datumAt s position .left)) (up (datumAt s position .right)) (datumAt s position .terms), f .count)
 
   -- the ends that were read
-  pub ends-lt : (left right : ℕ) → left ≡ num (datumPlace position) 8 s → right ≡ num (datumPlace position + rightIn) 8 s → (left < endLimit) × (right < endLimit)
-  unfolding datumAt
+  module _ (e : Ends) (p : e ≡ endsAt s position) where
+    pub right-split : Split (e .right) × (e .right .whole < 2 ^ 63)
+    unfolding datumAt endsAt
+    right-split = rw p (f .split .1, omega (arith, f .below))
+
+    -- the left one down and the right one up
+    pub left-down : e .left .whole ≡ down (datumAt s position .left)
+    unfolding datumAt endsAt
+    left-down = rw p (sym (count-whole (num (datumPlace position) 8 s) (num (datumPlace position + leftMillionthsIn) 4 s) (f .split .0)))
+
+    pub right-up : (right : ℕ) → right ≡ up (countOf (e .right)) → right ≡ up (datumAt s position .right)
+    unfolding datumAt endsAt
+    right-up right r = r ∙ rw p
+
+  pub ends-lt : (left right : ℕ) → left ≡ down (datumAt s position .left) → right ≡ up (datumAt s position .right) → (left < endsLimit) × (right < endsLimit)
   ends-lt left right a b = (omega (arith, f .ends, f .below), omega (arith, f .below))
 
   -- the masks in use, of the eight that were read
@@ -138,10 +158,10 @@ module _ (s : List ℕ) (position : ℕ) (f : Held s position) where
       rw (p, take-append-le n (tab 8 g) rest fits, e)
 
   -- the words that are written
-  pub words-written : (own left right : ℕ) (names terms : List ℕ) → own ≡ num ownAt 4 s → left ≡ num (datumPlace position) 8 s
-      → right ≡ num (datumPlace position + rightIn) 8 s → names ≡ given → terms ≡ datumAt s position .terms
+  pub words-written : (own left right : ℕ) (names terms : List ℕ) → own ≡ num ownAt 4 s → left ≡ down (datumAt s position .left)
+      → right ≡ up (datumAt s position .right) → names ≡ given → terms ≡ datumAt s position .terms
       → messageWords own names left right (masks terms) ≡ writtenWords s position
-  unfolding writtenWords datumAt
+  unfolding writtenWords
   words-written own left right names terms a b c n d = rw (a, b, c, n, d, masks-same (datumAt s position .terms) (f .small))
 
   words-small : Words (writtenWords s position)
@@ -152,11 +172,11 @@ module _ (s : List ℕ) (position : ℕ) (f : Held s position) where
   unfolding writtenBytes
   words-back = words-bytes (writtenWords s position) words-small
 
--- ---- a message written from a held datum reads back to the own name, that interval and those terms
+-- ---- a message written from a held datum reads back to the own name, the rounded interval and those terms
 
 module _ (s : List ℕ) (t : T (inForm s)) (position : ℕ) (h : position < heldCount s) where
   pub write-reads : readBytes (writtenBytes s position)
-      ≡ Message (num ownAt 4 s) (datumAt s position .left) (datumAt s position .right) (length (datumAt s position .terms))
+      ≡ Message (num ownAt 4 s) (down (datumAt s position .left)) (up (datumAt s position .right)) (length (datumAt s position .terms))
   unfolding readBytes writtenWords
   write-reads =
       let f = held-out s t position h in
@@ -208,5 +228,5 @@ module _ (s : List ℕ) (position : ℕ) (out : List ℕ) (e : writeNumber s pos
   write-front = rw e (take-put (length (writtenBytes s position)) (writtenBytes s position) out refl (ltb-false _ _ (T-false _ (tests .2))))
 
   pub write-front-reads : readBytes (take (length (writtenBytes s position)) (writeOutput s position out))
-      ≡ Message (num ownAt 4 s) (datumAt s position .left) (datumAt s position .right) (length (datumAt s position .terms))
+      ≡ Message (num ownAt 4 s) (down (datumAt s position .left)) (up (datumAt s position .right)) (length (datumAt s position .terms))
   write-front-reads = ap readBytes write-front ∙ write-reads s write-form position write-held

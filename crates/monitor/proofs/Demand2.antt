@@ -12,7 +12,7 @@ use lib.ListN.{length}
 use Rattle.numbers.specs.Numbers.{Bytes, wordsOf, bytesOf}
 use Rattle.numbers.proofs.NumberLaws.{bytes-words, words-bytes, length-bytesOf}
 use Rattle.predicates.specs.Predicates.{isNormal}
-use Rattle.message.specs.Words.{masks, termsMost}
+use Rattle.message.specs.Words.{masks, endsLimit, termsMost}
 use Rattle.message.specs.Read.{isEnds, termWords}
 use Rattle.message.specs.Write.{messageWords}
 use Rattle.radio.specs.Names.{wanted, namesFit}
@@ -22,7 +22,7 @@ use Rattle.message.specs.declared.Reading.the-variants.{Message, Refused}
 use Rattle.message.proofs.MessageLaws.{Masks}
 use Rattle.radio.proofs.MessageLaws.{words-message, read-write, terms-write, epochs-write}
 use Rattle.radio.proofs.MessageLaws.{rewrite-ends, rewrite-form, rewrite-reads, rewrite-terms, rewrite-epochs, words-rewritten}
-use Rattle.state.specs.Model.{nameMost, endLimit}
+use Rattle.state.specs.Model.{nameMost}
 use Rattle.engine.specs.Receiving.{Delivery}
 use Rattle.monitor.specs.Messages.{readBytes, rewrittenBytes}
 use Rattle.monitor.specs.Receive.{brings, delivered, deliveredAs, receiptWith}
@@ -74,7 +74,7 @@ module _ {s l r n : ℕ} (m : List ℕ) (e : readBytes m ≡ Message s l r n) wh
 
 -- "Written messages read back to the same sender, interval and terms", and so a receipt of one brings them
 pub message-brings : (d : Delivery) → T (namesFit (wanted (d .sender) (d .terms)) (d .names)) → d .sender ≤ nameMost → d .left ≤ d .right
-    → d .right < endLimit → length (d .terms) ≤ termsMost → T (isNormal (d .terms)) → Masks (d .terms)
+    → d .right < endsLimit → length (d .terms) ≤ termsMost → T (isNormal (d .terms)) → Masks (d .terms)
     → delivered (receiptWith (d .least) (d .greatest) (d .readings) (bytesOf (messageWords (d .sender) (d .names) (d .left) (d .right) (d .terms))))
     ≡ brings d
 unfolding delivered deliveredAs readBytes

@@ -1,6 +1,6 @@
 -- What the calls make is in form, over the bytes that C lends: a taken setting up leaves a state in form, and ageing and receiving, taken or
 -- refused, leave in form what was in form. The length of the lent bytes stays.
--- The idea: a refused call leaves the bytes as they were. A taken one stores a state at their front, in at least 5,265 bytes; this state is right
+-- The idea: a refused call leaves the bytes as they were. A taken one stores a state at their front, in at least 5,393 bytes; this state is right
 -- by `set-up-ok`, `age-ok` and `receive-ok` of the crate `engine`, and a right state in front is in form, whatever lies beyond (`encode-form`).
 -- What `receive-ok` asks of the message is what a taken reading tells. No contract cites this file. Assumes nothing.
 use Prim.Native.Nat.{ℕ, _≤_}

@@ -7,6 +7,7 @@ use mathlib.Core.List.{List}
 use lib.ListN.{length}
 use lib.Dec.{ltb, leb}
 use Rattle.numbers.specs.Numbers.{num, bytesOf}
+use Rattle.ends.specs.Ends.{down, up}
 use Rattle.epochs.specs.Epochs.{epochsIn}
 use Rattle.message.specs.Write.{messageWords}
 use Rattle.radio.specs.Names.{wanted, namesOf}
@@ -34,12 +35,12 @@ ageState s reading = after (ageNumber s reading) (stateBytes (done (stateOf s) (
 -- ---- writing: "24 (state), 25, 23, 24 (output)"
 
 -- "takes one held datum by its position (0 is the oldest), and gives the own name as sender", with an epoch word for it and for each identifier in
--- the terms (document 02, W-204): the epochs known
+-- the terms (document 02, W-204): the epochs known. Messages "round the left end down and the right end up" (W-205)
 unfoldable pub writtenWords : List ℕ → ℕ → List ℕ
 writtenWords s position =
     let own = num ownAt 4 s in
     let d = datumAt s position in
-    messageWords own (namesOf (epochsIn epochsAt s) (wanted own (d .terms))) (d .left) (d .right) (d .terms)
+    messageWords own (namesOf (epochsIn epochsAt s) (wanted own (d .terms))) (down (d .left)) (up (d .right)) (d .terms)
 
 unfoldable pub writtenBytes : List ℕ → ℕ → List ℕ
 writtenBytes s position = bytesOf (writtenWords s position)

@@ -50,8 +50,8 @@ fn datum_words(state: &[u8], position: usize, words: &mut [u32]) -> usize
 {
     let at = state::DATA_AT + position * state::DATUM_SIZE;
     let own = numbers::get32(state, state::OWN_AT);
-    let left = numbers::get64(state, at);
-    let right = numbers::get64(state, at + state::RIGHT_IN);
+    let ends = state::intervals::get(state, position);
+    let right = ends::round_up(ends.right);
     let row = at + state::ROW_IN;
     let count = numbers::get32(state, row) as usize;
     let mut masks = [0u32; state::DATUM_TERMS];
@@ -59,7 +59,14 @@ fn datum_words(state: &[u8], position: usize, words: &mut [u32]) -> usize
     let mask = radio::read::wanted(own, &masks[..count]);
     let mut names = [0u32; epochs::EPOCHS_MOST];
     let given = radio::write::known_names(state, state::EPOCHS_AT, mask, &mut names);
-    message::write::write(words, own, &names[..given], left, right, &masks[..count]);
+    message::write::write(
+        words,
+        own,
+        &names[..given],
+        ends.left.whole,
+        right,
+        &masks[..count],
+    );
     given + count + 6
 }
 

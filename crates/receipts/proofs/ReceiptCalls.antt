@@ -1,6 +1,6 @@
 -- The exits of a receipt, on plain values: the row that the predicate is formed in, when it is true, and what each exit's number and bytes are.
 -- No contract cites this file. Assumes nothing.
-use Prim.Native.Nat.{ℕ, _+_, _^_, _≤_, _<_}
+use Prim.Native.Nat.{ℕ, _+_, _*_, _^_, _≤_, _<_}
 use mathlib.Core.Path.{_≡_, refl, sym, ap, subst, _∙_}
 use mathlib.Core.Bool.{Bool, true, false, not, cond, and-true, and-false}
 use mathlib.Core.Logic.{inl, inr}
@@ -23,6 +23,7 @@ use Rattle.clocks.specs.declared.Readings.{Readings}
 use Rattle.clocks.specs.declared.Readings.the-variants.{Without}
 use Rattle.clocks.specs.Clocks.{Saved, nothing, readingsFail, violatedBy, watched}
 use Rattle.epochs.specs.Epochs.{withdraw, older, spoken}
+use Rattle.ends.specs.Ends.{million}
 use Rattle.state.specs.Model.{Datum, datum, Head, Store, State, withClocks, nameMost, endLimit}
 use Rattle.state.specs.Refusal.{after}
 use Rattle.state.specs.Layout.{stateSize, datumTerms, stateBytes, stateOf, headOf, storeOf}
@@ -155,8 +156,8 @@ module _ (s : List ℕ) (g : Delivery) where
       receipt-counts h = rw (ne-eqb _ _ other, lt-leb _ _ below, le-ltb _ _ h)
 
 -- the datum with the grown ends, told of the predicate in the row
-pub datum-arrived : (s : List ℕ) (g : Delivery) (left right : ℕ) (p : List ℕ) → left ≡ g .left + leastAdvance (headOf s .drift) (g .least)
-    → right ≡ g .right + greatestAdvance (headOf s .drift) (g .greatest) → p ≡ arrived (headOf s) g .terms → datum left right p ≡ arrived (headOf s) g
+pub datum-arrived : (s : List ℕ) (g : Delivery) (left right : ℕ) (p : List ℕ) → left ≡ g .left * million + leastAdvance (headOf s .drift) (g .least)
+    → right ≡ g .right * million + greatestAdvance (headOf s .drift) (g .greatest) → p ≡ arrived (headOf s) g .terms → datum left right p ≡ arrived (headOf s) g
 unfolding arrived grown
 datum-arrived s g left right p l r e = rw (l, r, e)
 

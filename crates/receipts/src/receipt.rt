@@ -3,7 +3,7 @@
 ghost use mathlib.Core.Path.{_≡_};
 ghost use mathlib.Core.Bool.{Bool, not, cond};
 ghost use mathlib.Core.List.{[], _∷_};
-ghost use Prim.Native.Nat.{_+_, _≤_, _<_, _^_};
+ghost use Prim.Native.Nat.{_+_, _*_, _≤_, _<_, _^_};
 ghost use lib.Dec.{T};
 ghost use lib.ListN.{length, take as ListN·take};
 ghost use lib.Seq.{sets};
@@ -13,7 +13,8 @@ ghost use Rattle.epochs.specs.Epochs.{withdraw};
 ghost use Rattle.epochs.specs.code.Known.{Named};
 ghost use Rattle.clocks.specs.declared.Readings.the-variants.{Without};
 ghost use Rattle.clocks.specs.Clocks.{readingsFail, violatedBy};
-ghost use Rattle.state.specs.Model.{Store, nameMost, endLimit};
+ghost use Rattle.ends.specs.Ends.{million, countOf, BothSplit};
+ghost use Rattle.state.specs.Model.{Store, nameMost, lastWhole};
 ghost use Rattle.state.specs.Layout.{stateSize, datumTerms, stateBytes, headOf, storeOf, stateOf};
 ghost use Rattle.state.specs.Refusal.{after};
 ghost use Rattle.state.specs.Form.{inForm};
@@ -27,7 +28,8 @@ ghost use Rattle.engine.specs.Receiving.{Delivery, delivery};
 ghost use Rattle.engine.specs.Calls.{receive as Calls·receive, done, clockOf};
 ghost use Rattle.engine.specs.Refusals.{delayMost, receiptRefusal};
 use clocks::Readings;
-use state::Ends;
+use ends::End;
+use ends::Ends;
 
 // Copies the terms of term words to the front of a row.
 fn copy_masks(words: &[u32], row: &mut [u32])
@@ -44,14 +46,23 @@ fn copy_masks(words: &[u32], row: &mut [u32])
 // The ends of a message's interval, grown by the delays: these were counted on the own clock, so its drift counts as in ageing.
 fn grow(state: &[u8], least: u64, greatest: u64, left: u64, right: u64) -> Ends
     requires { ⌜ (stateSize ≤ length (now state)) × T (inForm (now state)) ⌝ }
-    requires { ⌜ (least ≤ greatest) × (greatest ≤ delayMost) × (left ≤ right) × (right < endLimit) ⌝ }
-    ensures { λ new. ⌜ new .left ≡ left + leastAdvance (headOf (now (state .entry)) .drift) least ⌝ }
-    ensures { λ new. ⌜ new .right ≡ right + greatestAdvance (headOf (now (state .entry)) .drift) greatest ⌝ }
+    requires { ⌜ (least ≤ greatest) × (greatest ≤ delayMost) × (left ≤ right) × (right ≤ lastWhole) ⌝ }
+    ensures { λ new. ⌜ countOf (new .left) ≡ left * million + leastAdvance (headOf (now (state .entry)) .drift) least ⌝ }
+    ensures { λ new. ⌜ countOf (new .right) ≡ right * million + greatestAdvance (headOf (now (state .entry)) .drift) greatest ⌝ }
+    ensures { λ new. ⌜ BothSplit new ⌝ }
 {
     let drift = numbers::get32(state, state::DRIFT_AT) as u64;
+    let lo = engine::ageing::least_advance(least, drift);
+    let hi = engine::ageing::greatest_advance(greatest, drift);
     Ends {
-        left: left + (least - engine::ageing::drift_over(least, drift)),
-        right: right + (greatest + engine::ageing::drift_over(greatest, drift)),
+        left: End {
+            whole: left + lo.whole,
+            millionths: lo.millionths,
+        },
+        right: End {
+            whole: right + hi.whole,
+            millionths: hi.millionths,
+        },
     }
 }
 
@@ -96,7 +107,8 @@ fn copy(out: &mut [u8], p: &[u8])
 // Takes the datum of these ends under p: a true one where nobody is blamed adds nothing, and any other takes the four steps. Answers 0 or 32.
 fn take_here(state: &mut [u8], new: Ends, p: &[u32], blame: u32) -> u32
     requires { ⌜ (stateSize ≤ length (now state)) × T (inForm (now state)) ⌝ }
-    requires { ⌜ (0 < length (now p)) × (length (now p) ≤ datumTerms) × T (isNormal (now p)) × ((blame ≡ 0 → ⊥) → T (implies (blame ∷ []) (now p))) ⌝ }
+    requires { ⌜ (0 < length (now p)) × (length (now p) ≤ datumTerms) × T (isNormal (now p)) × ((blame ≡ 0 → ⊥) → T (implies (blame ∷ []) (now p)))
+        × BothSplit new ⌝ }
     ensures { λ r. ⌜ r ≡ cond (tooMany (takenBy blame (datumOf new (now (p .entry))) (storeOf (now (state .entry))))) 32 0 ⌝ }
     ensures { λ r. ⌜ (let k : Store = takenBy blame (datumOf new (now (p .entry))) (storeOf (now (state .entry))) in
         now (state .exit) ≡ after r (stateBytes (record { head = headOf (now (state .entry)); store = k })) (now (state .entry))) ⌝ }
@@ -110,7 +122,8 @@ fn take_here(state: &mut [u8], new: Ends, p: &[u32], blame: u32) -> u32
 // The same with the names of `risen` withdrawn first. What is held and known is kept, and put back where the receipt is refused.
 fn take_risen(state: &mut [u8], new: Ends, p: &[u32], risen: u32, blame: u32) -> u32
     requires { ⌜ (stateSize ≤ length (now state)) × T (inForm (now state)) ⌝ }
-    requires { ⌜ (0 < length (now p)) × (length (now p) ≤ datumTerms) × T (isNormal (now p)) × ((blame ≡ 0 → ⊥) → T (implies (blame ∷ []) (now p))) ⌝ }
+    requires { ⌜ (0 < length (now p)) × (length (now p) ≤ datumTerms) × T (isNormal (now p)) × ((blame ≡ 0 → ⊥) → T (implies (blame ∷ []) (now p)))
+        × BothSplit new ⌝ }
     ensures { λ r. ⌜ (let k : Store = takenBy blame (datumOf new (now (p .entry))) (withdrawn risen (storeOf (now (state .entry)))) in
         r ≡ cond (tooMany k) 32 0) ⌝ }
     ensures { λ r. ⌜ (let k : Store = takenBy blame (datumOf new (now (p .entry))) (withdrawn risen (storeOf (now (state .entry)))) in
@@ -131,7 +144,8 @@ fn take_risen(state: &mut [u8], new: Ends, p: &[u32], risen: u32, blame: u32) ->
 // and epochs stay as they are.
 fn take(state: &mut [u8], readings: Readings, sender: u32, new: Ends, p: &[u32], risen: u32) -> u32
     requires { ⌜ (stateSize ≤ length (now state)) × T (inForm (now state)) × (sender ≤ nameMost) × T (not (readingsFail readings)) ⌝ }
-    requires { ⌜ (0 < length (now p)) × (length (now p) ≤ datumTerms) × T (isNormal (now p)) × T (implies (2 ^ sender ∷ []) (now p)) ⌝ }
+    requires { ⌜ (0 < length (now p)) × (length (now p) ≤ datumTerms) × T (isNormal (now p)) × T (implies (2 ^ sender ∷ []) (now p))
+        × BothSplit new ⌝ }
     ensures { λ r. ⌜ (let violation : Bool =
         violatedBy (headOf (now (state .entry)) .drift) (clockOf (headOf (now (state .entry))) sender) readings in
         r ≡ cond (tooMany (judged violation sender (datumOf new (now (p .entry))) (withdrawn risen (storeOf (now (state .entry)))))) 32 0) ⌝ }
@@ -161,7 +175,7 @@ pub fn deliver(
 ) -> u32
     requires { ⌜ (stateSize ≤ length (now state)) × T (inForm (now state)) ⌝ }
     requires { ⌜ (least ≤ greatest) × (greatest ≤ delayMost) × (sender ≤ nameMost) × T (not (readingsFail readings)) ⌝ }
-    requires { ⌜ (left ≤ right) × (right < endLimit) × (length (now words) ≤ datumTerms) × Named (now names) ⌝ }
+    requires { ⌜ (left ≤ right) × (right ≤ lastWhole) × (length (now words) ≤ datumTerms) × Named (now names) ⌝ }
     ensures { λ r. ⌜ (let g : Delivery = delivery least greatest readings sender (now (names .entry)) left right (masks (now (words .entry))) in
         r ≡ receiptRefusal (stateOf (now (state .entry))) g) ⌝ }
     ensures { λ r. ⌜ (let g : Delivery = delivery least greatest readings sender (now (names .entry)) left right (masks (now (words .entry))) in
@@ -172,7 +186,7 @@ pub fn deliver(
         return 18;
     }
     let new = grow(state, least, greatest, left, right);
-    if state::END_LIMIT <= new.right {
+    if !state::intervals::storable(new.right) {
         return 30;
     }
     let heard = epochs::known::hear(state, state::EPOCHS_AT, own, names);

@@ -8,6 +8,7 @@ ghost use Prim.Native.Nat.{_*_, _≤_, _<_, max};
 ghost use lib.Dec.{T};
 ghost use lib.ListN.{length};
 ghost use Rattle.predicates.specs.Predicates.{implies};
+ghost use Rattle.ends.specs.Ends.{BothSplit};
 ghost use Rattle.state.specs.Model.{Store};
 ghost use Rattle.state.specs.Layout.{stateSize, datumTerms, entryTerms, stateBytes, heldCount, entryCount, headOf, storeOf};
 ghost use Rattle.state.specs.Form.{inForm};
@@ -15,11 +16,13 @@ ghost use Rattle.state.specs.Refusal.{after};
 ghost use Rattle.state.specs.code.Tables.{datumOf};
 ghost use Rattle.steps.specs.Steps.{settled, tooMany};
 ghost use Rattle.receipts.specs.code.Blame.{blamedBy};
-use state::Ends;
+use ends::Ends;
 use steps::Rows;
 
-// A row more than there are places for data, since a receipt counts at its end; and its masks.
+// A row more than there are places for data, since a receipt counts at its end; two numbers for each of its ends, and its masks.
 const DATA_ROWS: usize = state::DATA_MOST + 1;
+
+const DATA_ENDS: usize = DATA_ROWS * 2;
 
 const DATA_MASKS: usize = DATA_ROWS * state::DATUM_TERMS;
 
@@ -35,14 +38,14 @@ const FEW_MASKS: usize = FEW_DATA * state::ENTRY_TERMS;
 fn take_in(state: &mut [u8], new: Ends, p: &[u32], old: Rows, masks: &mut [u32], blame: u32) -> u32
     requires { ⌜ (stateSize ≤ length (now state)) × T (inForm (now state)) ⌝ }
     requires { ⌜ (old .held ≡ heldCount (now state)) × (old .known ≡ entryCount (now state)) ⌝ }
-    requires { ⌜ (0 < length (now p)) × (length (now p) ≤ datumTerms) × (max 1 (old .held) * entryTerms ≤ length (now masks)) ⌝ }
+    requires { ⌜ (0 < length (now p)) × (length (now p) ≤ datumTerms) × (max 1 (old .held) * entryTerms ≤ length (now masks)) × BothSplit new ⌝ }
     requires { ⌜ ((blame ≡ 0 → ⊥) → T (implies (blame ∷ []) (now p))) ⌝ }
     ensures { λ r. ⌜ r ≡ cond (tooMany (settled (datumOf new (now (p .entry))) (blamedBy blame (storeOf (now (state .entry)))))) 32 0 ⌝ }
     ensures { λ r. ⌜ (let k : Store = settled (datumOf new (now (p .entry))) (blamedBy blame (storeOf (now (state .entry)))) in
         now (state .exit) ≡ after r (stateBytes (record { head = headOf (now (state .entry)); store = k })) (now (state .entry))) ⌝ }
 {
-    let mut lefts = [0u64; DATA_ROWS];
-    let mut rights = [0u64; DATA_ROWS];
+    let mut lefts = [0u64; DATA_ENDS];
+    let mut rights = [0u64; DATA_ENDS];
     let mut held = [0u32; DATA_ROWS];
     let mut terms = [0u32; DATA_MASKS];
     let mut counts = [0u32; state::ROWS_MOST];
@@ -89,7 +92,7 @@ fn take_in(state: &mut [u8], new: Ends, p: &[u32], old: Rows, masks: &mut [u32],
 fn take_many(state: &mut [u8], new: Ends, p: &[u32], old: Rows, blame: u32) -> u32
     requires { ⌜ (stateSize ≤ length (now state)) × T (inForm (now state)) ⌝ }
     requires { ⌜ (old .held ≡ heldCount (now state)) × (old .known ≡ entryCount (now state)) ⌝ }
-    requires { ⌜ (0 < length (now p)) × (length (now p) ≤ datumTerms) × ((blame ≡ 0 → ⊥) → T (implies (blame ∷ []) (now p))) ⌝ }
+    requires { ⌜ (0 < length (now p)) × (length (now p) ≤ datumTerms) × ((blame ≡ 0 → ⊥) → T (implies (blame ∷ []) (now p))) × BothSplit new ⌝ }
     ensures { λ r. ⌜ r ≡ cond (tooMany (settled (datumOf new (now (p .entry))) (blamedBy blame (storeOf (now (state .entry)))))) 32 0 ⌝ }
     ensures { λ r. ⌜ (let k : Store = settled (datumOf new (now (p .entry))) (blamedBy blame (storeOf (now (state .entry)))) in
         now (state .exit) ≡ after r (stateBytes (record { head = headOf (now (state .entry)); store = k })) (now (state .entry))) ⌝ }
@@ -102,7 +105,7 @@ fn take_many(state: &mut [u8], new: Ends, p: &[u32], old: Rows, blame: u32) -> u
 // few data are held, less is cleared.
 pub(crate) fn take_datum(state: &mut [u8], new: Ends, p: &[u32], blame: u32) -> u32
     requires { ⌜ (stateSize ≤ length (now state)) × T (inForm (now state)) ⌝ }
-    requires { ⌜ (0 < length (now p)) × (length (now p) ≤ datumTerms) × ((blame ≡ 0 → ⊥) → T (implies (blame ∷ []) (now p))) ⌝ }
+    requires { ⌜ (0 < length (now p)) × (length (now p) ≤ datumTerms) × ((blame ≡ 0 → ⊥) → T (implies (blame ∷ []) (now p))) × BothSplit new ⌝ }
     ensures { λ r. ⌜ r ≡ cond (tooMany (settled (datumOf new (now (p .entry))) (blamedBy blame (storeOf (now (state .entry)))))) 32 0 ⌝ }
     ensures { λ r. ⌜ (let k : Store = settled (datumOf new (now (p .entry))) (blamedBy blame (storeOf (now (state .entry)))) in
         now (state .exit) ≡ after r (stateBytes (record { head = headOf (now (state .entry)); store = k })) (now (state .entry))) ⌝ }

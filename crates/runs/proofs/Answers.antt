@@ -1,9 +1,9 @@
 -- What C reads in the bytes that asking and the fewest failures write is the answer, and what an answer tells of the instants.
 -- The idea: each number stands in 8 bytes of its own, and fits them. An end of an answer is an instant that counts; it lies in an active datum's
--- interval, whose ends are below 2^58, since without an active datum all instants would count and no end would be the last. A set of the fewest
+-- interval, whose ends are at most 2^58 - 1, since without an active datum all instants would count and no end would be the last. A set of the fewest
 -- failures has names from 0 to 28, at most 4 of them. Assumes nothing.
 use Prim.Native.Nat.{ℕ, suc, _*_, _^_, _≤_, _<_}
-use mathlib.Core.Path.{_≡_, subst}
+use mathlib.Core.Path.{_≡_, refl, ap, subst, _∙_}
 use mathlib.Core.Logic.{_↔_, _⊎_, inl, inr}
 use mathlib.Core.Bool.{Bool, true, _&&_}
 use mathlib.Core.List.{List, [], _∷_}
@@ -29,7 +29,8 @@ use Rattle.asking.specs.declared.Answer.the-variants.{Contradicted, Open, Betwe
 use Rattle.asking.specs.declared.Fewest.{Fewest}
 use Rattle.asking.specs.declared.Fewest.the-variants.{Over, Few}
 use Rattle.asking.specs.Instants.{Within, InAll, Counts, Gives}
-use Rattle.asking.specs.Asking.{answerNumbers}
+use Rattle.ends.specs.Ends.{down, up}
+use Rattle.asking.specs.Asking.{rounded, answerNumbers}
 use Rattle.asking.specs.Fewest.{Works, FewestOf, fewestNumbers}
 use Rattle.asking.proofs.AnswerLaws.{gives-one}
 use Rattle.monitor.specs.Ask.{wide}
@@ -61,7 +62,7 @@ wide-num ns out t h i k =
 abbrev Fits : Answer → Type 0
 Fits Contradicted = Unit {0}
 Fits Open = Unit {0}
-Fits (Between l r) = (l < endLimit) × (r < endLimit)
+Fits (Between l r) = (l < 2 ^ 58) × (r < 2 ^ 58)
 
 pub answer-in : (a : Answer) (out : List ℕ) → Fits a → 24 ≤ length out → answerIn (put 0 (wide (answerNumbers a)) out) ≡ a
 unfolding answerIn answerNumbers
@@ -73,14 +74,14 @@ answer-in (Between l r) out f h =
     both (Small l) (Small r && true) (lt→ltb l (256 ^ 8) (omega arith)) (both (Small r) true (lt→ltb r (256 ^ 8) (omega arith)) tt) in
     rw (wide-num ns out small h 0 (omega arith), wide-num ns out small h 1 (omega arith), wide-num ns out small h 2 (omega arith))
 
--- the ends of an answer over a right state
-pub answer-fits : (limit : ℕ) (st : State) → T (stateOk st) → (a : Answer) → Gives (Counts limit st) a → Fits a
+-- the rounded ends of an answer over a right state
+pub answer-fits : (limit : ℕ) (st : State) → T (stateOk st) → (a : Answer) → Gives (Counts limit st) a → Fits (rounded a)
 answer-fits limit st t Contradicted g = tt
 answer-fits limit st t Open g = tt
 answer-fits limit st t (Between l r) g =
     let low = g .2 (pos l) (g .0) in
     let high = last (g .1) in
-    (omega arith, high)
+    (omega arith, omega arith)
   where
     last : Counts limit st (pos r) → r < endLimit
     last (s, a, fine) = go (active-cases s (st .store .held))
@@ -104,13 +105,34 @@ ends-give P l r = (
   λ e. (e .0 .0, e .1 .0, λ x p. within-ends l r x .1 (e .0 .1 x p, e .1 .1 x p)),
 )
 
+-- what a rounded answer was before
+was-contradicted : (a : Answer) → rounded a ≡ Contradicted → a ≡ Contradicted
+was-contradicted Contradicted e = refl
+was-contradicted Open e = e
+was-contradicted (Between m n) e = let z : _≡_ {A = ℕ} 0 1 = cc in absurd (omega arith)
+
+was-open : (a : Answer) → rounded a ≡ Open → a ≡ Open
+was-open Contradicted e = e
+was-open Open e = refl
+was-open (Between m n) e = let z : _≡_ {A = ℕ} 0 1 = cc in absurd (omega arith)
+
+was-between : (a : Answer) (l r : ℕ) → rounded a ≡ Between l r → (m : ℕ) × (n : ℕ) × (a ≡ Between m n) × (l ≡ down m) × (r ≡ up n)
+was-between Contradicted l r e = let z : _≡_ {A = ℕ} 0 1 = cc in absurd (omega arith)
+was-between Open l r e = let z : _≡_ {A = ℕ} 0 1 = cc in absurd (omega arith)
+was-between (Between m n) l r e = (m, n, refl, cc, cc)
+
 -- one set of instants gives one answer
-pub gives-tells : (P : ℤ → Type 0) (a : Answer) → Gives P a → Tells P a
+pub gives-tells : (P : ℤ → Type 0) (a : Answer) → Gives P a → Tells P (rounded a)
 gives-tells P a g =
     record {
-      contradicted = (λ e. subst (Gives P) e g, λ h. gives-one P a Contradicted g h);
-      unbounded = (λ e. subst (Gives P) e g, λ h. gives-one P a Open g h);
-      between = λ l r. (λ e. ends-give P l r .0 (subst (Gives P) e g), λ h. gives-one P a (Between l r) g (ends-give P l r .1 h));
+      contradicted = (λ e. subst (Gives P) (was-contradicted a e) g, λ h. ap rounded (gives-one P a Contradicted g h));
+      unbounded = (λ e. subst (Gives P) (was-open a e) g, λ h. ap rounded (gives-one P a Open g h));
+      between = λ l r. (
+        λ e. let w = was-between a l r e in
+            let ends = ends-give P (w .0) (w .1) .0 (subst (Gives P) (w .2) g) in
+            (w .0, w .1, ends .0, ends .1, w .3, w .4),
+        λ h. ap rounded (gives-one P a (Between (h .0) (h .1)) g (ends-give P (h .0) (h .1) .1 (h .2, h .3))) ∙ rw (h .4, h .5),
+      );
     }
 
 -- ---- the fewest failures

@@ -1,5 +1,5 @@
 -- Runs by the states that their bytes hold: on bytes in form, a request's number and the state that it leaves are those of the state read from them.
--- So a run with written-out requests computes on a few numbers instead of 5,265 bytes.
+-- So a run with written-out requests computes on a few numbers instead of 5,393 bytes.
 -- The idea: a taken call stores a right state, which is read back as it was stored (`put-state`); a refused one leaves the bytes. Assumes nothing.
 use Prim.Native.Nat.{ℕ, _≤_}
 use mathlib.Core.Path.{_≡_, refl, ap, _∙_}
@@ -102,6 +102,16 @@ pub state-run : (qs : List Request) (s : List ℕ) → stateSize ≤ length s �
 unfolding bytesRun stateFrom
 state-run [] s h t = refl
 state-run (q ∷ qs) s h t = state-run qs (bytesAfter s q) (long-on s h t q) (form-on s h t q) ∙ ap (λ (st : State). stateFrom st qs) (state-on s h t q)
+
+pub form-run : (qs : List Request) (s : List ℕ) → stateSize ≤ length s → T (inForm s) → T (inForm (bytesRun s qs))
+unfolding bytesRun
+form-run [] s h t = t
+form-run (q ∷ qs) s h t = form-run qs (bytesAfter s q) (long-on s h t q) (form-on s h t q)
+
+pub long-run : (qs : List Request) (s : List ℕ) → stateSize ≤ length s → T (inForm s) → stateSize ≤ length (bytesRun s qs)
+unfolding bytesRun
+long-run [] s h t = h
+long-run (q ∷ qs) s h t = long-run qs (bytesAfter s q) (long-on s h t q) (form-on s h t q)
 
 -- ---- a run
 

@@ -15,6 +15,7 @@ use Rattle.numbers.specs.Numbers.{bytes, bytesOf, wordsOf, put, num}
 use Rattle.predicates.specs.Predicates.{isNormal}
 use Rattle.predicates.specs.Lists.{all, In}
 use Rattle.predicates.proofs.ListLaws.{T-false, cond-ind, both-l, both-r}
+use Rattle.ends.specs.Ends.{down, up}
 use Rattle.message.specs.Words.{payload, masks, endsLimit}
 use Rattle.message.specs.Read.{senderOf, countOf, headWordFits, isEnds, opens, start, span, pair, middle, kindsFit, checkFits, withSpan}
 use Rattle.message.specs.Read.{shapeRefusal, contents, refusedOr}
@@ -189,7 +190,7 @@ unfolding writtenWords
 written-size s position =
     let d = datumAt s position in
     let own = num ownAt 4 s in
-    omega (arith, length-written-bytes s position, length-message-more own (namesOf (epochsIn epochsAt s) (wanted own (d .terms))) (d .left) (d .right) (d .terms))
+    omega (arith, length-written-bytes s position, length-message-more own (namesOf (epochsIn epochsAt s) (wanted own (d .terms))) (down (d .left)) (up (d .right)) (d .terms))
 
 -- what comes behind a test matters only where it lets pass
 refuse-same : (b : Bool) (number m n : ℕ) → (T (not b) → m ≡ n) → refuse b number m ≡ refuse b number n

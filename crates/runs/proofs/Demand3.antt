@@ -12,7 +12,7 @@ use Rattle.state.specs.Layout.{stateOf, stateSize}
 use Rattle.state.specs.Form.{inForm}
 use Rattle.state.proofs.StateLaws.{form-ok}
 use Rattle.asking.specs.Instants.{Counts}
-use Rattle.asking.specs.Asking.{answer}
+use Rattle.asking.specs.Asking.{exact, answer}
 use Rattle.asking.specs.Fewest.{fewest}
 use Rattle.asking.proofs.AnswerLaws.{gives-same, answer-given}
 use Rattle.asking.proofs.FewestLaws.{fewest-is}
@@ -38,18 +38,18 @@ module _ (s : List ℕ) (long : stateSize ≤ length s) (form : T (inForm s)) (o
   -- what C reads in the output is the answer over the state
   pub ask-answers : (limit : ℕ) → limit ≤ limitMost → answerSize ≤ length out
       → (askNumber s limit out ≡ 0) × (answerIn (askOutput s limit out) ≡ answer limit (stateOf s))
-  unfolding askOutput askedBytes after
+  unfolding askOutput askedBytes after answer
   ask-answers limit l h =
-      let a = answer limit (stateOf s) in
+      let a = exact limit (stateOf s) in
       let taken = ask-taken limit l h in
-      (taken, rw taken (answer-in a out (answer-fits limit (stateOf s) (form-ok s form) a (answer-given limit (stateOf s))) h))
+      (taken, rw taken (answer-in (answer limit (stateOf s)) out (answer-fits limit (stateOf s) (form-ok s form) a (answer-given limit (stateOf s))) h))
 
 pub demand3 : Demand3
-unfolding Demand3
+unfolding Demand3 answer
 demand3 r limit l out h =
     let s = stateAfter r in
     let so = reached r in
-    let a = answer limit (stateOf s) in
+    let a = exact limit (stateOf s) in
     let given = answer-given limit (stateOf s) in
     let told = ask-answers s (so .long) (so .form) out limit l h in (
       told .0,

@@ -68,7 +68,7 @@ example-holds buffer h =
       ap (λ (ps : List Step). bookOf (opened exampleSetup) ps .lines) (run-steps r) ∙ example-states .1,
     )
 
--- the run in 5,265 zeros
+-- the run in 5,393 zeros
 pub example : Run
 unfolding Example
 example =

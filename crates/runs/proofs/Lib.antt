@@ -1,7 +1,8 @@
--- Demand 1 and demand 3 with what they rest on, lowest first: what a receipt, a violation and an ageing mean for one set, what a run keeps, the
+-- Demand 1, ageing in pieces and demand 3 with what they rest on, lowest first: what a receipt, a violation and an ageing mean for one set, what a run keeps, the
 -- answers; then runs by the states that their bytes hold, the table of cases and an example.
 pub mod Demand1
 pub mod SameBytes
+pub mod AgedOnce
 pub mod PartsStay
 pub mod ReceiptMeaning
 pub mod BlameMeaning

@@ -4,10 +4,10 @@
 use Prim.Native.Nat.{ℕ, _≤_}
 use mathlib.Core.Path.{_≡_, refl, ap, _∙_}
 use mathlib.Core.Bool.{Bool, true, false, _&&_}
-use mathlib.Core.List.{List, [], _∷_}
+use mathlib.Core.List.{List, [], _∷_, _++_}
 use native.Mathlib.Omega.{arith}
 use lib.Dec.{T, eqb, eqb→eq, nltb→le}
-use lib.ListN.{length, getD}
+use lib.ListN.{length, getD, length-append}
 use Rattle.names.specs.Sets.{subset, union, minus, has}
 use Rattle.numbers.specs.Numbers.{num, bytes, tab, wordsOf, bytesOf}
 use Rattle.predicates.specs.Lists.{all}
@@ -21,8 +21,9 @@ use Rattle.radio.specs.Names.{named, wanted, rises, namesFit, namesOf}
 use Rattle.radio.specs.Read.{leading, epochCount, epochPart, epochsFit, readWords, epochWords}
 use Rattle.message.specs.Write.{endWords, front, body, messageWords}
 use Rattle.state.specs.Model.{Datum, datum, State}
-use Rattle.state.specs.Layout.{stateSize, headOf, storeOf, stateOf}
-use Rattle.state.specs.Form.{inForm}
+use Rattle.state.specs.Layout.{stateSize, stateBytes, headOf, storeOf, stateOf}
+use Rattle.state.specs.Form.{termFits, termsFit, datumOk, headOk, storeOk, countsOk, stateOk, inForm}
+use Rattle.state.proofs.StateLaws.{length-state, encode-form, decode-encode}
 use Rattle.state.proofs.LentLaws.{refuse-none, lent-next}
 use Rattle.entries.specs.Entries.{explained, learn, withdrawnEntries}
 use Rattle.steps.specs.Steps.{disjoint, learnt, unexplained, same, meet, met, without, betters, stored, heldAfter, settled, received, blamed, swept, judged, tooMany}
@@ -32,21 +33,21 @@ use Rattle.engine.specs.Ageing.{leastAdvance, greatestAdvance, slow, fast, wide
 use Rattle.engine.specs.Receiving.{grown}
 use Rattle.engine.specs.Hearing.{spokenBy, risen, late, cleared, hearing, heeded, arrived}
 use Rattle.clocks.specs.declared.Triple.{Triple}
-use Rattle.clocks.specs.Clocks.{strays, aheadOf, behindOf, Saved, nothing, three, saving as Clocks·saving, violates, readingsFail, violatedBy, watched}
+use Rattle.clocks.specs.Clocks.{savedOk, strays, aheadOf, behindOf, Saved, nothing, three, saving as Clocks·saving, violates, readingsFail, violatedBy, watched}
 use Rattle.clocks.specs.Worked.{triple}
 use Rattle.engine.specs.Calls.{begun, setUp, clockOf, violated, moved, made, done}
 use Rattle.engine.specs.Refusals.{setUpRefusal, passesEnd, ageRefusal, receiptRefusal}
 use Rattle.asking.specs.declared.Answer.{Answer}
 use Rattle.asking.specs.declared.Answer.the-variants.{Contradicted, Open, Between}
-use Rattle.asking.specs.Asking.{cut, common, active, leaves, setsOf, sets, either, leftBy, answer}
+use Rattle.asking.specs.Asking.{cut, common, active, leaves, setsOf, sets, either, leftBy, exact, answer}
 use Rattle.monitor.specs.Messages.{readBytes}
 use Rattle.monitor.specs.Receive.{delivered, deliveredAs, deliveredNumber, deliveredState}
 use Rattle.monitor.specs.Calls.{ageNumber}
 use Rattle.monitor.specs.Ask.{limitMost, limitFails, limitRefusal, askNumber}
 use Rattle.runs.specs.Book.{Step}
-use Rattle.runs.specs.Runs.{stateAfter}
-use Rattle.runs.specs.Cases.{Question, asking, refusing, holding, knowing, saving, dating, forming, advancing, returning, Case, Comes, runOf, CaseComes, cases, EachCase}
-use Rattle.runs.proofs.DecodedRuns.{numberOn, doneBy, next, stepsFrom, stateFrom, set-up-taken, number-on, run-steps, run-state}
+use Rattle.runs.specs.Runs.{bytesRun, stateAfter}
+use Rattle.runs.specs.Cases.{Question, asking, refusing, holding, knowing, saving, dating, forming, advancing, returning, Case, Comes, runOf, CaseComes, cases, EachCase, Lent, LentComes, fractions, EachLent}
+use Rattle.runs.proofs.DecodedRuns.{numberOn, doneBy, next, stepsFrom, stateFrom, set-up-taken, number-on, steps-run, state-run, form-run, long-run, run-steps, run-state}
 use Rattle.runs.proofs.Runs.{reached}
 use Rattle.runs.proofs.Demand3.{ask-answers}
 
@@ -113,7 +114,7 @@ unfolding subset union has holds implies isTrue isNormal struck insert rising mi
     strays aheadOf behindOf Clocks·saving violates readingsFail violatedBy watched violated blamed swept judged
     begun setUp moved made done setUpRefusal passesEnd ageRefusal tooMany receiptRefusal
     delivered deliveredAs deliveredNumber deliveredState
-    cut common active leaves setsOf sets either leftBy answer
+    cut common active leaves setsOf sets either leftBy exact answer
     numberOn doneBy next stepsFrom stateFrom sameDatum sameTriple sameSaved sameAnswer meets passes cases
 each-passes = tt
 
@@ -199,6 +200,49 @@ case-comes c p buffer h =
       taken = rw (run-steps r) (search (both-l, both-r) depth 9);
       comes = question-comes (stateAfter r) (so .long) (so .form) (c .question) (rw (run-state r) (search (both-l, both-r) depth 9));
     }
+
+-- ---- rows on a state
+
+lentPasses : Lent → Bool
+lentPasses c =
+    stateOk (c .state)
+    && (all (λ (p : Step). eqb (p .number) 0) (stepsFrom (c .state) (c .requests)) && meets (stateFrom (c .state) (c .requests)) (c .question))
+
+each-lent-passes : T (all lentPasses fractions)
+unfolding subset union has holds implies isTrue isNormal struck insert rising minimal normal formed
+    num bytes tab wordsOf bytesOf
+    ofKind masks wordSum check headWordFits isEnds opens width spanKinds middle kindsFit checkFits
+    pair span withSpan shapeRefusal contents readWords termWords
+    endWords front body messageWords readBytes
+    minus withdraw older raised told spoken named wanted rises namesFit namesOf leading epochCount epochPart epochsFit epochWords
+    spokenBy risen late cleared hearing heeded arrived withdrawnData withdrawnEntries withdrawn
+    leastAdvance greatestAdvance slow fast widened aged
+    grown disjoint explained learn learnt unexplained same meet met without betters stored heldAfter settled received
+    strays aheadOf behindOf Clocks·saving violates readingsFail violatedBy watched violated blamed swept judged
+    begun setUp moved made done setUpRefusal passesEnd ageRefusal tooMany receiptRefusal
+    delivered deliveredAs deliveredNumber deliveredState
+    cut common active leaves setsOf sets either leftBy exact answer
+    numberOn doneBy next stepsFrom stateFrom sameDatum sameTriple sameSaved sameAnswer meets stateOk headOk storeOk countsOk datumOk termsFit termFits savedOk lentPasses fractions
+each-lent-passes = tt
+
+lent-comes : (c : Lent) → T (lentPasses c) → (rest : List ℕ) → LentComes c rest
+unfolding lentPasses
+lent-comes c p rest =
+    let right : T (stateOk (c .state)) = search both-l in
+    let s = stateBytes (c .state) ++ rest in
+    let long : stateSize ≤ length s = omega (arith, length-append (stateBytes (c .state)) rest, length-state (c .state) right) in
+    let form = encode-form (c .state) right rest in
+    let read = decode-encode (c .state) right rest in
+    record {
+      right = right;
+      taken = rw (steps-run (c .requests) s long form, read) (search (both-l, both-r) depth 9);
+      comes = question-comes (bytesRun s (c .requests)) (long-run (c .requests) s long form) (form-run (c .requests) s long form) (c .question)
+          (rw (state-run (c .requests) s long form, read) (search (both-l, both-r) depth 9));
+    }
+
+pub each-lent : EachLent
+unfolding EachLent
+each-lent c i = lent-comes c (all-out lentPasses fractions each-lent-passes c i)
 
 pub each-case : EachCase
 unfolding EachCase

@@ -1,6 +1,6 @@
 -- The cases of document 01 ("Cases (P: to be proved)"), the answers of its listing and cases of document 02, as one table: what a row is,
 -- when it holds of the exported calls' numbers and bytes, and the rows. Assumes nothing: these are definitions.
-use Prim.Native.Nat.{ℕ, _+_, _-_, _^_, _≤_}
+use Prim.Native.Nat.{ℕ, _+_, _*_, _-_, _^_, _≤_}
 use mathlib.Core.Path.{_≡_}
 use mathlib.Core.List.{List, [], _∷_, _++_}
 use lib.Dec.{T, eqb}
@@ -15,17 +15,19 @@ use Rattle.clocks.specs.declared.Triple.{Triple}
 use Rattle.clocks.specs.declared.Readings.the-variants.{With}
 use Rattle.clocks.specs.Clocks.{Saved, nothing, three}
 use Rattle.clocks.specs.Worked.{triple}
-use Rattle.state.specs.Model.{Datum, datum}
-use Rattle.state.specs.Layout.{stateSize, headOf, storeOf}
+use Rattle.ends.specs.Ends.{million}
+use Rattle.state.specs.Model.{Datum, datum, State}
+use Rattle.state.specs.Layout.{stateSize, stateBytes, headOf, storeOf}
+use Rattle.state.specs.Form.{stateOk}
 use Rattle.engine.specs.Ageing.{slow, fast}
-use Rattle.engine.specs.Calls.{Setup, clockOf}
+use Rattle.engine.specs.Calls.{Setup, setUp, clockOf}
 use Rattle.asking.specs.declared.Answer.{Answer}
 use Rattle.asking.specs.declared.Answer.the-variants.{Contradicted, Open, Between}
 use Rattle.monitor.specs.Calls.{setUpNumber, ageNumber}
 use Rattle.monitor.specs.Receive.{receiptOf, receiptWith}
 use Rattle.monitor.specs.Ask.{answerSize, answerIn, askNumber, askOutput}
 use Rattle.runs.specs.Book.{Request, ageing, receipt, Step}
-use Rattle.runs.specs.Runs.{requestNumber, Run, stateAfter, stepsOf}
+use Rattle.runs.specs.Runs.{requestNumber, bytesRun, steps, Run, stateAfter, stepsOf}
 
 -- ---- a row
 
@@ -140,6 +142,10 @@ one a b w = tick 1 0 10 [] (triple a b w) 0
 abbrev pub drifting : ℕ → ℕ → ℕ → Request
 drifting a b w = tick 1 0 10 [] (triple a b w) 100
 
+-- a datum whose ends are whole microseconds
+abbrev pub whole : ℕ → ℕ → List ℕ → Datum
+whole left right terms = datum (left * million) (right * million) terms
+
 -- the requests of the listing, up to its first message, its ageing and its second message
 abbrev pub listingFirst : List Request
 listingFirst = get 0 50 (536870913 ∷ 1 ∷ 1073741824 ∷ 1074741824 ∷ 1610612736 ∷ 1611612936 ∷ 3760096586 ∷ []) ∷ []
@@ -169,10 +175,10 @@ cases =
     ∷ given (named 5) [] (forming 1 ((2 ^ 1 + 2 ^ 2) ∷ 2 ^ 3 ∷ []) (2 ^ 1 ∷ 2 ^ 3 ∷ []))
     ∷ given (named 3) [] (forming 1 ((2 ^ 1 + 2 ^ 2) ∷ 2 ^ 3 ∷ []) (2 ^ 1 ∷ []))
     -- the same by a receipt
-    ∷ given (named 5) (hear 1 0 10 ((2 ^ 1 + 2 ^ 2) ∷ 2 ^ 3 ∷ []) ∷ []) (holding (datum 0 10 (2 ^ 1 ∷ 2 ^ 3 ∷ []) ∷ []))
-    ∷ given (named 3) (hear 1 0 10 ((2 ^ 1 + 2 ^ 2) ∷ 2 ^ 3 ∷ []) ∷ []) (holding (datum 0 10 (2 ^ 1 ∷ []) ∷ []))
+    ∷ given (named 5) (hear 1 0 10 ((2 ^ 1 + 2 ^ 2) ∷ 2 ^ 3 ∷ []) ∷ []) (holding (whole 0 10 (2 ^ 1 ∷ 2 ^ 3 ∷ []) ∷ []))
+    ∷ given (named 3) (hear 1 0 10 ((2 ^ 1 + 2 ^ 2) ∷ 2 ^ 3 ∷ []) ∷ []) (holding (whole 0 10 (2 ^ 1 ∷ []) ∷ []))
     -- "[0,10] and [5,20], both under 1: one datum, [5,10]."
-    ∷ given (named 5) (hear 1 0 10 [] ∷ hear 1 5 20 [] ∷ []) (holding (datum 5 10 (2 ^ 1 ∷ []) ∷ []))
+    ∷ given (named 5) (hear 1 0 10 [] ∷ hear 1 5 20 [] ∷ []) (holding (whole 5 10 (2 ^ 1 ∷ []) ∷ []))
     -- "[0,10] then [11,20], both under 1: no datum, entry 1; limit 0 contradicted, and so after ageing."
     ∷ given (named 5) (hear 1 0 10 [] ∷ hear 1 11 20 [] ∷ []) (holding [])
     ∷ given (named 5) (hear 1 0 10 [] ∷ hear 1 11 20 [] ∷ []) (knowing ((2 ^ 1 ∷ []) ∷ []))
@@ -182,12 +188,13 @@ cases =
     -- "[0,10] and [10,20] under 1 and 2: no entry; limit 0 gives 10 to 10."
     ∷ given (named 5) (hear 1 0 10 [] ∷ hear 2 10 20 [] ∷ []) (knowing [])
     ∷ given (named 5) (hear 1 0 10 [] ∷ hear 2 10 20 [] ∷ []) (asking 0 (Between 10 10))
-    -- "d = 1, r = 100: 0 and 2. d = 0: 0 and 0." Set up with reading 0, d is the new reading
-    ∷ given (named 5) [] (advancing 1 0 2)
+    -- "the case d = 1, r = 100 now gives 0.9999 and 1.0001" (document 02, W-205). "d = 0: 0 and 0." Set up with reading 0, d is the new reading
+    ∷ given (named 5) [] (advancing 1 999_900 1_000_100)
     ∷ given (named 5) [] (advancing 0 0 0)
-    -- the same by an ageing
-    ∷ given (named 5) (hear 1 0 10 [] ∷ ageing 1 ∷ []) (holding (datum 0 12 (2 ^ 1 ∷ []) ∷ []))
-    ∷ given (named 5) (hear 1 0 10 [] ∷ ageing 0 ∷ []) (holding (datum 0 10 (2 ^ 1 ∷ []) ∷ []))
+    -- the same by an ageing; only the answer rounds
+    ∷ given (named 5) (hear 1 0 10 [] ∷ ageing 1 ∷ []) (holding (datum 999_900 11_000_100 (2 ^ 1 ∷ []) ∷ []))
+    ∷ given (named 5) (hear 1 0 10 [] ∷ ageing 1 ∷ []) (asking 0 (Between 0 12))
+    ∷ given (named 5) (hear 1 0 10 [] ∷ ageing 0 ∷ []) (holding (whole 0 10 (2 ^ 1 ∷ []) ∷ []))
     -- the listing (its `fewest` is not here: `ones` takes as many steps as the mask is large). Document 02, W-202: "with delays 0 and 50 its
     -- first two answers end at 1000251 and 3000451"
     ∷ given (named 5) listingFirst (asking 0 (Between 1_000_000 1_000_251))
@@ -214,7 +221,7 @@ cases =
     -- a violating triple is saved; the next is quiet against it but not against the first, and the entry stands once
     ∷ given (steady 5) (one 0 0 0 ∷ one 0 9 0 ∷ one 1 10 0 ∷ []) (knowing ((2 ^ 1 ∷ []) ∷ []))
     -- a true predicate with a violation: the datum under 1 goes, that under 2 stays
-    ∷ given (steady 5) (one 0 0 1 ∷ hear 2 0 20 [] ∷ tick 1 0 10 (0 ∷ []) (triple 100 103 1) 0 ∷ []) (holding (datum 0 20 (2 ^ 2 ∷ []) ∷ []))
+    ∷ given (steady 5) (one 0 0 1 ∷ hear 2 0 20 [] ∷ tick 1 0 10 (0 ∷ []) (triple 100 103 1) 0 ∷ []) (holding (whole 0 20 (2 ^ 2 ∷ []) ∷ []))
     ∷ given (steady 5) (one 0 0 1 ∷ hear 2 0 20 [] ∷ tick 1 0 10 (0 ∷ []) (triple 100 103 1) 0 ∷ []) (asking 1 (Between 0 20))
     -- one without a violation is saved and changes nothing else
     ∷ given (steady 5) (tick 1 0 10 (0 ∷ []) (triple 3 4 5) 0 ∷ []) (saving 1 (three (triple 3 4 5) (triple 3 4 5) (triple 3 4 5)))
@@ -222,36 +229,37 @@ cases =
     -- the entry 1 drives out 1+2
     ∷ given (steady 5) (hear 2 20 30 [] ∷ one 0 0 0 ∷ []) (knowing ((2 ^ 1 ∷ 2 ^ 2 ∷ []) ∷ []))
     ∷ given (steady 5) (hear 2 20 30 [] ∷ one 0 0 0 ∷ one 0 9 0 ∷ []) (knowing ((2 ^ 1 ∷ []) ∷ []))
-    ∷ given (steady 5) (hear 2 20 30 [] ∷ one 0 0 0 ∷ one 0 9 0 ∷ []) (holding (datum 20 30 (2 ^ 2 ∷ []) ∷ []))
-    -- document 02, W-202. Delays by the ageing rule: rounded as an ageing by 1 is, by 5, and at the greatest drift and delay
-    ∷ given (named 5) (delayed 1 1 0 0 ∷ []) (holding (datum 0 2 (2 ^ 1 ∷ []) ∷ []))
-    ∷ given (named 5) (delayed 5 5 10 10 ∷ []) (holding (datum 14 16 (2 ^ 1 ∷ []) ∷ []))
-    ∷ given (hasty 5) (delayed 600_000_000 600_000_000 0 0 ∷ []) (holding (datum 599_400_000 600_600_000 (2 ^ 1 ∷ []) ∷ []))
+    ∷ given (steady 5) (hear 2 20 30 [] ∷ one 0 0 0 ∷ one 0 9 0 ∷ []) (holding (whole 20 30 (2 ^ 2 ∷ []) ∷ []))
+    -- document 02, W-202. Delays by the ageing rule: as an ageing by 1, by 5, and at the greatest drift and delay
+    ∷ given (named 5) (delayed 1 1 0 0 ∷ []) (holding (datum 999_900 1_000_100 (2 ^ 1 ∷ []) ∷ []))
+    ∷ given (named 5) (delayed 5 5 10 10 ∷ []) (holding (datum 14_999_500 15_000_500 (2 ^ 1 ∷ []) ∷ []))
+    ∷ given (hasty 5) (delayed 600_000_000 600_000_000 0 0 ∷ []) (holding (whole 599_400_000 600_600_000 (2 ^ 1 ∷ []) ∷ []))
     -- without drift left plus least, right plus greatest
-    ∷ given (steady 5) (delayed 3 600_000_000 10 20 ∷ []) (holding (datum 13 600_000_020 (2 ^ 1 ∷ []) ∷ []))
+    ∷ given (steady 5) (delayed 3 600_000_000 10 20 ∷ []) (holding (whole 13 600_000_020 (2 ^ 1 ∷ []) ∷ []))
     -- "Delay" 600,000,000 "taken", 600,000,001 "gives 21"
     ∷ given (named 5) [] (returning (delayed 0 600_000_000 0 0) 0)
     ∷ given (named 5) [] (returning (delayed 0 600_000_001 0 0) 21)
-    -- the end so grown is the greatest, and one beyond it
-    ∷ given (named 5) (delayed 0 1 0 (2 ^ 58 - 3) ∷ []) (holding (datum 0 (2 ^ 58 - 1) (2 ^ 1 ∷ []) ∷ []))
+    -- the end so grown is within the greatest, beyond it by its fraction alone, and without drift the greatest
+    ∷ given (named 5) (delayed 0 1 0 (2 ^ 58 - 3) ∷ []) (holding (datum 0 ((2 ^ 58 - 2) * million + 100) (2 ^ 1 ∷ []) ∷ []))
     ∷ given (named 5) [] (returning (delayed 0 1 0 (2 ^ 58 - 2)) 30)
+    ∷ given (steady 5) (delayed 0 1 0 (2 ^ 58 - 2) ∷ []) (holding (whole 0 (2 ^ 58 - 1) (2 ^ 1 ∷ []) ∷ []))
     -- document 02, W-204. A mended monitor is believed, and what its old name said or was blamed for no longer binds it, whichever comes first
     ∷ given (named 5) (hear 1 0 10 [] ∷ hear 2 20 30 [] ∷ mended 22 40 ∷ []) (asking 0 (Between 22 30))
     ∷ given (named 5) (hear 1 0 10 [] ∷ hear 2 20 30 [] ∷ mended 22 40 ∷ []) (knowing [])
-    ∷ given (named 5) (hear 1 0 10 [] ∷ hear 2 20 30 [] ∷ mended 22 40 ∷ []) (holding (datum 20 30 (2 ^ 2 ∷ []) ∷ datum 22 40 (2 ^ 1 ∷ []) ∷ []))
+    ∷ given (named 5) (hear 1 0 10 [] ∷ hear 2 20 30 [] ∷ mended 22 40 ∷ []) (holding (whole 20 30 (2 ^ 2 ∷ []) ∷ whole 22 40 (2 ^ 1 ∷ []) ∷ []))
     ∷ given (named 5) (mended 22 40 ∷ hear 1 0 10 [] ∷ hear 2 20 30 [] ∷ []) (asking 0 (Between 22 30))
     -- its epoch is heard in a term, in a term that is struck, and from an old sender
-    ∷ given (named 5) (hear 1 0 10 [] ∷ hearNamed (name 1 1 ∷ name 2 0 ∷ []) 2 0 5 (2 ^ 1 ∷ []) ∷ []) (holding (datum 0 5 (2 ^ 1 ∷ 2 ^ 2 ∷ []) ∷ []))
-    ∷ given (named 5) (hear 1 0 10 [] ∷ hearNamed (name 1 1 ∷ name 2 0 ∷ name 5 0 ∷ []) 2 0 5 ((2 ^ 1 + 2 ^ 5) ∷ []) ∷ []) (holding (datum 0 5 (2 ^ 2 ∷ []) ∷ []))
-    ∷ given (named 5) (mended 0 10 ∷ hear 3 0 9 [] ∷ hearNamed (name 1 0 ∷ name 3 1 ∷ []) 1 0 5 (2 ^ 3 ∷ []) ∷ []) (holding (datum 0 10 (2 ^ 1 ∷ []) ∷ []))
+    ∷ given (named 5) (hear 1 0 10 [] ∷ hearNamed (name 1 1 ∷ name 2 0 ∷ []) 2 0 5 (2 ^ 1 ∷ []) ∷ []) (holding (whole 0 5 (2 ^ 1 ∷ 2 ^ 2 ∷ []) ∷ []))
+    ∷ given (named 5) (hear 1 0 10 [] ∷ hearNamed (name 1 1 ∷ name 2 0 ∷ name 5 0 ∷ []) 2 0 5 ((2 ^ 1 + 2 ^ 5) ∷ []) ∷ []) (holding (whole 0 5 (2 ^ 2 ∷ []) ∷ []))
+    ∷ given (named 5) (mended 0 10 ∷ hear 3 0 9 [] ∷ hearNamed (name 1 0 ∷ name 3 1 ∷ []) 1 0 5 (2 ^ 3 ∷ []) ∷ []) (holding (whole 0 10 (2 ^ 1 ∷ []) ∷ []))
     -- a late name in a term counts as failed; alone in it, it makes the predicate true
-    ∷ given (named 5) (mended 0 10 ∷ hear 2 0 9 ((2 ^ 1 + 2 ^ 3) ∷ []) ∷ []) (holding (datum 0 10 (2 ^ 1 ∷ []) ∷ datum 0 9 (2 ^ 2 ∷ 2 ^ 3 ∷ []) ∷ []))
-    ∷ given (named 5) (mended 0 10 ∷ hear 2 0 9 (2 ^ 1 ∷ []) ∷ []) (holding (datum 0 10 (2 ^ 1 ∷ []) ∷ []))
+    ∷ given (named 5) (mended 0 10 ∷ hear 2 0 9 ((2 ^ 1 + 2 ^ 3) ∷ []) ∷ []) (holding (whole 0 10 (2 ^ 1 ∷ []) ∷ whole 0 9 (2 ^ 2 ∷ 2 ^ 3 ∷ []) ∷ []))
+    ∷ given (named 5) (mended 0 10 ∷ hear 2 0 9 (2 ^ 1 ∷ []) ∷ []) (holding (whole 0 10 (2 ^ 1 ∷ []) ∷ []))
     -- two data of one predicate are not merged, and one that an entry implies stays
     ∷ given (named 5) (hear 2 0 9 ((2 ^ 1 + 2 ^ 3) ∷ []) ∷ hear 2 3 20 (2 ^ 3 ∷ []) ∷ hearNamed (name 1 1 ∷ []) 1 0 30 [] ∷ [])
-    (holding (datum 0 9 (2 ^ 2 ∷ 2 ^ 3 ∷ []) ∷ datum 3 20 (2 ^ 2 ∷ 2 ^ 3 ∷ []) ∷ datum 0 30 (2 ^ 1 ∷ []) ∷ []))
+    (holding (whole 0 9 (2 ^ 2 ∷ 2 ^ 3 ∷ []) ∷ whole 3 20 (2 ^ 2 ∷ 2 ^ 3 ∷ []) ∷ whole 0 30 (2 ^ 1 ∷ []) ∷ []))
     ∷ given (named 5) (hear 2 0 9 ((2 ^ 1 + 2 ^ 3) ∷ []) ∷ hear 3 0 1 [] ∷ hear 3 5 6 [] ∷ hearNamed (name 1 1 ∷ []) 1 0 30 (0 ∷ []) ∷ [])
-    (holding (datum 0 9 (2 ^ 2 ∷ 2 ^ 3 ∷ []) ∷ []))
+    (holding (whole 0 9 (2 ^ 2 ∷ 2 ^ 3 ∷ []) ∷ []))
     -- a violation's entry goes with the name, and so do its triples; an older name's readings are not heeded
     ∷ given (steady 5) (one 0 0 1 ∷ one 100 103 1 ∷ mended 0 10 ∷ []) (knowing [])
     ∷ given (steady 5) (one 0 0 1 ∷ one 100 103 1 ∷ mended 0 10 ∷ []) (saving 1 nothing)
@@ -261,14 +269,70 @@ cases =
     (saving 1 (three (triple 0 0 1) (triple 0 0 1) (triple 0 0 1)))
     -- "a message never changes the own epoch", and 18 comes under any
     ∷ given (renewed 5) (hearNamed (name 1 0 ∷ name 2 0 ∷ name 5 9 ∷ []) 1 0 10 ((2 ^ 2 + 2 ^ 5) ∷ []) ∷ []) (dating 5 2)
-    ∷ given (renewed 5) (hearNamed (name 1 0 ∷ name 2 0 ∷ name 5 9 ∷ []) 1 0 10 ((2 ^ 2 + 2 ^ 5) ∷ []) ∷ []) (holding (datum 0 10 (2 ^ 1 ∷ []) ∷ []))
+    ∷ given (renewed 5) (hearNamed (name 1 0 ∷ name 2 0 ∷ name 5 9 ∷ []) 1 0 10 ((2 ^ 2 + 2 ^ 5) ∷ []) ∷ []) (holding (whole 0 10 (2 ^ 1 ∷ []) ∷ []))
     ∷ given (renewed 5) [] (returning (hearNamed (name 5 9 ∷ []) 5 0 10 []) 18)
     ∷ given (named 5) (mended 0 10 ∷ []) (dating 1 1)
     -- 31 counts after late names have left: nine terms, and with 6 old none but the empty one
     ∷ given (named 5) [] (returning (hear 2 0 10 eightTerms) 31)
     ∷ given (named 5) (hearNamed (name 6 1 ∷ []) 6 0 5 [] ∷ []) (returning (hear 2 0 10 eightTerms) 0)
+    -- document 02, W-205. A right end of 11.0001: a new left end of 11 meets it, and one of 12 does not
+    ∷ given (named 5) (hear 1 0 10 [] ∷ ageing 1 ∷ hear 2 11 20 [] ∷ []) (knowing [])
+    ∷ given (named 5) (hear 1 0 10 [] ∷ ageing 1 ∷ hear 2 11 20 [] ∷ []) (asking 0 (Between 11 12))
+    ∷ given (named 5) (hear 1 0 10 [] ∷ ageing 1 ∷ hear 2 12 20 [] ∷ []) (knowing ((2 ^ 1 ∷ 2 ^ 2 ∷ []) ∷ []))
+    -- a left end of 11.9999: a new right end of 12 meets it, and one of 11 does not
+    ∷ given (named 5) (hear 1 11 20 [] ∷ ageing 1 ∷ hear 2 0 12 [] ∷ []) (knowing [])
+    ∷ given (named 5) (hear 1 11 20 [] ∷ ageing 1 ∷ hear 2 0 11 [] ∷ []) (knowing ((2 ^ 1 ∷ 2 ^ 2 ∷ []) ∷ []))
+    -- "Number 30 compares the end with its fraction"
+    ∷ given (named 5) (hear 1 0 (2 ^ 58 - 1) [] ∷ []) (returning (ageing 1) 30)
+    ∷ given (named 5) (hear 1 0 (2 ^ 58 - 3) [] ∷ []) (returning (ageing 1) 0)
+    ∷ given (named 5) (hear 1 0 (2 ^ 58 - 3) [] ∷ []) (returning (ageing 2) 30)
+    ∷ given (steady 5) (hear 1 0 (2 ^ 58 - 3) [] ∷ []) (returning (ageing 2) 0)
+    ∷ given (steady 5) (hear 1 0 (2 ^ 58 - 3) [] ∷ []) (returning (ageing 3) 30)
+    -- three ageings are one
+    ∷ given (named 5) (hear 1 0 10 [] ∷ ageing 1_000_001 ∷ ageing 2_000_002 ∷ ageing 3_000_003 ∷ [])
+    (holding (datum (3_000_003 * 999_900) (10 * million + 3_000_003 * 1_000_100) (2 ^ 1 ∷ []) ∷ []))
     ∷ []
 
 -- "The cases marked P are proved together, as one table with a common statement": each row holds of the exported calls, in every buffer that has room
 unfoldable pub EachCase : Type 0
 EachCase = (c : Case) → In c cases → (buffer : List ℕ) → stateSize ≤ length buffer → CaseComes c buffer
+
+-- ---- rows on a state whose bytes are lent as they stand
+
+pub record Lent : Type 0 where
+  pub state : State
+  pub requests : List Request
+  pub question : Question
+
+-- the state is right, every request on its bytes is taken, and then what must come comes
+pub record LentComes (c : Lent) (rest : List ℕ) : Type 0 where
+  pub right : T (stateOk (c .state))
+  pub taken : T (all (λ (p : Step). eqb (p .number) 0) (steps (stateBytes (c .state) ++ rest) (c .requests)))
+  pub comes : Comes (bytesRun (stateBytes (c .state) ++ rest) (c .requests)) (c .question)
+
+-- a monitor 5 without drift that holds these data
+abbrev pub holds : List Datum → List Request → Question → Lent
+holds ds qs q = record { state = record { head = setUp (steady 5) .head; store = record { held = ds; entries = [] } }; requests = qs; question = q }
+
+-- document 02, W-205: ends that only their millionths tell apart
+unfoldable pub fractions : List Lent
+fractions =
+    -- [5.2,5.4] under 1 and [5.5,5.6] under 2 lie within one microsecond and have no instant in common
+    holds (datum 5_200_000 5_400_000 (2 ^ 1 ∷ []) ∷ datum 5_500_000 5_600_000 (2 ^ 2 ∷ []) ∷ []) [] (asking 0 Contradicted)
+    ∷ holds (datum 5_200_000 5_400_000 (2 ^ 1 ∷ []) ∷ datum 5_500_000 5_600_000 (2 ^ 2 ∷ []) ∷ []) [] (asking 1 (Between 5 6))
+    -- [5.2,5.4] and [5.3,5.6] have
+    ∷ holds (datum 5_200_000 5_400_000 (2 ^ 1 ∷ []) ∷ datum 5_300_000 5_600_000 (2 ^ 2 ∷ []) ∷ []) [] (asking 0 (Between 5 6))
+    -- an answer without millionths does not round
+    ∷ holds (datum 5_200_000 7_000_000 (2 ^ 1 ∷ []) ∷ datum 6_000_000 9_100_000 (2 ^ 2 ∷ []) ∷ []) [] (asking 0 (Between 6 7))
+    -- rule 15: [5.2,5.9] and [5,6] under 1 give [5.2,5.9]
+    ∷ holds (datum 5_200_000 5_900_000 (2 ^ 1 ∷ []) ∷ []) (hear 1 5 6 [] ∷ []) (holding (datum 5_200_000 5_900_000 (2 ^ 1 ∷ []) ∷ []))
+    -- rule 14: a new [5,9] under 1 does not lie within the held [5.2,9] under 1+2, so both stay
+    ∷ holds (datum 5_200_000 9_000_000 (2 ^ 1 ∷ 2 ^ 2 ∷ []) ∷ []) (hear 1 5 9 [] ∷ [])
+    (holding (datum 5_200_000 9_000_000 (2 ^ 1 ∷ 2 ^ 2 ∷ []) ∷ whole 5 9 (2 ^ 1 ∷ []) ∷ []))
+    -- but within a held [5,9.1] it does, and that goes
+    ∷ holds (datum 5_000_000 9_100_000 (2 ^ 1 ∷ 2 ^ 2 ∷ []) ∷ []) (hear 1 5 9 [] ∷ []) (holding (whole 5 9 (2 ^ 1 ∷ []) ∷ []))
+    ∷ []
+
+-- each row holds, whatever stands behind the state
+unfoldable pub EachLent : Type 0
+EachLent = (c : Lent) → In c fractions → (rest : List ℕ) → LentComes c rest

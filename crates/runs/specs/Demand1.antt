@@ -188,7 +188,7 @@ endsFormSize names terms = 4 * (6 + names + terms)
 abbrev pub namesWritten : List ℕ → ℕ → ℕ
 namesWritten s position = length (namesOf (epochsIn epochsAt s) (wanted (num ownAt 4 s) (datumAt s position .terms)))
 
--- the bytes at the front that the call's layout names: a state's 5,265; "asking writes 24 bytes", "fewest 16", "reading 32"; a message
+-- the bytes at the front that the call's layout names: a state's 5,393; "asking writes 24 bytes", "fewest 16", "reading 32"; a message
 unfoldable pub layoutSize : Exported → ℕ
 layoutSize (monitorSetUp s u) = stateSize
 layoutSize (monitorAge s reading) = stateSize

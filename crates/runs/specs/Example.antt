@@ -1,18 +1,19 @@
 -- A run with refused steps among taken ones: what comes of each step, and what the book has. Assumes nothing: these are definitions.
-use Prim.Native.Nat.{ℕ, _+_, _^_, _≤_}
+use Prim.Native.Nat.{ℕ, _+_, _*_, _^_, _≤_}
 use mathlib.Core.Path.{_≡_}
 use mathlib.Core.List.{List, [], _∷_, map}
 use lib.ListN.{length, set, replicate}
 use Rattle.message.specs.Write.{messageWords}
 use Rattle.epochs.specs.Epochs.{epochsMost, name}
 use Rattle.clocks.specs.Worked.{triple}
+use Rattle.ends.specs.Ends.{million}
 use Rattle.state.specs.Model.{datum}
 use Rattle.state.specs.Layout.{stateSize}
 use Rattle.engine.specs.Calls.{Setup}
 use Rattle.monitor.specs.Calls.{setUpNumber}
 use Rattle.runs.specs.Book.{Request, ageing, Step, Line, advanced, heard, blames}
 use Rattle.runs.specs.Runs.{Run, stepsOf, book}
-use Rattle.runs.specs.Cases.{get, said, hear, hearNamed, tick, eightTerms}
+use Rattle.runs.specs.Cases.{get, said, hear, hearNamed, tick, whole, eightTerms}
 
 -- monitor 5, drift 100, reading 1,000,000, epoch 3
 abbrev pub exampleSetup : Setup
@@ -58,14 +59,14 @@ atFirst = set (replicate epochsMost 0) 5 3
 -- the lines of the taken ones: "A refused call enters nothing", "a true one too"
 unfoldable pub exampleLines : List Line
 exampleLines =
-    heard atFirst (datum 1_000_000 1_000_251 (2 ^ 1 ∷ []))
-    ∷ advanced 1_999_800 2_000_200
-    ∷ heard atFirst (datum 3_001_000 3_001_000 (2 ^ 2 ∷ 2 ^ 3 ∷ []))
-    ∷ heard atFirst (datum 0 0 (0 ∷ []))
-    ∷ heard atFirst (datum 3_000_000 3_000_400 (2 ^ 1 ∷ []))
+    heard atFirst (datum (1_000_000 * million) 1_000_250_005_000 (2 ^ 1 ∷ []))
+    ∷ advanced (1_999_800 * million) (2_000_200 * million)
+    ∷ heard atFirst (whole 3_001_000 3_001_000 (2 ^ 2 ∷ 2 ^ 3 ∷ []))
+    ∷ heard atFirst (whole 0 0 (0 ∷ []))
+    ∷ heard atFirst (whole 3_000_000 3_000_400 (2 ^ 1 ∷ []))
     ∷ blames atFirst 1
-    ∷ heard atFirst (datum 3_000_000 3_000_400 (2 ^ 1 ∷ []))
-    ∷ heard (set atFirst 1 1) (datum 3_000_000 3_000_400 (2 ^ 1 ∷ []))
+    ∷ heard atFirst (whole 3_000_000 3_000_400 (2 ^ 1 ∷ []))
+    ∷ heard (set atFirst 1 1) (whole 3_000_000 3_000_400 (2 ^ 1 ∷ []))
     ∷ []
 
 -- the run in a buffer in which its setting up is taken

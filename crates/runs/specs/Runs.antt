@@ -9,6 +9,7 @@ use mathlib.Core.List.{List, [], _∷_}
 use lib.ListN.{length}
 use lib.IntN.{ℤ, pos, negsuc}
 use Rattle.clocks.specs.declared.Readings.the-variants.{Without}
+use Rattle.ends.specs.Ends.{down, up}
 use Rattle.state.specs.Layout.{storeOf}
 use Rattle.epochs.specs.Epochs.{NotAbove}
 use Rattle.state.specs.Model.{Head}
@@ -82,11 +83,12 @@ abbrev pub Greatest : (ℤ → Type 0) → ℕ → Type 0
 Greatest P r = P (pos r) × ((x : ℤ) → P x → AtMost r x)
 
 -- "the answer is 'contradicted' exactly when no instant is possible, 'open' exactly when all are, and otherwise the least and the greatest
--- possible one"
+-- possible one"; "an instant in demand 3 is now a whole count of millionths, the answer gives the least and the greatest possible one so rounded"
+-- (document 02, W-205)
 pub record Tells (P : ℤ → Type 0) (a : Answer) : Type 0 where
   pub contradicted : (a ≡ Contradicted) ↔ ((x : ℤ) → P x → ⊥)
   pub unbounded : (a ≡ Open) ↔ ((x : ℤ) → P x)
-  pub between : (l r : ℕ) → (a ≡ Between l r) ↔ (Least P l × Greatest P r)
+  pub between : (l r : ℕ) → (a ≡ Between l r) ↔ ((m : ℕ) × (n : ℕ) × Least P m × Greatest P n × (l ≡ down m) × (r ≡ up n))
 
 -- ---- demand 3
 
@@ -134,6 +136,14 @@ Demand3·more =
 -- "The demand is one statement about the whole list": both halves
 unfoldable pub Demand3·whole : Type 0
 Demand3·whole = Demand3 × Demand3·more
+
+-- ---- ageing in pieces
+
+-- "Ageing in two calls gives the same bytes as in one to the later reading, none refused" (document 02, W-205), nor is the one refused
+unfoldable pub AgedOnce : Type 0
+AgedOnce =
+    (s : List ℕ) (t u : ℕ) → ageNumber s t ≡ 0 → ageNumber (ageState s t) u ≡ 0
+    → (ageNumber s u ≡ 0) × (ageState (ageState s t) u ≡ ageState s u)
 
 -- ---- set by set
 

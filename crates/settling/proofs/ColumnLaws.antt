@@ -4,15 +4,18 @@ use mathlib.Core.Path.{_≡_, refl, ap, ap₂, _∙_}
 use mathlib.Core.List.{List, [], _∷_, _++_}
 use native.Mathlib.Nat.{suc-mul}
 use native.Mathlib.Omega.{arith}
-use lib.ListN.{length, set, length-set}
-use lib.Seq.{sets, getD-set-same, getD-set-other}
+use lib.ListN.{length, set}
+use lib.Seq.{sets, getD-set-other}
+use Rattle.ends.specs.declared.Ends.{Ends}
+use Rattle.ends.specs.Ends.{BothSplit, withEnd}
+use Rattle.ends.proofs.EndLaws.{length-with, end-with, end-beside, split-with}
 use Rattle.numbers.specs.Numbers.{tab}
 use Rattle.numbers.proofs.NumberLaws.{tab-suc, tab-cong}
 use Rattle.predicates.specs.Lists.{keep}
 use Rattle.predicates.proofs.ListLaws.{keep-append}
-use Rattle.state.specs.Model.{Datum, datum}
+use Rattle.state.specs.Model.{Datum}
 use Rattle.state.specs.Layout.{datumTerms}
-use Rattle.state.specs.code.Tables.{Columns, columns, tableOf, TableFits, ColumnsFit, hasTerms, datumIn, dataIn}
+use Rattle.state.specs.code.Tables.{Columns, columns, tableOf, TableFits, ColumnsFit, hasTerms, datumOf, datumIn, dataIn}
 use Rattle.state.proofs.RowLaws.{table-room, row-empty, row-full, table-less}
 use Rattle.entries.specs.code.Marks.{Left}
 use Rattle.settling.specs.code.Rows.{DataLeft}
@@ -27,6 +30,8 @@ columns-less n m c t h =
       table = table-less datumTerms n m (c .counts) (c .masks) (t .table) h;
       lefts-long = omega (arith, t .lefts-long);
       rights-long = omega (arith, t .rights-long);
+      lefts-split = t .lefts-split;
+      rights-split = t .rights-split;
     }
 
 pub data-left : (n : ℕ) (lefts rights a b masks : List ℕ) → Left n a b → DataLeft n (columns lefts rights a masks) (columns lefts rights b masks)
@@ -45,55 +50,57 @@ data-left-on n lefts rights a b masks c t p q i l f =
 
 -- ---- a datum put last
 
-module _ (h : ℕ) (lefts rights counts masks p : List ℕ) (a b : ℕ) (t : ColumnsFit (h + 1) (columns lefts rights counts masks)) (few : length p ≤ datumTerms) where
+module _ (h : ℕ) (lefts rights counts masks p : List ℕ) (e : Ends) (t : ColumnsFit (h + 1) (columns lefts rights counts masks)) (few : length p ≤ datumTerms) where
   -- the columns with it
   abbrev added : Columns
-  added = columns (set lefts h a) (set rights h b) (set counts h (length p)) (sets masks (h * datumTerms) p)
+  added = columns (withEnd lefts h (e .left)) (withEnd rights h (e .right)) (set counts h (length p)) (sets masks (h * datumTerms) p)
 
-  pub columns-added : ColumnsFit (h + 1) added
-  columns-added =
+  pub columns-added : BothSplit e → ColumnsFit (h + 1) added
+  columns-added split =
       record {
         table = table-appended datumTerms h counts masks p (t .table) few;
-        lefts-long = omega (arith, t .lefts-long, length-set lefts h a);
-        rights-long = omega (arith, t .rights-long, length-set rights h b);
+        lefts-long = omega (arith, t .lefts-long, length-with lefts h (e .left));
+        rights-long = omega (arith, t .rights-long, length-with rights h (e .right));
+        lefts-split = split-with lefts h (e .left) (omega (arith, t .lefts-long)) (split .0) (t .lefts-split);
+        rights-split = split-with rights h (e .right) (omega (arith, t .rights-long)) (split .1) (t .rights-split);
       }
 
   rows-kept : (i : ℕ) → i < h → datumIn added i ≡ datumIn (columns lefts rights counts masks) i
   unfolding datumIn
   rows-kept i k =
       rw (
-        getD-set-other lefts h i a 0 (λ e. omega arith),
-        getD-set-other rights h i b 0 (λ e. omega arith),
+        end-beside lefts h i (e .left) (λ z. omega arith),
+        end-beside rights h i (e .right) (λ z. omega arith),
         rows-before datumTerms h counts masks p (table-less datumTerms (h + 1) h counts masks (t .table) (omega arith)) (omega (arith, t .table .counted))
             (omega (arith, t .table .long, suc-mul h datumTerms)) i k,
       )
 
   pub left-added : (old : List ℕ) → Left h old counts → DataLeft h (columns lefts rights old masks) added
   left-added old k i l f =
-      rows-kept i l ∙ data-left h lefts rights old counts masks k i l (λ z. f (getD-set-other counts h i (length p) 0 (λ e. omega arith) ∙ z))
+      rows-kept i l ∙ data-left h lefts rights old counts masks k i l (λ z. f (getD-set-other counts h i (length p) 0 (λ n. omega arith) ∙ z))
 
-  pub rows-added : tab (h + 1) (datumIn added) ≡ tab h (datumIn (columns lefts rights counts masks)) ++ (datum a b p ∷ [])
+  pub rows-added : tab (h + 1) (datumIn added) ≡ tab h (datumIn (columns lefts rights counts masks)) ++ (datumOf e p ∷ [])
   unfolding datumIn
   rows-added =
       let near : h < length counts = omega (arith, t .table .counted) in
       let room : h * datumTerms + length p ≤ length masks = omega (arith, t .table .long, suc-mul h datumTerms) in
       let less = table-less datumTerms (h + 1) h counts masks (t .table) (omega arith) in
-      let last : datumIn added h ≡ datum a b p =
+      let last : datumIn added h ≡ datumOf e p =
       rw (
-        getD-set-same lefts h a 0 (omega (arith, t .lefts-long)),
-        getD-set-same rights h b 0 (omega (arith, t .rights-long)),
+        end-with lefts h (e .left) (omega (arith, t .lefts-long)),
+        end-with rights h (e .right) (omega (arith, t .rights-long)),
         row-last datumTerms h counts masks p less near room,
       ) in
       tab-suc h (datumIn added)
       ∙ ap₂ (λ (x : List Datum) (d : Datum). x ++ (d ∷ [])) (tab-cong h (datumIn added) (datumIn (columns lefts rights counts masks)) rows-kept) last
 
-  pub data-added : 0 < length p → dataIn (h + 1) added ≡ dataIn h (columns lefts rights counts masks) ++ (datum a b p ∷ [])
+  pub data-added : 0 < length p → dataIn (h + 1) added ≡ dataIn h (columns lefts rights counts masks) ++ (datumOf e p ∷ [])
   unfolding dataIn hasTerms
   data-added some =
       ap (λ l. keep (λ d. hasTerms (d .terms)) l) rows-added
-      ∙ keep-append (λ d. hasTerms (d .terms)) (tab h (datumIn (columns lefts rights counts masks))) (datum a b p ∷ [])
+      ∙ keep-append (λ d. hasTerms (d .terms)) (tab h (datumIn (columns lefts rights counts masks))) (datumOf e p ∷ [])
       ∙ ap (λ (x : List Datum). keep (λ d. hasTerms (d .terms)) (tab h (datumIn (columns lefts rights counts masks))) ++ x) (kept p some)
     where
-      kept : (q : List ℕ) → 0 < length q → keep (λ d. hasTerms (d .terms)) (datum a b q ∷ []) ≡ datum a b q ∷ []
+      kept : (q : List ℕ) → 0 < length q → keep (λ d. hasTerms (d .terms)) (datumOf e q ∷ []) ≡ datumOf e q ∷ []
       kept [] h = absurd (omega arith)
       kept (x ∷ q) h = refl

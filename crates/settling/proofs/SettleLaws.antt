@@ -12,6 +12,7 @@ use Rattle.numbers.proofs.NumberLaws.{tab-cong}
 use Rattle.predicates.specs.Lists.{any, keep}
 use Rattle.predicates.specs.Predicates.{implies}
 use Rattle.predicates.proofs.ListLaws.{keep-append}
+use Rattle.ends.specs.Ends.{endIn}
 use Rattle.state.specs.Model.{Datum, datum, Store}
 use Rattle.state.specs.code.Tables.{table, columns, rowOf, hasTerms, datumIn, dataIn}
 use Rattle.entries.specs.Entries.{explained, learn}
@@ -27,7 +28,7 @@ use Rattle.steps.specs.Steps.{learnt, unexplained, met, without, betters, store
 module _ (h : ℕ) (lefts rights counts masks : List ℕ) where
   -- the datum of a row whose count is zero or as it was
   datum-cond : (b : Bool) (c : List ℕ) (i : ℕ) → getD c i 0 ≡ cond b 0 (getD counts i 0) →
-      datumIn (columns lefts rights c masks) i ≡ cond b (datum (getD lefts i 0) (getD rights i 0) []) (datumIn (columns lefts rights counts masks) i)
+      datumIn (columns lefts rights c masks) i ≡ cond b (datum (endIn lefts i) (endIn rights i) []) (datumIn (columns lefts rights counts masks) i)
   unfolding datumIn rowOf
   datum-cond true c i e = rw e
   datum-cond false c i e = rw e
@@ -55,10 +56,10 @@ module _ (h : ℕ) (lefts rights counts masks : List ℕ) where
   data-given-up t =
       ap (λ l. keep (λ x. hasTerms (x .terms)) l)
       (tab-cong h (datumIn (columns lefts rights (givenUp h (λ i. t (datumIn (columns lefts rights counts masks) i)) counts) masks))
-      (λ i. cond (t (datumIn (columns lefts rights counts masks) i)) (datum (getD lefts i 0) (getD rights i 0) []) (datumIn (columns lefts rights counts masks) i))
+      (λ i. cond (t (datumIn (columns lefts rights counts masks) i)) (datum (endIn lefts i) (endIn rights i) []) (datumIn (columns lefts rights counts masks) i))
       (λ i p. datum-cond (t (datumIn (columns lefts rights counts masks) i)) (givenUp h (λ k. t (datumIn (columns lefts rights counts masks) k)) counts) i
       (given-up-count (λ k. t (datumIn (columns lefts rights counts masks) k)) counts h i p)))
-      ∙ kept-cond t h (datumIn (columns lefts rights counts masks)) (λ i. getD lefts i 0) (λ i. getD rights i 0)
+      ∙ kept-cond t h (datumIn (columns lefts rights counts masks)) (λ i. endIn lefts i) (λ i. endIn rights i)
 
 -- ---- steps 2 to 4 together
 

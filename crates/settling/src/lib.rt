@@ -8,6 +8,7 @@ ghost use lib.Seq.{sets};
 ghost use Rattle.numbers.specs.Numbers.{tab};
 ghost use lib.Dec.{T};
 ghost use Rattle.predicates.specs.Predicates.{implies};
+ghost use Rattle.ends.specs.Ends.{BothSplit, withEnd};
 ghost use Rattle.state.specs.Layout.{stateSize, datumTerms, entriesMost, entryTerms, rowsMost, entryCount, storeOf};
 ghost use Rattle.state.specs.Form.{inForm};
 ghost use Rattle.state.specs.code.Tables.{Columns, Table, tableFrom, columns, TableFits, ColumnsFit, EntriesStand};
@@ -15,7 +16,7 @@ ghost use Rattle.state.specs.code.Tables.{entriesIn, datumOf, datumIn, dataIn, 
 ghost use Rattle.entries.specs.code.Marks.{Marked, Left};
 ghost use Rattle.settling.specs.code.Rows.{DataLeft, liveBelow, withTerm};
 ghost use Rattle.steps.specs.Steps.{learnt, met, without, stored, settled};
-use state::Ends;
+use ends::Ends;
 use steps::Rows;
 
 // Puts a datum last, into row h.
@@ -29,14 +30,14 @@ pub fn add_datum(
     p: &[u32],
 )
     requires { ⌜ ColumnsFit (h + 1) (columns (now lefts) (now rights) (now held) (now terms)) × (length (now p) ≤ datumTerms) ⌝ }
-    ensures { λ _. ⌜ now (lefts .exit) ≡ set (now (lefts .entry)) h (new .left) ⌝ }
-    ensures { λ _. ⌜ now (rights .exit) ≡ set (now (rights .entry)) h (new .right) ⌝ }
+    ensures { λ _. ⌜ now (lefts .exit) ≡ withEnd (now (lefts .entry)) h (new .left) ⌝ }
+    ensures { λ _. ⌜ now (rights .exit) ≡ withEnd (now (rights .entry)) h (new .right) ⌝ }
     ensures { λ _. ⌜ now (held .exit) ≡ set (now (held .entry)) h (length (now (p .entry))) ⌝ }
     ensures { λ _. ⌜ now (terms .exit) ≡ sets (now (terms .entry)) (h * datumTerms) (now (p .entry)) ⌝ }
 {
     entries::tables::add_row(held, terms, h, state::DATUM_TERMS, p);
-    lefts[h] = new.left;
-    rights[h] = new.right;
+    ends::column::put(lefts, h, new.left);
+    ends::column::put(rights, h, new.right);
 }
 
 // Steps 3 and 4: the new datum is met with the oldest under its predicate, and stored unless a held one betters it. Answers how many rows of data
@@ -51,7 +52,7 @@ fn place(
     p: &[u32],
 ) -> usize
     requires { ⌜ ColumnsFit (h + 1) (columns (now lefts) (now rights) (now held) (now terms)) ⌝ }
-    requires { ⌜ (0 < length (now p)) × (length (now p) ≤ datumTerms) × (h ≤ rowsMost) ⌝ }
+    requires { ⌜ (0 < length (now p)) × (length (now p) ≤ datumTerms) × (h ≤ rowsMost) × BothSplit new ⌝ }
     ensures { λ r. ⌜ (let c : Columns = columns (now (lefts .exit)) (now (rights .exit)) (now (held .exit)) (now (terms .exit)) in
         (r ≤ h + 1) × ColumnsFit r c
         × DataLeft h (columns (now (lefts .entry)) (now (rights .entry)) (now (held .entry)) (now (terms .entry))) c) ⌝ }
@@ -87,7 +88,7 @@ fn learn(
     requires { ⌜ ColumnsFit (rows .held) (columns (now lefts) (now rights) (now held) (now terms)) ⌝ }
     requires { ⌜ (stateSize ≤ length (now s)) × (rows .known ≤ entriesMost) ⌝ }
     requires { ⌜ TableFits entryTerms (rows .known + max 1 (rows .held)) (tableFrom (rows .known) (now s) (now counts) (now masks)) ⌝ }
-    requires { ⌜ (0 < length (now p)) × (length (now p) ≤ datumTerms) × (rows .known + max 1 (rows .held) ≤ length (now marks)) ⌝ }
+    requires { ⌜ (0 < length (now p)) × (length (now p) ≤ datumTerms) × (rows .known + max 1 (rows .held) ≤ length (now marks)) × BothSplit new ⌝ }
     requires { ⌜ Marked (rows .known) (tableFrom (rows .known) (now s) (now counts) (now masks)) (now marks) ⌝ }
     requires { ⌜ ((blame ≡ 0 → ⊥) → T (implies (blame ∷ []) (now p))) ⌝ }
     ensures { λ r. ⌜ (let t : Table = tableFrom (rows .known) (now (s .entry)) (now (counts .exit)) (now (masks .exit)) in
@@ -136,7 +137,7 @@ pub fn settle(
     requires { ⌜ ColumnsFit (rows .held + 1) (columns (now lefts) (now rights) (now held) (now terms)) ⌝ }
     requires { ⌜ (stateSize ≤ length (now s)) × T (inForm (now s)) × (rows .known ≡ entryCount (now s)) ⌝ }
     requires { ⌜ TableFits entryTerms (rows .known + max 1 (rows .held)) (tableFrom (rows .known) (now s) (now counts) (now masks)) ⌝ }
-    requires { ⌜ (0 < length (now p)) × (length (now p) ≤ datumTerms) × (rows .known + max 1 (rows .held) ≤ rowsMost) ⌝ }
+    requires { ⌜ (0 < length (now p)) × (length (now p) ≤ datumTerms) × (rows .known + max 1 (rows .held) ≤ rowsMost) × BothSplit new ⌝ }
     requires { ⌜ ((blame ≡ 0 → ⊥) → T (implies (blame ∷ []) (now p))) ⌝ }
     requires { ⌜ (let c : Columns = columns (now lefts) (now rights) (now held) (now terms) in
         tab (rows .held) (datumIn c) ≡ dataIn (rows .held) c) ⌝ }

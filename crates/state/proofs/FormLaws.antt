@@ -2,24 +2,30 @@
 -- The idea: each part has two laws. `-in` goes from what stands at its place (`At` of `proofs.LayoutLaws`) to what is read there and to the
 -- test; `-out` and `-part` from the test to the facts of what is read and to the bytes that stand there. One law over the row's width serves
 -- data and entries, and one over the size of the elements serves their places. No contract cites this file. Assumes nothing.
-use Prim.Native.Nat.{ℕ, _+_, _*_, _-_, _^_, _≤_, _<_}
+use Prim.Native.Nat.{ℕ, _+_, _*_, _-_, _/_, _%_, _^_, _≤_, _<_}
 use mathlib.Core.Path.{_≡_, refl, sym, ap, _∙_}
-use mathlib.Core.Bool.{Bool, _&&_}
+use mathlib.Core.Bool.{Bool, true, false, _&&_, _||_, not, and-assoc}
 use mathlib.Core.List.{List, _++_}
 use native.Mathlib.Nat.{add-mul}
 use native.Mathlib.Omega.{arith}
+use native.Mathlib.Decide.{ℕ-discrete, decLt}
+use borrow.Author.Tests.{lt-ltb, le-ltb, le-leb, eq-eqb, ne-eqb}
 use lib.Dec.{T, leb, leb→le, ltb, ltb→lt, lt→ltb, eqb}
 use lib.ListN.{length, getD, drop, replicate, length-append, length-replicate, length-drop, take-append-drop}
 use lib.Seq.{take-at, drop-at, length-take-le}
 use Rattle.numbers.specs.Numbers.{num, bytes, tab, Bytes, bytesOf}
 use Rattle.numbers.proofs.NumberLaws.{bytes-num, length-bytes, length-tab, tab-ext}
 use Rattle.predicates.specs.Lists.{all, allBelow, padded}
-use Rattle.predicates.proofs.ListLaws.{both, both-l, both-r}
-use Rattle.state.specs.Model.{Datum, endLimit}
+use Rattle.predicates.proofs.ListLaws.{both, both-l, both-r, true-T}
+use Rattle.ends.specs.Ends.{million, count, countOf, BothSplit}
+use Rattle.ends.specs.declared.Ends.{Ends}
+use Rattle.ends.proofs.EndLaws.{count-whole, count-millionths, count-parts, millionths-split, not-precedes}
+use Rattle.state.specs.Model.{Datum, lastWhole, endLimit}
+use Rattle.state.specs.code.Tables.{endsAt}
 use Rattle.state.specs.Layout.{zeros, joined, rowBytes, datumBytes, entryBytes, masksAt, rowAt, datumAt, entryAt, datumPlace, entryPlace, datumTerms, entryTerms, rowIn}
 use Rattle.state.specs.Form.{termFits, termsFit, isZero, rowFits, datumFits, entryFits, datumOk}
 use Rattle.predicates.proofs.IndexLaws.{all-mono, all-append, all-replicate, all-getD, below-in}
-use Rattle.state.proofs.LayoutLaws.{all-zero, part, length-part, part-add, slice-part, At, at-first, at-then, at-part, num-at, bytesOf-joined, joined-tab, length-joined, at-joined, length-padded, length-datum, length-entry}
+use Rattle.state.proofs.LayoutLaws.{all-zero, part, length-part, part-add, slice-part, At, at-first, at-then, at-part, num-at, bytesOf-joined, joined-tab, length-joined, at-joined, length-padded, length-row, length-datum, length-entry}
 use Rattle.names.specs.Sets.{noSet}
 
 -- ---- places filled up with zeros
@@ -152,7 +158,7 @@ module _ (own width at : ℕ) (s : List ℕ) (t : T (rowFits own width at s)) wh
 
 -- ---- data and entries
 
-pub datum-size : (own : ℕ) (d : Datum) → T (datumOk own d) → length (datumBytes d) ≡ 52
+pub datum-size : (own : ℕ) (d : Datum) → T (datumOk own d) → length (datumBytes d) ≡ 60
 unfolding datumOk
 datum-size own d t = length-datum d (fits-le own 8 (d .terms) (search (both-l, both-r) depth 9))
 
@@ -169,14 +175,29 @@ datum-in own s i d t h =
     let b : T (ltb (d .right) endLimit) = search (both-l, both-r) depth 9 in
     let c : T (termsFit own datumTerms (d .terms)) = search (both-l, both-r) depth 9 in
     let end = ltb→lt (d .right) endLimit b in
-    let rest = at-then 8 at (bytes 8 (d .left)) _ s (length-bytes 8 (d .left)) h in
+    let start = leb→le (d .left) (d .right) a in
+    let lw = d .left / million in
+    let rwh = d .right / million in
+    let lm = d .left % million in
+    let rm = d .right % million in
+    let ts = rowBytes datumTerms (d .terms) in
+    let few = fits-le own 8 (d .terms) c in
     let e : at + 8 + 8 ≡ at + 16 = omega arith in
-    let row : At (at + 16) (rowBytes datumTerms (d .terms)) s =
-    rw e at (at-then 8 (at + 8) (bytes 8 (d .right)) (rowBytes datumTerms (d .terms)) s (length-bytes 8 (d .right)) rest) in
-    let left = num-at 8 at (d .left) s (omega (arith, leb→le (d .left) (d .right) a)) (at-first at (bytes 8 (d .left)) _ s h) in
-    let right = num-at 8 (at + 8) (d .right) s (omega arith) (at-first (at + 8) (bytes 8 (d .right)) _ s rest) in (
-      rw (left, right, row-read own 8 (at + 16) (d .terms) s (omega arith) c row),
-      rw (left, right) (search (both, row-in own 8 (at + 16) (d .terms) s (omega arith) c row)),
+    let g : at + 16 + 36 ≡ at + 52 = omega arith in
+    let k : at + 52 + 4 ≡ at + 56 = omega arith in
+    let from-right : At (at + 8) (bytes 8 rwh ++ (ts ++ (bytes 4 lm ++ bytes 4 rm))) s = at-then 8 at (bytes 8 lw) _ s (length-bytes 8 lw) h in
+    let from-row : At (at + 16) (ts ++ (bytes 4 lm ++ bytes 4 rm)) s = rw e at (at-then 8 (at + 8) (bytes 8 rwh) _ s (length-bytes 8 rwh) from-right) in
+    let parts : At (at + 52) (bytes 4 lm ++ bytes 4 rm) s = rw g at (at-then 36 (at + 16) ts _ s (length-row datumTerms (d .terms) few) from-row) in
+    let last : At (at + 56) (bytes 4 rm) s = rw k at (at-then 4 (at + 52) (bytes 4 lm) (bytes 4 rm) s (length-bytes 4 lm) parts) in
+    let row = at-first (at + 16) ts _ s from-row in
+    let left = num-at 8 at lw s (omega arith) (at-first at (bytes 8 lw) _ s h) in
+    let right = num-at 8 (at + 8) rwh s (omega arith) (at-first (at + 8) (bytes 8 rwh) _ s from-right) in
+    let low = num-at 4 (at + 52) lm s (omega arith) (at-first (at + 52) (bytes 4 lm) (bytes 4 rm) s parts) in
+    let high = num-at 4 (at + 56) rm s (omega arith) last in
+    let low-in : T (ltb lm million) = lt→ltb lm million (millionths-split (d .left)) in
+    let high-in : T (ltb rm million) = lt→ltb rm million (millionths-split (d .right)) in (
+      rw (left, right, low, high, count-parts (d .left), count-parts (d .right), row-read own 8 (at + 16) (d .terms) s (omega arith) c row),
+      rw (left, right, low, high, count-parts (d .left), count-parts (d .right)) (search (both, row-in own 8 (at + 16) (d .terms) s (omega arith) c row)),
     )
 
 pub entry-in : (own : ℕ) (s : List ℕ) (i : ℕ) (e : List ℕ) → T (termsFit own entryTerms e) → At (entryPlace i) (entryBytes e) s
@@ -194,10 +215,80 @@ module _ (own : ℕ) (s : List ℕ) (i : ℕ) (t : T (datumFits own s i)) where
   unfolding datumFits datumOk datumAt
   datum-out = search (both, both-l, both-r, row-out own datumTerms (datumPlace i + rowIn) s datum-row) depth 9
 
-  pub datum-part : Bytes s → datumPlace i + 52 ≤ length s → datumBytes (datumAt s i) ≡ part (datumPlace i) 52 s
-  unfolding datumBytes datumAt
+  -- its millionths
+  pub ends-split : BothSplit (endsAt s i)
+  unfolding datumFits endsAt
+  ends-split =
+      let low : T (ltb (num (datumPlace i + 52) 4 s) million) = search both-l in
+      let high : T (ltb (num (datumPlace i + 56) 4 s) million) = search (both-l, both-r) depth 9 in
+      (ltb→lt (num (datumPlace i + 52) 4 s) million low, ltb→lt (num (datumPlace i + 56) 4 s) million high)
+
+  pub datum-part : Bytes s → datumPlace i + 60 ≤ length s → datumBytes (datumAt s i) ≡ part (datumPlace i) 60 s
+  unfolding datumBytes datumAt endsAt
   datum-part b h =
       let at = datumPlace i in
       let e : at + 8 + 8 ≡ at + 16 = omega arith in
-      rw (bytes-num 8 at s b (omega arith), bytes-num 8 (at + 8) s b (omega arith), row-part own 8 (at + 16) s datum-row b (omega arith), ← e)
-      (sym (part-add at 8 44 s ∙ ap (λ (a : List ℕ). part at 8 s ++ a) (part-add (at + 8) 8 36 s)))
+      let g : at + 16 + 36 ≡ at + 52 = omega arith in
+      let k : at + 52 + 4 ≡ at + 56 = omega arith in
+      let x = num at 8 s in
+      let y = num (at + 8) 8 s in
+      let split = ends-split in
+      rw (
+        count-whole x (num (at + 52) 4 s) (split .0),
+        count-whole y (num (at + 56) 4 s) (split .1),
+        count-millionths x (num (at + 52) 4 s) (split .0),
+        count-millionths y (num (at + 56) 4 s) (split .1),
+        bytes-num 8 at s b (omega arith),
+        bytes-num 8 (at + 8) s b (omega arith),
+        row-part own 8 (at + 16) s datum-row b (omega arith),
+        bytes-num 4 (at + 52) s b (omega arith),
+        bytes-num 4 (at + 56) s b (omega arith),
+      )
+      (rw (part-add at 8 52 s, part-add (at + 8) 8 44 s, e, part-add (at + 16) 36 8 s, g, part-add (at + 52) 4 4 s, k))
+
+-- ---- what the code tests of a datum's ends
+
+-- 2^58 - 1 is the last end
+pub last-end : (w p : ℕ) → p < million → (ltb w lastWhole || (eqb w lastWhole && eqb p 0)) ≡ ltb (count w p) endLimit
+last-end w p a = go (decLt w lastWhole) (ℕ-discrete w lastWhole) (ℕ-discrete p 0)
+  where
+    go : Dec (w < lastWhole) → Dec (w ≡ lastWhole) → Dec (p ≡ 0) → (ltb w lastWhole || (eqb w lastWhole && eqb p 0)) ≡ ltb (count w p) endLimit
+    go (yes i) e k = rw (lt-ltb w lastWhole i, lt-ltb (count w p) endLimit (omega arith))
+    go (no i) (yes e) (yes k) = rw (le-ltb w lastWhole (omega arith), eq-eqb w lastWhole e, eq-eqb p 0 k, lt-ltb (count w p) endLimit (omega arith))
+    go (no i) (yes e) (no k) = rw (le-ltb w lastWhole (omega arith), eq-eqb w lastWhole e, ne-eqb p 0 k, le-ltb (count w p) endLimit (omega arith))
+    go (no i) (no e) k = rw (le-ltb w lastWhole (omega arith), ne-eqb w lastWhole e, le-ltb (count w p) endLimit (omega arith))
+
+module _ (own : ℕ) (s : List ℕ) (i : ℕ) (e : Ends) (p : e ≡ endsAt s i) where
+  pub left-fails : million ≤ e .left .millionths → false ≡ datumFits own s i
+  unfolding datumFits endsAt
+  left-fails h = let k = rw p at h in rw (le-ltb (num (datumPlace i + 52) 4 s) million k)
+
+  pub right-fails : e .left .millionths < million → million ≤ e .right .millionths → false ≡ datumFits own s i
+  unfolding datumFits endsAt
+  right-fails g h =
+      let j = rw p at g in
+      let k = rw p at h in
+      rw (lt-ltb (num (datumPlace i + 52) 4 s) million j, le-ltb (num (datumPlace i + 56) 4 s) million k)
+
+  pub ends-fit : e .left .millionths < million → e .right .millionths < million
+      → ((leb (countOf (e .left)) (countOf (e .right)) && ltb (countOf (e .right)) endLimit) && rowFits own datumTerms (datumPlace i + rowIn) s)
+      ≡ datumFits own s i
+  unfolding datumFits endsAt datumAt
+  ends-fit g h =
+      let j = rw p at g in
+      let k = rw p at h in
+      rw (lt-ltb (num (datumPlace i + 52) 4 s) million j, lt-ltb (num (datumPlace i + 56) 4 s) million k, and-assoc, p)
+
+-- the whole microseconds tell, or both numbers do
+module _ (e : Ends) (split : BothSplit e) where
+  pub ordered-soon : (ltb (e .left .whole) (e .right .whole) && ltb (e .right .whole) lastWhole) ≡ true
+      → true ≡ leb (countOf (e .left)) (countOf (e .right)) && ltb (countOf (e .right)) endLimit
+  ordered-soon t =
+      let both-told = true-T (ltb (e .left .whole) (e .right .whole) && ltb (e .right .whole) lastWhole) t in
+      let g = ltb→lt (e .left .whole) (e .right .whole) (both-l (ltb (e .left .whole) (e .right .whole)) _ both-told) in
+      let h = ltb→lt (e .right .whole) lastWhole (both-r (ltb (e .left .whole) (e .right .whole)) _ both-told) in
+      rw (le-leb (countOf (e .left)) (countOf (e .right)) (omega (arith, split .0)), lt-ltb (countOf (e .right)) endLimit (omega (arith, split .1)))
+
+  pub ordered-both : (a b : Bool) → a ≡ ltb (countOf (e .right)) (countOf (e .left)) → b ≡ ltb (countOf (e .right)) endLimit
+      → (not a && b) ≡ leb (countOf (e .left)) (countOf (e .right)) && ltb (countOf (e .right)) endLimit
+  ordered-both a b p q = rw (p, q, not-precedes)

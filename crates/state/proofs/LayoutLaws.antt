@@ -129,7 +129,7 @@ pub length-row : (width : ℕ) (p : List ℕ) → length p ≤ width → length 
 unfolding rowBytes
 length-row width p h = rw (length-append, length-bytes, length-bytesOf, length-padded width p h)
 
-pub length-datum : (d : Datum) → length (d .terms) ≤ 8 → length (datumBytes d) ≡ 52
+pub length-datum : (d : Datum) → length (d .terms) ≤ 8 → length (datumBytes d) ≡ 60
 unfolding datumBytes
 length-datum d h = simp (length-append, length-bytes, length-row 8 (d .terms) h)
 

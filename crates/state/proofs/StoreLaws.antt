@@ -10,7 +10,7 @@ use mathlib.Core.Logic.{inl, inr, ⊎-elim}
 use native.Mathlib.Nat.{zero-add, suc-mul, eq-or-lt-of-le}
 use native.Mathlib.Numerals.{add-one}
 use native.Mathlib.Omega.{arith}
-use native.Mathlib.Decide.{decLt}
+use native.Mathlib.Decide.{ℕ-discrete, decLt}
 use lib.Dec.{T, leb, leb→le, le→leb, eqb, eqb→eq, eqb-refl}
 use lib.ListN.{length, getD, take, drop, set, length-append, length-take, length-drop, length-set, length-replicate, List·getD-append}
 use lib.Seq.{take-append-le, drop-at, drop-drop, getD-append-add, getD-drop}
@@ -18,19 +18,22 @@ use Rattle.numbers.specs.Numbers.{num, bytes, put, tab, Bytes}
 use Rattle.numbers.proofs.NumberLaws.{length-bytes, num-put-apart, length-put, put-then, put-front, length-tab, getD-tab, tab-next}
 use Rattle.predicates.specs.Lists.{all, keep}
 use Rattle.predicates.proofs.ListLaws.{all-keep, both-l, both-r}
-use Rattle.state.specs.Layout.{stateSize, heldAt, knownAt, dataAt, dataMost, datumSize, datumTerms, entriesAt, entriesMost, entrySize, entryTerms, dataBytes, entriesBytes, datumPlace, entryPlace, heldCount, entryCount, zeros, joined, datumBytes, entryBytes, masksAt, rowAt, datumAt, entryAt, storeOf, ownAt, rightIn, rowIn}
+use Rattle.state.specs.Layout.{stateSize, heldAt, knownAt, dataAt, dataMost, datumSize, datumTerms, entriesAt, entriesMost, entrySize, entryTerms, dataBytes, entriesBytes, datumPlace, entryPlace, heldCount, entryCount, zeros, joined, datumBytes, entryBytes, masksAt, rowAt, datumAt, entryAt, storeOf, ownAt, rowIn}
 use Rattle.state.specs.Form.{isZero, dataFit, entriesFit, inForm, datumOk, termsFit}
 use Rattle.state.proofs.LayoutLaws.{all-tab, At, num-drop, length-joined, at-joined, length-datum, length-entry}
 use Rattle.state.proofs.PutLaws.{zero-behind, joined-last, put-swap, put-stands, drop-put}
-use Rattle.state.proofs.StateLaws.{held-count-le, entry-count-le, datum-at-ok, length-datum-at, entry-at-ok, length-entry-at, datum-stands, entry-stands}
-use Rattle.state.specs.code.Tables.{Table, Columns, tableOf, table, columns, entryMasks, tableFrom, TableFits, ColumnsFit, rowOf, hasTerms, entriesIn, datumIn, dataIn, DataStand, EntriesStand}
+use Rattle.state.proofs.StateLaws.{held-count-le, entry-count-le, form-datum, datum-at-ok, length-datum-at, entry-at-ok, length-entry-at, datum-stands, entry-stands}
+use Rattle.state.specs.code.Tables.{Table, Columns, tableOf, table, columns, entryMasks, tableFrom, TableFits, ColumnsFit, rowOf, hasTerms, entriesIn, datumIn, dataIn, endsAt, EndsRead, DataStand, EntriesStand}
 use Rattle.state.specs.Model.{datum}
 use Rattle.numbers.proofs.NumberLaws.{tab-suc, tab-cong}
 use Rattle.predicates.proofs.ListLaws.{keep-append}
 use Rattle.state.proofs.RowLaws.{row-lent, row-empty}
 use Rattle.state.proofs.RowLaws.{row-full, table-room}
 use Rattle.state.specs.Model.{Datum}
-use Rattle.state.proofs.FormLaws.{length-filled}
+use Rattle.state.proofs.FormLaws.{length-filled, ends-split}
+use Rattle.ends.specs.declared.End.{End}
+use Rattle.ends.specs.Ends.{million, countOf, Split, BothSplit, endIn, withEnd, AllSplit}
+use Rattle.ends.proofs.EndLaws.{length-with, whole-with, millionths-with, whole-beside, millionths-beside}
 
 -- ---- a loop that fills the front of an array
 
@@ -162,17 +165,17 @@ module _ (w n i : ℕ) (counts masks : List ℕ) (t : TableFits w n (table count
 
 -- a turn of the loop that writes entries
 module _ (n i : ℕ) (counts masks : List ℕ) (t : TableFits 16 n (table counts masks)) (h : i < n) (r : ℕ) (s₀ s : List ℕ)
-    (w : Written entryBytes 68 856 (entriesIn i (table counts masks)) r s₀ s) where
+    (w : Written entryBytes 68 984 (entriesIn i (table counts masks)) r s₀ s) where
   entries-next : (u : List ℕ) → 0 < getD counts i 0
       → u ≡ put (entryPlace r) (entryBytes (rowOf 16 (table counts masks) i)) s
-      → Written entryBytes 68 856 (entriesIn (i + 1) (table counts masks)) (r + 1) s₀ u
+      → Written entryBytes 68 984 (entriesIn (i + 1) (table counts masks)) (r + 1) s₀ u
   unfolding entriesIn
   entries-next u k q =
       rw (kept-next hasTerms (rowOf 16 (table counts masks)) i (row-live 16 n i counts masks t h k))
-      (written-next entryBytes 68 856 (entriesIn i (table counts masks)) (rowOf 16 (table counts masks) i) r (entryPlace r) s₀ s u
+      (written-next entryBytes 68 984 (entriesIn i (table counts masks)) (rowOf 16 (table counts masks) i) r (entryPlace r) s₀ s u
       (length-entry (rowOf 16 (table counts masks) i) (length-row-le 16 i counts masks (t .narrow i))) refl q w)
 
-  pub entries-skip : getD counts i 0 ≤ 0 → Written entryBytes 68 856 (entriesIn (i + 1) (table counts masks)) r s₀ s
+  pub entries-skip : getD counts i 0 ≤ 0 → Written entryBytes 68 984 (entriesIn (i + 1) (table counts masks)) r s₀ s
   unfolding entriesIn
   entries-skip k = rw (kept-skip hasTerms (rowOf 16 (table counts masks)) i (row-gone 16 n i counts masks t h k)) w
 
@@ -182,32 +185,32 @@ module _ (n i : ℕ) (counts masks : List ℕ) (t : TableFits 16 n (table counts
 
 -- a turn of the loop that writes data
 module _ (n i : ℕ) (lefts rights counts masks : List ℕ) (t : ColumnsFit n (columns lefts rights counts masks)) (h : i < n) (r : ℕ) (s₀ s : List ℕ)
-    (w : Written datumBytes 52 24 (dataIn i (columns lefts rights counts masks)) r s₀ s) where
+    (w : Written datumBytes 60 24 (dataIn i (columns lefts rights counts masks)) r s₀ s) where
   data-next : (u : List ℕ) → 0 < getD counts i 0
       → u ≡ put (datumPlace r) (datumBytes (datumIn (columns lefts rights counts masks) i)) s
-      → Written datumBytes 52 24 (dataIn (i + 1) (columns lefts rights counts masks)) (r + 1) s₀ u
+      → Written datumBytes 60 24 (dataIn (i + 1) (columns lefts rights counts masks)) (r + 1) s₀ u
   unfolding dataIn datumIn
   data-next u k q =
       rw (kept-next (λ d. hasTerms (d .terms)) (datumIn (columns lefts rights counts masks)) i (row-live 8 n i counts masks (t .table) h k))
-      (written-next datumBytes 52 24 (dataIn i (columns lefts rights counts masks)) (datumIn (columns lefts rights counts masks) i) r (datumPlace r) s₀ s u
+      (written-next datumBytes 60 24 (dataIn i (columns lefts rights counts masks)) (datumIn (columns lefts rights counts masks) i) r (datumPlace r) s₀ s u
       (length-datum (datumIn (columns lefts rights counts masks) i) (length-row-le 8 i counts masks (t .table .narrow i))) refl q w)
 
   -- the datum is stored from the part of the array that is lent, or left where it stands
-  pub datum-stored : (u : List ℕ) → 0 < getD counts i 0
-      → u ≡ put (datumPlace r) (datumBytes (datum (getD lefts i 0) (getD rights i 0) (take (i * 8 + getD counts i 0 - i * 8) (drop (i * 8) masks)))) s
-      → Written datumBytes 52 24 (dataIn (i + 1) (columns lefts rights counts masks)) (r + 1) s₀ u
+  pub datum-stored : (u : List ℕ) (a b : ℕ) → a ≡ endIn lefts i → b ≡ endIn rights i → 0 < getD counts i 0
+      → u ≡ put (datumPlace r) (datumBytes (datum a b (take (i * 8 + getD counts i 0 - i * 8) (drop (i * 8) masks)))) s
+      → Written datumBytes 60 24 (dataIn (i + 1) (columns lefts rights counts masks)) (r + 1) s₀ u
   unfolding datumIn
-  datum-stored u k q = data-next u k (rw (row-lent 8 i counts masks) at q)
+  datum-stored u a b e f k q = data-next u k (rw (e, f, row-lent 8 i counts masks) at q)
 
   pub datum-stays : 0 < getD counts i 0 → i ≤ r → r ≤ i → put (datumPlace i) (datumBytes (datumIn (columns lefts rights counts masks) i)) s₀ ≡ s₀
-      → Written datumBytes 52 24 (dataIn (i + 1) (columns lefts rights counts masks)) (r + 1) s₀ s
+      → Written datumBytes 60 24 (dataIn (i + 1) (columns lefts rights counts masks)) (r + 1) s₀ s
   datum-stays k l m q =
       let e : i ≡ r = omega arith in
       let d = datumIn (columns lefts rights counts masks) i in
       let stands : put (datumPlace r) (datumBytes d) s₀ ≡ s₀ = ap (λ (j : ℕ). put (datumPlace j) (datumBytes d) s₀) (sym e) ∙ q in
-      data-next s k (written-stands datumBytes 52 24 (dataIn i (columns lefts rights counts masks)) d r (datumPlace r) s₀ s refl stands w)
+      data-next s k (written-stands datumBytes 60 24 (dataIn i (columns lefts rights counts masks)) d r (datumPlace r) s₀ s refl stands w)
 
-  pub data-skip : getD counts i 0 ≤ 0 → Written datumBytes 52 24 (dataIn (i + 1) (columns lefts rights counts masks)) r s₀ s
+  pub data-skip : getD counts i 0 ≤ 0 → Written datumBytes 60 24 (dataIn (i + 1) (columns lefts rights counts masks)) r s₀ s
   unfolding dataIn datumIn
   data-skip k = rw (kept-skip (λ d. hasTerms (d .terms)) (datumIn (columns lefts rights counts masks)) i (row-gone 8 n i counts masks (t .table) h k)) w
 
@@ -218,7 +221,7 @@ module _ (n i : ℕ) (lefts rights counts masks : List ℕ) (t : ColumnsFit n (c
 
 -- ---- how many bytes the rows take
 
--- a datum of 52 bytes, an entry of 68
+-- a datum of 60 bytes, an entry of 68
 narrowDatum : Datum → Bool
 narrowDatum d = leb (length (d .terms)) datumTerms
 
@@ -300,17 +303,51 @@ module _ (width n : ℕ) (place : ℕ → ℕ) (s c₀ rest c m : List ℕ) (p :
       small i (yes l) = omega (arith, column-front (λ j. num (place j) 4 s) n i c₀ c p l, few i l)
       small i (no l) = omega (arith, column-rest (λ j. num (place j) 4 s) n i c₀ c p (omega arith), t .narrow i)
 
+-- a loop that reads ends into a column
+pub ends-none : (f : ℕ → End) (l : List ℕ) → EndsRead f 0 l l
+ends-none f l = record { long = refl; front = λ i h. absurd (omega arith); rest = λ i h. refl }
+
+pub ends-next : (f : ℕ → End) (i n : ℕ) (e : End) (l₀ l : List ℕ) → e ≡ f i → i < n → n * 2 ≤ length l₀ → EndsRead f i l₀ l → EndsRead f (i + 1) l₀ (withEnd l i e)
+ends-next f i n e l₀ l p h room w =
+    let k : i * 2 + 1 < length l = omega (arith, w .long) in
+    record {
+      long = length-with l i e ∙ w .long;
+      front = λ j m. here k j m (ℕ-discrete j i);
+      rest = λ j m. millionths-beside l i j e (λ q. omega arith) ∙ w .rest j (omega arith);
+    }
+  where
+    here : i * 2 + 1 < length l → (j : ℕ) → j < i + 1 → Dec (j ≡ i) → (getD (withEnd l i e) (j * 2) 0 ≡ f j .whole) × (getD (withEnd l i e) (j * 2 + 1) 0 ≡ f j .millionths)
+    here k j m (yes q) = rw (q, whole-with l i e k, millionths-with l i e k, p) (refl, refl)
+    here k j m (no q) =
+        let old = w .front j (omega arith) in
+        (whole-beside l i j e q ∙ old .0, millionths-beside l i j e q ∙ old .1)
+
+pub ends-done : (f : ℕ → End) (n i : ℕ) (l₀ l : List ℕ) → i ≤ n → n ≤ i → EndsRead f i l₀ l → EndsRead f n l₀ l
+ends-done f n i l₀ l h k w = let e : i ≡ n = omega arith in rw e at w
+
+-- a column whose first ends were read
+module _ (f : ℕ → End) (n : ℕ) (l₀ l : List ℕ) (w : EndsRead f n l₀ l) where
+  end-read : (i : ℕ) → i < n → endIn l i ≡ countOf (f i)
+  end-read i h = let k = w .front i h in rw (k .0, k .1)
+
+  split-read : ((i : ℕ) → i < n → Split (f i)) → AllSplit l₀ → AllSplit l
+  split-read new old i = go (decLt i n)
+    where
+      go : Dec (i < n) → getD l (i * 2 + 1) 0 < million
+      go (yes h) = omega (arith, w .front i h .1, new i h)
+      go (no h) = omega (arith, w .rest i (omega arith), old i)
+
 -- n data that were read
-module _ (n : ℕ) (s l₀ r₀ c₀ m₀ l r c m : List ℕ) (e : l ≡ tab n (λ i. num (datumPlace i) 8 s) ++ drop n l₀)
-    (f : r ≡ tab n (λ i. num (datumPlace i + rightIn) 8 s) ++ drop n r₀) (p : c ≡ tab n (λ i. num (datumPlace i + rowIn) 4 s) ++ drop n c₀)
+module _ (n : ℕ) (s l₀ r₀ c₀ m₀ l r c m : List ℕ) (e : EndsRead (λ i. endsAt s i .left) n l₀ l)
+    (f : EndsRead (λ i. endsAt s i .right) n r₀ r) (split : (i : ℕ) → i < n → BothSplit (endsAt s i)) (p : c ≡ tab n (λ i. num (datumPlace i + rowIn) 4 s) ++ drop n c₀)
     (q : m ≡ joined (λ x. x) (tab n (λ i. masksAt datumTerms (datumPlace i + rowIn) s)) ++ drop (n * 8) m₀)
     (few : (i : ℕ) → i < n → num (datumPlace i + rowIn) 4 s ≤ 8) where
   datum-read : (i : ℕ) → i < n → datumIn (columns l r c m) i ≡ datumAt s i
-  unfolding datumIn datumAt
+  unfolding datumIn datumAt endsAt
   datum-read i h =
       rw (
-        column-front (λ k. num (datumPlace k) 8 s) n i l₀ l e h,
-        column-front (λ k. num (datumPlace k + rightIn) 8 s) n i r₀ r f h,
+        end-read (λ k. endsAt s k .left) n l₀ l e i h,
+        end-read (λ k. endsAt s k .right) n r₀ r f i h,
         rows-read 8 n (λ k. datumPlace k + rowIn) s c₀ (drop (n * 8) m₀) c m p q few i h,
       )
 
@@ -323,8 +360,10 @@ module _ (n : ℕ) (s l₀ r₀ c₀ m₀ l r c m : List ℕ) (e : l ≡ tab n (
       ap length q ∙ rw (length-append, length-drop) (omega (arith, length-rows 8 n (λ i. datumPlace i + rowIn) s, t .table .long)) in
       record {
         table = table-read 8 n (λ i. datumPlace i + rowIn) s c₀ (drop (n * 8) m₀) c m p q few k m₀ h long (t .table);
-        lefts-long = omega (arith, t .lefts-long, length-column (λ i. num (datumPlace i) 8 s) n l₀ l e (omega (arith, t .lefts-long)));
-        rights-long = omega (arith, t .rights-long, length-column (λ i. num (datumPlace i + rightIn) 8 s) n r₀ r f (omega (arith, t .rights-long)));
+        lefts-long = omega (arith, t .lefts-long, e .long);
+        rights-long = omega (arith, t .rights-long, f .long);
+        lefts-split = split-read (λ i. endsAt s i .left) n l₀ l e (λ i j. split i j .0) (t .lefts-split);
+        rights-split = split-read (λ i. endsAt s i .right) n r₀ r f (λ i j. split i j .1) (t .rights-split);
       }
 
 -- ---- entries whose terms stand in the bytes, and those behind them
@@ -372,30 +411,30 @@ module _ (first i : ℕ) (s counts masks : List ℕ) where
 
 -- a turn of the loop that writes entries, of which the first stand in the bytes: the entry is stored from the array, moved, or left where it stands
 module _ (first n i : ℕ) (s₀ counts masks : List ℕ) (t : TableFits 16 n (tableFrom first s₀ counts masks)) (h : i < n) (r : ℕ) (s : List ℕ)
-    (w : Written entryBytes 68 856 (entriesIn i (tableFrom first s₀ counts masks)) r s₀ s) (k : 0 < getD counts i 0) where
+    (w : Written entryBytes 68 984 (entriesIn i (tableFrom first s₀ counts masks)) r s₀ s) (k : 0 < getD counts i 0) where
   pub entry-stored : (u : List ℕ) → first ≤ i
       → u ≡ put (entryPlace r) (entryBytes (take ((i - first) * 16 + getD counts i 0 - (i - first) * 16) (drop ((i - first) * 16) masks))) s
-      → Written entryBytes 68 856 (entriesIn (i + 1) (tableFrom first s₀ counts masks)) (r + 1) s₀ u
+      → Written entryBytes 68 984 (entriesIn (i + 1) (tableFrom first s₀ counts masks)) (r + 1) s₀ u
   entry-stored u l q = entries-next n i counts (entryMasks first s₀ ++ masks) t h r s₀ s w u k (rw (row-behind first i s₀ counts masks l) at q)
 
   pub entry-moved : (u : List ℕ) → i < first → r ≤ i → u ≡ put (entryPlace r) (entryBytes (take (getD counts i 0) (masksAt 16 (entryPlace i) s))) s
-      → Written entryBytes 68 856 (entriesIn (i + 1) (tableFrom first s₀ counts masks)) (r + 1) s₀ u
+      → Written entryBytes 68 984 (entriesIn (i + 1) (tableFrom first s₀ counts masks)) (r + 1) s₀ u
   entry-moved u l m q =
       let es = joined entryBytes (entriesIn i (tableFrom first s₀ counts masks)) in
       let same : masksAt 16 (entryPlace i) s ≡ masksAt 16 (entryPlace i) s₀ =
       masks-apart 16 (entryPlace i) s₀ s
-      (ap (λ (x : List ℕ). drop (entryPlace i) x) (w .stored) ∙ drop-put (entryPlace i) 856 es s₀ (omega (arith, w .sized))) in
+      (ap (λ (x : List ℕ). drop (entryPlace i) x) (w .stored) ∙ drop-put (entryPlace i) 984 es s₀ (omega (arith, w .sized))) in
       entries-next n i counts (entryMasks first s₀ ++ masks) t h r s₀ s w u k
       (q ∙ ap (λ (e : List ℕ). put (entryPlace r) (entryBytes e) s) (rw same (sym (row-front first i s₀ counts masks l (t .narrow i)))))
 
   pub entry-stays : i ≤ r → r ≤ i → put (entryPlace i) (entryBytes (rowOf 16 (tableFrom first s₀ counts masks) i)) s₀ ≡ s₀
-      → Written entryBytes 68 856 (entriesIn (i + 1) (tableFrom first s₀ counts masks)) (r + 1) s₀ s
+      → Written entryBytes 68 984 (entriesIn (i + 1) (tableFrom first s₀ counts masks)) (r + 1) s₀ s
   entry-stays l m q =
       let e : i ≡ r = omega arith in
       let row = rowOf 16 (tableFrom first s₀ counts masks) i in
       let stands : put (entryPlace r) (entryBytes row) s₀ ≡ s₀ = ap (λ (j : ℕ). put (entryPlace j) (entryBytes row) s₀) (sym e) ∙ q in
       entries-next n i counts (entryMasks first s₀ ++ masks) t h r s₀ s w s k
-      (written-stands entryBytes 68 856 (entriesIn i (tableFrom first s₀ counts masks)) row r (entryPlace r) s₀ s refl stands w)
+      (written-stands entryBytes 68 984 (entriesIn i (tableFrom first s₀ counts masks)) row r (entryPlace r) s₀ s refl stands w)
 
 -- ---- fresh arrays
 
@@ -417,9 +456,15 @@ table-awaiting first n j s masks g h =
     let t = table-fresh 16 n j (n * 16) g (omega arith) in
     record { counted = t .counted; long = omega (arith, length-append (entryMasks first s) masks, length-entry-masks first s); narrow = t .narrow }
 
-pub columns-fresh : (n a b j k : ℕ) → n ≤ a → n ≤ b → n ≤ j → n * 8 ≤ k → ColumnsFit n (columns (zeros a) (zeros b) (zeros j) (zeros k))
+pub columns-fresh : (n a b j k : ℕ) → n * 2 ≤ a → n * 2 ≤ b → n ≤ j → n * 8 ≤ k → ColumnsFit n (columns (zeros a) (zeros b) (zeros j) (zeros k))
 columns-fresh n a b j k e f g h =
-    record { table = table-fresh 8 n j k g h; lefts-long = omega (arith, length-zeros a); rights-long = omega (arith, length-zeros b) }
+    record {
+      table = table-fresh 8 n j k g h;
+      lefts-long = omega (arith, length-zeros a);
+      rights-long = omega (arith, length-zeros b);
+      lefts-split = λ i. omega (arith, zero-at a (i * 2 + 1));
+      rights-split = λ i. omega (arith, zero-at b (i * 2 + 1));
+    }
 
 -- ---- a state in form
 
@@ -524,7 +569,7 @@ module _ (n : ℕ) (s : List ℕ) (t : T (inForm s)) (a : n ≡ entryCount s) (c
   table-standing k h f = table-read 16 n entryPlace s c₀ m c (entryMasks n s ++ m) p refl entries-few k (entryMasks n s ++ m) h refl f
 
 module _ (n : ℕ) (s : List ℕ) (t : T (inForm s)) (a : n ≡ heldCount s) (l₀ r₀ c₀ m₀ l r c m : List ℕ)
-    (e : l ≡ tab n (λ i. num (datumPlace i) 8 s) ++ drop n l₀) (f : r ≡ tab n (λ i. num (datumPlace i + rightIn) 8 s) ++ drop n r₀)
+    (e : EndsRead (λ i. endsAt s i .left) n l₀ l) (f : EndsRead (λ i. endsAt s i .right) n r₀ r)
     (p : c ≡ tab n (λ i. num (datumPlace i + rowIn) 4 s) ++ drop n c₀)
     (q : m ≡ joined (λ x. x) (tab n (λ i. masksAt datumTerms (datumPlace i + rowIn) s)) ++ drop (n * 8) m₀) where
   data-few : (i : ℕ) → i < n → num (datumPlace i + rowIn) 4 s ≤ 8
@@ -534,13 +579,16 @@ module _ (n : ℕ) (s : List ℕ) (t : T (inForm s)) (a : n ≡ heldCount s) (l�
       let ok = datum-at-ok s t i k in
       omega (arith, leb→le (length (datumAt s i .terms)) 8 (search (both-l, both-r) depth 9), length-datum-at s t i k)
 
+  data-split : (i : ℕ) → i < n → BothSplit (endsAt s i)
+  data-split i h = ends-split (num ownAt 4 s) s i (form-datum s t i (omega arith))
+
   -- the rows are the held data, and none has been given up
   pub data-rows : tab n (datumIn (columns l r c m)) ≡ storeOf s .held
   unfolding storeOf
-  data-rows = rw (data-read n s l₀ r₀ c₀ m₀ l r c m e f p q data-few, a)
+  data-rows = rw (data-read n s l₀ r₀ c₀ m₀ l r c m e f data-split p q data-few, a)
 
   pub datum-standing : (i : ℕ) → i < n → datumIn (columns l r c m) i ≡ datumAt s i
-  datum-standing = datum-read n s l₀ r₀ c₀ m₀ l r c m e f p q data-few
+  datum-standing = datum-read n s l₀ r₀ c₀ m₀ l r c m e f data-split p q data-few
 
   pub data-form : dataIn n (columns l r c m) ≡ storeOf s .held
   unfolding dataIn storeOf datumOk
@@ -550,4 +598,4 @@ module _ (n : ℕ) (s : List ℕ) (t : T (inForm s)) (a : n ≡ heldCount s) (l�
       rw data-rows (keep-all (λ d. hasTerms (d .terms)) (tab (heldCount s) (datumAt s)) (all-tab (λ d. hasTerms (d .terms)) (heldCount s) (datumAt s) some-terms))
 
   pub data-columns : (k : ℕ) → n ≤ k → ColumnsFit k (columns l₀ r₀ c₀ m₀) → ColumnsFit k (columns l r c m)
-  data-columns = columns-read n s l₀ r₀ c₀ m₀ l r c m e f p q data-few
+  data-columns = columns-read n s l₀ r₀ c₀ m₀ l r c m e f data-split p q data-few

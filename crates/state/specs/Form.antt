@@ -11,12 +11,13 @@ use Rattle.numbers.specs.Numbers.{num}
 use Rattle.names.specs.Sets.{noSet, has}
 use Rattle.predicates.specs.Lists.{all, allBelow}
 use Rattle.predicates.specs.Predicates.{isNormal}
+use Rattle.ends.specs.Ends.{million}
 use Rattle.epochs.specs.Epochs.{epochMost, epochsMost, epochsIn}
 use Rattle.clocks.specs.Clocks.{savedOk}
 use Rattle.clocks.specs.Places.{placeFits}
 use Rattle.state.specs.Model.{Datum, Head, Store, State, nameMost, driftMost, endLimit, readingLimit}
-use Rattle.state.specs.Layout.{ownAt, driftAt, readingAt, rightIn, rowIn, dataMost, datumTerms, entriesMost, entryTerms}
-use Rattle.state.specs.Layout.{datumPlace, entryPlace, masksAt, rowAt, heldCount, entryCount, clocksMost, clockPlace, epochsAt}
+use Rattle.state.specs.Layout.{ownAt, driftAt, readingAt, rowIn, leftMillionthsIn, rightMillionthsIn, dataMost, datumTerms, entriesMost, entryTerms}
+use Rattle.state.specs.Layout.{datumPlace, entryPlace, masksAt, rowAt, datumAt, heldCount, entryCount, clocksMost, clockPlace, epochsAt}
 
 -- ---- terms and predicates
 
@@ -40,11 +41,13 @@ rowFits own width at s =
     leb 1 (num at 4 s) && (leb (num at 4 s) width
     && (isNormal (rowAt width at s) && (all (termFits own) (rowAt width at s) && all (λ t. eqb t 0) (drop (num at 4 s) (masksAt width at s)))))
 
--- "left at most right", ends below 2^58
+-- millionths "0 to 999,999" (document 02, W-205), "left at most right", both with their millionths, and none above 2^58 − 1
 unfoldable pub datumFits : ℕ → List ℕ → ℕ → Bool
 datumFits own s i =
-    leb (num (datumPlace i) 8 s) (num (datumPlace i + rightIn) 8 s)
-    && (ltb (num (datumPlace i + rightIn) 8 s) endLimit && rowFits own datumTerms (datumPlace i + rowIn) s)
+    ltb (num (datumPlace i + leftMillionthsIn) 4 s) million
+    && (ltb (num (datumPlace i + rightMillionthsIn) 4 s) million
+    && (leb (datumAt s i .left) (datumAt s i .right)
+    && (ltb (datumAt s i .right) endLimit && rowFits own datumTerms (datumPlace i + rowIn) s)))
 
 unfoldable pub entryFits : ℕ → List ℕ → ℕ → Bool
 entryFits own s i = rowFits own entryTerms (entryPlace i) s

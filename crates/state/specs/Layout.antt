@@ -1,17 +1,18 @@
--- The 5,265 bytes of a state (document 01, "State bytes", and document 02's later parts), both ways: `stateBytes` writes a state, `stateOf` reads one.
+-- The 5,393 bytes of a state (document 01, "State bytes", and document 02's later parts), both ways: `stateBytes` writes a state, `stateOf` reads one.
 -- Assumes nothing: these are definitions.
-use Prim.Native.Nat.{ℕ, _+_, _*_, _-_}
+use Prim.Native.Nat.{ℕ, _+_, _*_, _-_, _/_, _%_}
 use mathlib.Core.List.{List, [], _∷_, _++_}
 use lib.ListN.{length, take, replicate}
 use Rattle.numbers.specs.Numbers.{num, bytes, bytesOf, tab}
 use Rattle.predicates.specs.Lists.{padded}
+use Rattle.ends.specs.Ends.{million, count}
 use Rattle.epochs.specs.Epochs.{epochsIn}
 use Rattle.clocks.specs.Places.{placeSize, savedBytes, savedAt}
 use Rattle.state.specs.Model.{Datum, Head, Store, State}
 
 -- how many bytes a state has
 abbrev pub stateSize : ℕ
-stateSize = 5265
+stateSize = 5393
 
 -- where the numbers of the head stand: "own name (4 bytes), drift (4), reading (8), held count (4), entry count (4)"
 abbrev pub ownAt : ℕ
@@ -29,7 +30,8 @@ heldAt = 16
 abbrev pub knownAt : ℕ
 knownAt = 20
 
--- "16 data of 52": where they begin, how many there are, how long one is, and how many masks it has
+-- "16 data of 52", and 8 more for the millionths of both ends (document 02, W-205): where they begin, how many there are, how long one is, and how
+-- many masks it has
 abbrev pub dataAt : ℕ
 dataAt = 24
 
@@ -37,21 +39,28 @@ abbrev pub dataMost : ℕ
 dataMost = 16
 
 abbrev pub datumSize : ℕ
-datumSize = 52
+datumSize = 60
 
 abbrev pub datumTerms : ℕ
 datumTerms = 8
 
--- in a datum: the right end behind the left one, and the row of its term count and masks behind both
+-- in a datum: the right end's whole microseconds behind the left one's, the row of its term count and masks behind both, and last the millionths,
+-- "left then right at its end"
 abbrev pub rightIn : ℕ
 rightIn = 8
 
 abbrev pub rowIn : ℕ
 rowIn = 16
 
+abbrev pub leftMillionthsIn : ℕ
+leftMillionthsIn = 52
+
+abbrev pub rightMillionthsIn : ℕ
+rightMillionthsIn = 56
+
 -- "32 entries of 68"
 abbrev pub entriesAt : ℕ
-entriesAt = 856
+entriesAt = 984
 
 abbrev pub entriesMost : ℕ
 entriesMost = 32
@@ -64,14 +73,14 @@ entryTerms = 16
 
 -- "29 places of 76 bytes by name" (document 02, W-201): where they begin, and how many there are
 abbrev pub clocksAt : ℕ
-clocksAt = 3032
+clocksAt = 3160
 
 abbrev pub clocksMost : ℕ
 clocksMost = 29
 
 -- "29 bytes of epochs by identifier, the own one among them" (document 02, W-204): where they begin
 abbrev pub epochsAt : ℕ
-epochsAt = 5236
+epochsAt = 5364
 
 -- the rows of data and entries
 abbrev pub rowsMost : ℕ
@@ -96,9 +105,12 @@ zeros n = replicate n 0
 unfoldable pub rowBytes : ℕ → List ℕ → List ℕ
 rowBytes width terms = bytes 4 (length terms) ++ bytesOf (padded width terms)
 
--- "left 8, right 8, term count 4, eight masks of 4"
+-- "left 8, right 8, term count 4, eight masks of 4", and behind them the millionths of left and right, 4 each
 unfoldable pub datumBytes : Datum → List ℕ
-datumBytes d = bytes 8 (d .left) ++ (bytes 8 (d .right) ++ rowBytes datumTerms (d .terms))
+datumBytes d =
+    bytes 8 (d .left / million)
+    ++ (bytes 8 (d .right / million)
+    ++ (rowBytes datumTerms (d .terms) ++ (bytes 4 (d .left % million) ++ bytes 4 (d .right % million))))
 
 unfoldable pub entryBytes : List ℕ → List ℕ
 entryBytes e = rowBytes entryTerms e
@@ -146,8 +158,8 @@ rowAt width at s = take (num at 4 s) (masksAt width at s)
 unfoldable pub datumAt : List ℕ → ℕ → Datum
 datumAt s i =
     record {
-      left = num (datumPlace i) 8 s;
-      right = num (datumPlace i + rightIn) 8 s;
+      left = count (num (datumPlace i) 8 s) (num (datumPlace i + leftMillionthsIn) 4 s);
+      right = count (num (datumPlace i + rightIn) 8 s) (num (datumPlace i + rightMillionthsIn) 4 s);
       terms = rowAt datumTerms (datumPlace i + rowIn) s;
     }
 

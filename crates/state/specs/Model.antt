@@ -1,10 +1,12 @@
 -- What a monitor holds (document 01, "Instants, names, predicates" and "Receiving"), as numbers and lists, oldest first.
 -- Assumes nothing: these are definitions.
-use Prim.Native.Nat.{ℕ, _^_}
+use Prim.Native.Nat.{ℕ, _+_, _-_, _*_, _^_}
 use mathlib.Core.List.{List}
+use Rattle.ends.specs.Ends.{million}
 use Rattle.clocks.specs.Clocks.{Saved}
 
--- "A datum is an interval (left at most right) and a predicate: true time is in the interval, or the predicate is true."
+-- "A datum is an interval (left at most right) and a predicate: true time is in the interval, or the predicate is true." Its
+-- ends are counts of millionths of a microsecond (document 02, W-205).
 pub record Datum : Type 0 where
   pub left : ℕ
   pub right : ℕ
@@ -43,9 +45,13 @@ nameMost = 28
 abbrev pub driftMost : ℕ
 driftMost = 1000
 
--- the first end that cannot be stored: "Stored ends lie from 0 to 2^58 − 1"
+-- the last whole microsecond that can be stored: "Stored ends lie from 0 to 2^58 − 1"
+abbrev pub lastWhole : ℕ
+lastWhole = 2 ^ 58 - 1
+
+-- the first end, in millionths, that cannot be stored: "an end of 2^58 − 1 with a fraction above 0" (document 02, W-205)
 abbrev pub endLimit : ℕ
-endLimit = 2 ^ 58
+endLimit = lastWhole * million + 1
 
 -- the first reading that cannot be stored: "reading below 2^58"
 abbrev pub readingLimit : ℕ

@@ -92,11 +92,15 @@ fn datum_fits(s: &[u8], i: usize, own: u32) -> bool
     requires { ⌜ (i < dataMost) × (own < 32) × (stateSize ≤ length (now s)) ⌝ }
     ensures { λ r. ⌜ r ≡ datumFits own (now (s .entry)) i ⌝ }
 {
+    let ends = super::intervals::get(s, i);
+    if ends::MILLION <= ends.left.millionths {
+        return false;
+    }
+    if ends::MILLION <= ends.right.millionths {
+        return false;
+    }
     let at = super::DATA_AT + i * super::DATUM_SIZE;
-    let left = numbers::get64(s, at);
-    let right = numbers::get64(s, at + super::RIGHT_IN);
-    (left <= right)
-        & ((right < super::END_LIMIT) & row_fits(s, at + super::ROW_IN, super::DATUM_TERMS, own))
+    super::intervals::ordered(ends) & row_fits(s, at + super::ROW_IN, super::DATUM_TERMS, own)
 }
 
 // Whether the entry in place i fits.

@@ -3,10 +3,11 @@ ghost use mathlib.Core.Path.{_≡_};
 ghost use Prim.Native.Nat.{_+_, _*_, _-_, _≤_, _<_};
 ghost use lib.ListN.{length};
 ghost use Rattle.numbers.specs.Numbers.{put};
+ghost use Rattle.ends.specs.Ends.{BothSplit};
 ghost use Rattle.state.specs.Layout.{stateSize, dataMost, datumTerms, entriesMost, entryTerms, datumPlace, entryPlace};
 ghost use Rattle.state.specs.Layout.{zeros, rowBytes, datumBytes, entryBytes};
 ghost use Rattle.state.specs.code.Tables.{datumOf};
-use super::Ends;
+use ends::Ends;
 
 // Puts zeros into the bytes from `from` up to `to`, if there are any.
 pub fn clear(s: &mut [u8], from: usize, to: usize)
@@ -33,13 +34,15 @@ fn put_row(s: &mut [u8], at: usize, width: usize, terms: &[u32])
 
 // Puts a datum into place i.
 pub(crate) fn put_datum(s: &mut [u8], i: usize, ends: Ends, terms: &[u32])
-    requires { ⌜ (i < dataMost) × (length (now terms) ≤ datumTerms) × (stateSize ≤ length (now s)) ⌝ }
+    requires { ⌜ (i < dataMost) × (length (now terms) ≤ datumTerms) × (stateSize ≤ length (now s)) × BothSplit ends ⌝ }
     ensures { λ _. ⌜ now (s .exit) ≡ put (datumPlace i) (datumBytes (datumOf ends (now (terms .entry)))) (now (s .entry)) ⌝ }
 {
     let at = super::DATA_AT + i * super::DATUM_SIZE;
-    numbers::put64(s, at, ends.left);
-    numbers::put64(s, at + super::RIGHT_IN, ends.right);
+    numbers::put64(s, at, ends.left.whole);
+    numbers::put64(s, at + super::RIGHT_IN, ends.right.whole);
     put_row(s, at + super::ROW_IN, super::DATUM_TERMS, terms);
+    numbers::put_num(s, at + super::LEFT_MILLIONTHS_IN, 4, ends.left.millionths);
+    numbers::put_num(s, at + super::RIGHT_MILLIONTHS_IN, 4, ends.right.millionths);
 }
 
 // Puts an entry into place i.

@@ -8,14 +8,13 @@ ghost use lib.ListN.{length, getD, take, drop};
 ghost use Rattle.numbers.specs.Numbers.{num, bytes, put, tab};
 ghost use Rattle.predicates.specs.Lists.{padded};
 ghost use Rattle.epochs.specs.Epochs.{withdraw};
-ghost use Rattle.state.specs.Layout.{stateSize, ownAt, heldAt, knownAt, dataAt, dataMost, datumSize, datumTerms, rightIn, rowIn};
+ghost use Rattle.state.specs.Layout.{stateSize, ownAt, heldAt, knownAt, dataAt, dataMost, datumSize, datumTerms, rowIn};
 ghost use Rattle.state.specs.Layout.{entriesAt, entriesMost, entrySize, entryTerms, rowsMost};
 ghost use Rattle.state.specs.Layout.{datumPlace, entryPlace, entryCount, rowAt, masksAt, headOf};
 ghost use Rattle.state.specs.Layout.{datumBytes, entryBytes, dataBytes, entriesBytes, joined, stateBytes};
 ghost use Rattle.state.specs.Form.{isZero, rowFits, inForm};
 ghost use Rattle.state.specs.code.Tables.{Columns, Table, table, columns, tableFrom, ColumnsFit, TableFits, DataStand, EntriesStand};
-ghost use Rattle.state.specs.code.Tables.{rowOf, entriesIn, datumIn, dataIn, storeIn};
-use super::Ends;
+ghost use Rattle.state.specs.code.Tables.{rowOf, entriesIn, datumIn, dataIn, storeIn, endsAt, EndsRead};
 
 // Reads the masks of the row at `at`, used or not, into the places from `from` on.
 pub fn get_masks(s: &[u8], at: usize, width: usize, masks: &mut [u32], from: usize)
@@ -38,10 +37,10 @@ pub fn get_data(
     counts: &mut [u32],
     masks: &mut [u32],
 )
-    requires { ⌜ (stateSize ≤ length (now s)) × (n ≤ dataMost) × (n ≤ length (now lefts)) × (n ≤ length (now rights)) ⌝ }
+    requires { ⌜ (stateSize ≤ length (now s)) × (n ≤ dataMost) × (n * 2 ≤ length (now lefts)) × (n * 2 ≤ length (now rights)) ⌝ }
     requires { ⌜ (n ≤ length (now counts)) × (n * datumTerms ≤ length (now masks)) ⌝ }
-    ensures { λ _. ⌜ now (lefts .exit) ≡ tab n (λ i. num (datumPlace i) 8 (now (s .entry))) ++ drop n (now (lefts .entry)) ⌝ }
-    ensures { λ _. ⌜ now (rights .exit) ≡ tab n (λ i. num (datumPlace i + rightIn) 8 (now (s .entry))) ++ drop n (now (rights .entry)) ⌝ }
+    ensures { λ _. ⌜ EndsRead (λ i. endsAt (now (s .entry)) i .left) n (now (lefts .entry)) (now (lefts .exit)) ⌝ }
+    ensures { λ _. ⌜ EndsRead (λ i. endsAt (now (s .entry)) i .right) n (now (rights .entry)) (now (rights .exit)) ⌝ }
     ensures { λ _. ⌜ now (counts .exit) ≡ tab n (λ i. num (datumPlace i + rowIn) 4 (now (s .entry))) ++ drop n (now (counts .entry)) ⌝ }
     ensures { λ _. ⌜ now (masks .exit) ≡
         joined (λ p. p) (tab n (λ i. masksAt datumTerms (datumPlace i + rowIn) (now (s .entry)))) ++ drop (n * datumTerms) (now (masks .entry)) ⌝ }
@@ -49,8 +48,9 @@ pub fn get_data(
     let mut i: usize = 0;
     while i < n {
         let at = super::DATA_AT + i * super::DATUM_SIZE;
-        lefts[i] = numbers::get64(s, at);
-        rights[i] = numbers::get64(s, at + super::RIGHT_IN);
+        let ends = super::intervals::get(s, i);
+        ends::column::put(lefts, i, ends.left);
+        ends::column::put(rights, i, ends.right);
         counts[i] = numbers::get32(s, at + super::ROW_IN);
         get_masks(
             s,
@@ -92,10 +92,7 @@ fn put_data(
             if (r < i) | (standing <= i) {
                 let from = i * super::DATUM_TERMS;
                 let to = from + count;
-                let ends = Ends {
-                    left: lefts[i],
-                    right: rights[i],
-                };
+                let ends = ends::column::both(lefts, rights, i);
                 super::rows::put_datum(s, r, ends, &masks[from..to]);
             }
             r += 1;

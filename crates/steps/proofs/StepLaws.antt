@@ -2,25 +2,29 @@
 -- No contract cites this file. Assumes nothing.
 use Prim.Native.Nat.{ℕ, zero, suc, _+_, _-_, _≤_, _<_}
 use mathlib.Core.Path.{_≡_, refl, sym, ap, ap₂, _∙_}
-use mathlib.Core.Bool.{Bool, true, false, _&&_, _||_, cond}
+use mathlib.Core.Bool.{Bool, true, false, _&&_, _||_, not, cond, and-false}
+use mathlib.Core.Logic.{_⊎_, inl, inr}
 use mathlib.Core.List.{List, [], _∷_, _++_, append-assoc, append-nil}
 use native.Mathlib.Nat.{add-zero, add-suc}
 use native.Mathlib.Omega.{arith}
-use borrow.Author.Tests.{eq-eqb, ne-eqb, eqb-true}
-use lib.Dec.{eqb}
+use borrow.Author.Tests.{le-ltb, lt-leb, eq-eqb, ne-eqb, eqb-true}
+use lib.Dec.{T, leb, ltb, ltb→lt, eqb}
 use lib.ListN.{length, getD, drop, set, length-append, drop-of-length-le}
 use lib.Seq.{getD-set-same, getD-set-other}
 use Rattle.numbers.specs.Numbers.{tab}
 use Rattle.predicates.specs.Lists.{any, keep}
 use Rattle.predicates.specs.Predicates.{normal}
 use Rattle.predicates.proofs.LoopLaws.{drop-next}
+use Rattle.ends.specs.declared.Ends.{Ends}
+use Rattle.ends.specs.Ends.{countOf, BothSplit, endIn}
+use Rattle.ends.proofs.EndLaws.{not-precedes}
 use Rattle.state.specs.Model.{Datum, datum}
 use Rattle.steps.specs.Steps.{disjoint, learnt, same, meet, met, without, betters}
 use Rattle.entries.specs.Entries.{learn}
 use Rattle.state.specs.code.Tables.{table, entryMasks, tableFrom, TableFits, columns, rowOf, hasTerms, datumIn, dataIn}
 use Rattle.steps.specs.code.Rows.{FirstRow}
 use Rattle.numbers.proofs.NumberLaws.{tab-suc, tab-cong}
-use Rattle.predicates.proofs.ListLaws.{keep-append}
+use Rattle.predicates.proofs.ListLaws.{both-l, both-r, or-cases, true-T, keep-append}
 use Rattle.state.proofs.RowLaws.{table-more}
 use Rattle.entries.proofs.TableLaws.{anyBelow, any-below-none, any-kept}
 
@@ -72,6 +76,31 @@ pub bettered-rows : (h : ℕ) (lefts rights counts masks : List ℕ) (n : Datum)
     any (λ d. betters d n) (dataIn h (columns lefts rights counts masks)) ≡ anyBelow h (λ i. hasTerms (rowOf 8 (table counts masks) i) && betters (datumIn (columns lefts rights counts masks) i) n)
 unfolding dataIn datumIn
 bettered-rows h lefts rights counts masks n = any-kept (λ d. hasTerms (d .terms)) (λ d. betters d n) h (datumIn (columns lefts rights counts masks))
+
+-- an interval lies within another: neither of its ends is beyond the other's
+pub within-told : (x y z w : ℕ) (t u v : Bool) → t ≡ ltb x y → u ≡ ltb z w → not t && not u ≡ v → leb y x && leb w z ≡ v
+within-told x y z w t u v p q e = rw (← (not-precedes y x), ← (not-precedes w z), ← p, ← q) e
+
+-- the whole microseconds alone tell that intervals meet, or that one lies beyond the other's end
+module _ (a b : Ends) (x : BothSplit a) (y : BothSplit b) where
+  pub meets-soon : (ltb (b .left .whole) (a .right .whole) && ltb (a .left .whole) (b .right .whole)) ≡ true
+      → false ≡ (ltb (countOf (a .right)) (countOf (b .left)) || ltb (countOf (b .right)) (countOf (a .left)))
+  meets-soon e =
+      let t = true-T (ltb (b .left .whole) (a .right .whole) && ltb (a .left .whole) (b .right .whole)) e in
+      let g = ltb→lt (b .left .whole) (a .right .whole) (both-l (ltb (b .left .whole) (a .right .whole)) _ t) in
+      let h = ltb→lt (a .left .whole) (b .right .whole) (both-r (ltb (b .left .whole) (a .right .whole)) _ t) in
+      rw (le-ltb (countOf (a .right)) (countOf (b .left)) (omega (arith, x, y)), le-ltb (countOf (b .right)) (countOf (a .left)) (omega (arith, x, y)))
+
+  pub beyond-soon : (ltb (a .left .whole) (b .left .whole) || ltb (b .right .whole) (a .right .whole)) ≡ true
+      → leb (countOf (b .left)) (countOf (a .left)) && leb (countOf (a .right)) (countOf (b .right)) ≡ false
+  beyond-soon e = go (or-cases (ltb (a .left .whole) (b .left .whole)) (ltb (b .right .whole) (a .right .whole)) (true-T (ltb (a .left .whole) (b .left .whole) || ltb (b .right .whole) (a .right .whole)) e))
+    where
+      go : T (ltb (a .left .whole) (b .left .whole)) ⊎ T (ltb (b .right .whole) (a .right .whole))
+          → leb (countOf (b .left)) (countOf (a .left)) && leb (countOf (a .right)) (countOf (b .right)) ≡ false
+      go (inl t) = let g = ltb→lt (a .left .whole) (b .left .whole) t in rw (lt-leb (countOf (b .left)) (countOf (a .left)) (omega (arith, x, y)))
+      go (inr t) =
+          let g = ltb→lt (b .right .whole) (a .right .whole) t in
+          rw (lt-leb (countOf (a .right)) (countOf (b .right)) (omega (arith, x, y)), and-false)
 
 -- ---- step 3: the first row with the predicate
 
@@ -160,7 +189,7 @@ module _ (h : ℕ) (lefts rights counts masks : List ℕ) (n : Datum) (r : ℕ) 
     unfolding datumIn hasTerms
     here-some = rw here-terms (go (n .terms) small)
       where
-        go : (p : List ℕ) → 0 < length p → cond (hasTerms p) (datum (getD lefts r 0) (getD rights r 0) p ∷ []) [] ≡ datum (getD lefts r 0) (getD rights r 0) p ∷ []
+        go : (p : List ℕ) → 0 < length p → cond (hasTerms p) (datum (endIn lefts r) (endIn rights r) p ∷ []) [] ≡ datum (endIn lefts r) (endIn rights r) p ∷ []
         go [] k = absurd (omega arith)
         go (t ∷ p) k = refl
 

@@ -9,6 +9,7 @@ ghost use lib.ListN.{length, getD};
 ghost use Rattle.numbers.specs.Numbers.{tab};
 ghost use Rattle.predicates.specs.Lists.{any};
 ghost use Rattle.predicates.specs.Predicates.{normal};
+ghost use Rattle.ends.specs.Ends.{countOf, BothSplit, AllSplit};
 ghost use Rattle.state.specs.Model.{Datum};
 ghost use Rattle.state.specs.Layout.{stateSize, entriesMost, datumTerms, entryTerms};
 ghost use Rattle.state.specs.code.Tables.{Table, Columns, table, tableFrom, columns, tableOf, TableFits, ColumnsFit};
@@ -16,16 +17,20 @@ ghost use Rattle.state.specs.code.Tables.{rowOf, hasTerms, entriesIn, datumOf, 
 ghost use Rattle.entries.specs.code.Marks.{Marked, Left, givenUp};
 ghost use Rattle.steps.specs.code.Rows.{FirstRow};
 use super::Rows;
-use state::Ends;
+use ends::Ends;
 ghost use Rattle.steps.specs.Steps.{disjoint as Steps·disjoint, learnt};
 ghost use Rattle.entries.specs.Entries.{explained, learn};
 ghost use Rattle.steps.specs.Steps.{same as Steps·same, met, without, betters as Steps·betters};
 
-// Whether two intervals have no instant in common.
+// Whether two intervals have no instant in common. The whole microseconds nearly always tell that they have one.
 fn disjoint(a: Ends, b: Ends) -> bool
-    ensures { λ r. ⌜ r ≡ (ltb (a .right) (b .left) || ltb (b .right) (a .left)) ⌝ }
+    requires { ⌜ BothSplit a × BothSplit b ⌝ }
+    ensures { λ r. ⌜ r ≡ (ltb (countOf (a .right)) (countOf (b .left)) || ltb (countOf (b .right)) (countOf (a .left))) ⌝ }
 {
-    (a.right < b.left) | (b.right < a.left)
+    if (b.left.whole < a.right.whole) & (a.left.whole < b.right.whole) {
+        return false;
+    }
+    ends::precedes(a.right, b.left) | ends::precedes(b.right, a.left)
 }
 
 // Step 1 for one held datum, with the ends `old` under q: where the intervals are disjoint, the sum of both predicates is learnt.
@@ -44,7 +49,7 @@ fn learn_from(
     requires { ⌜ (stateSize ≤ length (now s)) × (first ≤ entriesMost) × (first ≤ n) ⌝ }
     requires { ⌜ TableFits entryTerms (n + 1) (tableFrom first (now s) (now counts) (now masks)) ⌝ }
     requires { ⌜ (length (now q) ≤ datumTerms) × (0 < length (now p)) × (length (now p) ≤ datumTerms) × (n < length (now marks)) ⌝ }
-    requires { ⌜ Marked n (tableFrom first (now s) (now counts) (now masks)) (now marks) ⌝ }
+    requires { ⌜ Marked n (tableFrom first (now s) (now counts) (now masks)) (now marks) × BothSplit old × BothSplit new ⌝ }
     ensures { λ r. ⌜ (let t : Table = tableFrom first (now (s .entry)) (now (counts .exit)) (now (masks .exit)) in
         (n ≤ r) × (r ≤ n + 1) × TableFits entryTerms r t × Marked r t (now (marks .exit)) × Left n (now (counts .entry)) (now (counts .exit))) ⌝ }
     ensures { λ r. ⌜ (let d : Datum = datumOf old (now (q .entry)) in
@@ -77,7 +82,7 @@ pub fn learn_all(
     requires { ⌜ (stateSize ≤ length (now s)) × (rows .known ≤ entriesMost) ⌝ }
     requires { ⌜ TableFits entryTerms (rows .known + rows .held) (tableFrom (rows .known) (now s) (now counts) (now masks)) ⌝ }
     requires { ⌜ (0 < length (now p)) × (length (now p) ≤ datumTerms) × (rows .known + rows .held ≤ length (now marks)) ⌝ }
-    requires { ⌜ Marked (rows .known) (tableFrom (rows .known) (now s) (now counts) (now masks)) (now marks) ⌝ }
+    requires { ⌜ Marked (rows .known) (tableFrom (rows .known) (now s) (now counts) (now masks)) (now marks) × BothSplit new ⌝ }
     ensures { λ r. ⌜ (let t : Table = tableFrom (rows .known) (now (s .entry)) (now (counts .exit)) (now (masks .exit)) in
         (r ≤ rows .known + rows .held) × TableFits entryTerms r t × Marked r t (now (marks .exit))
         × Left (rows .known) (now (counts .entry)) (now (counts .exit))) ⌝ }
@@ -93,10 +98,7 @@ pub fn learn_all(
     while i < h {
         let from = i * state::DATUM_TERMS;
         let to = from + held[i] as usize;
-        let old = Ends {
-            left: lefts[i],
-            right: rights[i],
-        };
+        let old = ends::column::both(lefts, rights, i);
         known = learn_from(
             old,
             &terms[from..to],
@@ -218,10 +220,10 @@ pub fn meet(
     new: Ends,
     p: &[u32],
 ) -> Ends
-    requires { ⌜ ColumnsFit h (columns (now lefts) (now rights) (now held) (now terms)) ⌝ }
+    requires { ⌜ ColumnsFit h (columns (now lefts) (now rights) (now held) (now terms)) × BothSplit new ⌝ }
     requires { ⌜ 0 < length (now p) ⌝ }
     ensures { λ r. ⌜ (let old : Columns = columns (now (lefts .entry)) (now (rights .entry)) (now (held .entry)) (now (terms .entry)) in
-        datumOf r (now (p .entry)) ≡ met (datumOf new (now (p .entry))) (dataIn h old)) ⌝ }
+        (datumOf r (now (p .entry)) ≡ met (datumOf new (now (p .entry))) (dataIn h old)) × BothSplit r) ⌝ }
     ensures { λ _. ⌜ (let old : Columns = columns (now (lefts .entry)) (now (rights .entry)) (now (held .entry)) (now (terms .entry)) in
         dataIn h (columns (now (lefts .entry)) (now (rights .entry)) (now (held .exit)) (now (terms .entry)))
         ≡ without (now (p .entry)) (dataIn h old)) ⌝ }
@@ -232,17 +234,23 @@ pub fn meet(
         return new;
     }
     held[i] = 0;
+    let old = ends::column::both(lefts, rights, i);
     Ends {
-        left: numbers::greater(lefts[i], new.left),
-        right: numbers::lesser(rights[i], new.right),
+        left: ends::later(old.left, new.left),
+        right: ends::earlier(old.right, new.right),
     }
 }
 
-// Whether a datum with the ends a under q betters one with the ends b under p (rule 14).
+// Whether a datum with the ends a under q betters one with the ends b under p (rule 14). Where an end lies beyond the other's, the whole microseconds
+// nearly always tell.
 fn betters(a: Ends, q: &[u32], b: Ends, p: &[u32]) -> bool
+    requires { ⌜ BothSplit a × BothSplit b ⌝ }
     ensures { λ r. ⌜ r ≡ Steps·betters (datumOf a (now (q .entry))) (datumOf b (now (p .entry))) ⌝ }
 {
-    if (b.left <= a.left) & (a.right <= b.right) {
+    if (a.left.whole < b.left.whole) | (b.right.whole < a.right.whole) {
+        return false;
+    }
+    if !ends::precedes(a.left, b.left) & !ends::precedes(b.right, a.right) {
         return predicates::implies(q, p);
     }
     false
@@ -259,7 +267,8 @@ fn row_betters(
     p: &[u32],
 ) -> bool
     requires { ⌜ (i < length (now held)) × (i * datumTerms + getD (now held) i 0 ≤ length (now terms)) ⌝ }
-    requires { ⌜ (i < length (now lefts)) × (i < length (now rights)) ⌝ }
+    requires { ⌜ (i * 2 + 1 < length (now lefts)) × AllSplit (now lefts)
+        × (i * 2 + 1 < length (now rights)) × AllSplit (now rights) × BothSplit new ⌝ }
     ensures { λ r. ⌜ (let c : Columns = columns (now (lefts .entry)) (now (rights .entry)) (now (held .entry)) (now (terms .entry)) in
         r ≡ hasTerms (rowOf datumTerms (tableOf c) i) && Steps·betters (datumIn c i) (datumOf new (now (p .entry)))) ⌝ }
 {
@@ -269,10 +278,7 @@ fn row_betters(
     }
     let from = i * state::DATUM_TERMS;
     let to = from + count;
-    let old = Ends {
-        left: lefts[i],
-        right: rights[i],
-    };
+    let old = ends::column::both(lefts, rights, i);
     betters(old, &terms[from..to], new, p)
 }
 
@@ -286,7 +292,7 @@ pub fn bettered(
     new: Ends,
     p: &[u32],
 ) -> bool
-    requires { ⌜ ColumnsFit h (columns (now lefts) (now rights) (now held) (now terms)) ⌝ }
+    requires { ⌜ ColumnsFit h (columns (now lefts) (now rights) (now held) (now terms)) × BothSplit new ⌝ }
     ensures { λ r. ⌜ (let c : Columns = columns (now (lefts .entry)) (now (rights .entry)) (now (held .entry)) (now (terms .entry)) in
         r ≡ any (λ d. Steps·betters d (datumOf new (now (p .entry)))) (dataIn h c)) ⌝ }
 {
@@ -311,16 +317,14 @@ fn betters_row(
     p: &[u32],
 ) -> bool
     requires { ⌜ (i < length (now held)) × (i * datumTerms + getD (now held) i 0 ≤ length (now terms)) ⌝ }
-    requires { ⌜ (i < length (now lefts)) × (i < length (now rights)) ⌝ }
+    requires { ⌜ (i * 2 + 1 < length (now lefts)) × AllSplit (now lefts)
+        × (i * 2 + 1 < length (now rights)) × AllSplit (now rights) × BothSplit new ⌝ }
     ensures { λ r. ⌜ (let c : Columns = columns (now (lefts .entry)) (now (rights .entry)) (now (held .entry)) (now (terms .entry)) in
         r ≡ Steps·betters (datumOf new (now (p .entry))) (datumIn c i)) ⌝ }
 {
     let from = i * state::DATUM_TERMS;
     let to = from + held[i] as usize;
-    let old = Ends {
-        left: lefts[i],
-        right: rights[i],
-    };
+    let old = ends::column::both(lefts, rights, i);
     betters(new, p, old, &terms[from..to])
 }
 
@@ -334,7 +338,7 @@ pub fn drop_bettered(
     new: Ends,
     p: &[u32],
 )
-    requires { ⌜ ColumnsFit h (columns (now lefts) (now rights) (now held) (now terms)) ⌝ }
+    requires { ⌜ ColumnsFit h (columns (now lefts) (now rights) (now held) (now terms)) × BothSplit new ⌝ }
     ensures { λ _. ⌜ (let c : Columns = columns (now (lefts .entry)) (now (rights .entry)) (now (held .entry)) (now (terms .entry)) in
         now (held .exit) ≡ givenUp h (λ i. Steps·betters (datumOf new (now (p .entry))) (datumIn c i)) (now (held .entry))) ⌝ }
 {

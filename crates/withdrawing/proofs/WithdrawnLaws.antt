@@ -15,10 +15,11 @@ use Rattle.predicates.proofs.ListLaws.{true-T, keep-append, all-keep}
 use Rattle.predicates.proofs.SumLaws.{padded-front}
 use Rattle.epochs.specs.Epochs.{withdraw}
 use Rattle.epochs.proofs.WithdrawLaws.{withdraw-some}
-use Rattle.state.specs.Model.{Datum, datum}
-use Rattle.state.specs.Layout.{ownAt, datumTerms, entryTerms, datumPlace, entryPlace, rightIn, rowIn, heldCount, entryCount, rowAt, datumAt, entryAt, storeOf}
+use Rattle.ends.specs.declared.Ends.{Ends}
+use Rattle.state.specs.Model.{Datum}
+use Rattle.state.specs.Layout.{ownAt, datumTerms, entryTerms, datumPlace, entryPlace, rowIn, heldCount, entryCount, rowAt, datumAt, entryAt, storeOf}
 use Rattle.state.specs.Form.{datumFits, entryFits, inForm}
-use Rattle.state.specs.code.Tables.{Columns, Table, hasTerms, rowOf, entriesIn, datumIn, dataIn}
+use Rattle.state.specs.code.Tables.{Columns, Table, hasTerms, rowOf, entriesIn, datumOf, datumIn, dataIn, endsAt}
 use Rattle.state.proofs.LayoutLaws.{all-tab}
 use Rattle.state.proofs.FormLaws.{datum-row}
 use Rattle.state.proofs.RowLaws.{has-some}
@@ -74,10 +75,9 @@ module _ (r : ℕ) where
       pub length-terms : n ≡ length (take n row)
       length-terms = p ∙ ap length (sym seen-terms)
 
-      pub seen-stays : (a b : ℕ) → (getD row 0 0 ≡ 0 → ⊥) → a ≡ num (datumPlace i) 8 s → b ≡ num (datumPlace i + rightIn) 8 s
-          → withdrawnData r (datumAt s i ∷ []) ≡ datum a b (take n row) ∷ []
-      unfolding datumAt
-      seen-stays a b f x y = withdrawn-stays (datumAt s i) (seen-true ∙ ne-eqb _ 0 f) ∙ rw (x, y, seen-terms)
+      pub seen-stays : (e : Ends) → (getD row 0 0 ≡ 0 → ⊥) → e ≡ endsAt s i → withdrawnData r (datumAt s i ∷ []) ≡ datumOf e (take n row) ∷ []
+      unfolding datumAt endsAt
+      seen-stays e f x = withdrawn-stays (datumAt s i) (seen-true ∙ ne-eqb _ 0 f) ∙ rw (x, seen-terms)
 
   -- all of a state in form: none of those that are left has been given up
   module _ (s : List ℕ) (t : T (inForm s)) where

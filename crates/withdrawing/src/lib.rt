@@ -13,10 +13,11 @@ ghost use Rattle.state.specs.Form.{datumFits, entryFits, inForm};
 ghost use Rattle.state.specs.code.Tables.{Columns, Table, table, columns, TableFits, ColumnsFit, rowOf, entriesIn, datumIn, dataIn};
 ghost use Rattle.entries.specs.Entries.{withdrawnEntries};
 ghost use Rattle.steps.specs.Withdrawn.{withdrawnData, withdrawn};
-use state::Ends;
 
-// A row more than there are places for data, and the masks of these rows and of the entries.
+// A row more than there are places for data, two numbers for each of its ends, and the masks of these rows and of the entries.
 const DATA_ROWS: usize = state::DATA_MOST + 1;
+
+const DATA_ENDS: usize = DATA_ROWS * 2;
 
 const DATA_MASKS: usize = DATA_ROWS * state::DATUM_TERMS;
 
@@ -46,9 +47,7 @@ fn get_datum(
     if row[0] == 0 {
         return r;
     }
-    let left = numbers::get64(s, at);
-    let right = numbers::get64(s, at + state::RIGHT_IN);
-    let ends = Ends { left, right };
+    let ends = state::intervals::get(s, i);
     settling::add_datum(lefts, rights, counts, masks, r, ends, &row[..count]);
     r + 1
 }
@@ -121,8 +120,8 @@ pub fn withdraw(s: &mut [u8], risen: u32)
     ensures { λ _. ⌜ now (s .exit)
         ≡ put 0 (stateBytes (record { head = headOf (now (s .entry)); store = withdrawn risen (storeOf (now (s .entry))) })) (now (s .entry)) ⌝ }
 {
-    let mut lefts = [0u64; DATA_ROWS];
-    let mut rights = [0u64; DATA_ROWS];
+    let mut lefts = [0u64; DATA_ENDS];
+    let mut rights = [0u64; DATA_ENDS];
     let mut held = [0u32; DATA_ROWS];
     let mut terms = [0u32; DATA_MASKS];
     let mut counts = [0u32; state::ENTRIES_MOST];

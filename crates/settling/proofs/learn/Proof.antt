@@ -30,7 +30,7 @@ learn-all-requires : tie.Need-learn-all-requires
 learn-all-requires c κs =
     let a = c .before .before .before .before .before .before .before .before .before .before .before .before .before in
     let p = a .pre .1 .1 .1 .0 in
-    (a .pre .0, (a .pre .1 .0, (table-less 16 _ _ _ _ (a .pre .1 .1 .0) (omega arith), ((p .0, p .1, omega (arith, p .2)), a .pre .1 .1 .1 .1 .0))))
+    (a .pre .0, (a .pre .1 .0, (table-less 16 _ _ _ _ (a .pre .1 .1 .0) (omega arith), ((p .0, p .1, omega (arith, p .2)), (a .pre .1 .1 .1 .1 .0, p .3)))))
 
 returns-2 : tie.Need-returns-2
 returns-2 c =

@@ -16,25 +16,27 @@ use Rattle.settling.proofs.place.Statement.{statement}
 use Rattle.settling.proofs.place.Tie as tie
 
 meet-requires : tie.Need-meet-requires
-meet-requires c κs = let a = c .before .before .before .before .before .before .before .before .before in (columns-less _ _ _ (a .pre .0) (omega arith), a .pre .1 .0)
+meet-requires c κs = let a = c .before .before .before .before .before .before .before .before .before in ((columns-less _ _ _ (a .pre .0) (omega arith), a .pre .1 .3), a .pre .1 .0)
 
 bettered-requires : tie.Need-bettered-requires
 bettered-requires c κs =
     let fits = c .before .before .before .before .before .before .before .before .before .before .before .before .before .before .before .before .pre .0 in
-    record { table = c .before .before .before .before .before .before .meet .ensures .1 .1 .0; lefts-long = omega (arith, fits .lefts-long); rights-long = omega (arith, fits .rights-long) }
+    let met = c .before .before .before .before .before .before .meet .ensures in
+    (record { table = met .1 .1 .0; lefts-long = omega (arith, fits .lefts-long); rights-long = omega (arith, fits .rights-long); lefts-split = fits .lefts-split; rights-split = fits .rights-split }, met .0 .1)
 
 returns : tie.Need-returns
 returns c =
     let fits = c .before .before .before .before .before .before .before .before .before .before .before .before .before .before .before .before .before .before .pre .0 in
     let met = c .before .before .before .before .before .before .before .before .meet .ensures in (
-      (omega arith, record { table = met .1 .1 .0; lefts-long = omega (arith, fits .lefts-long); rights-long = omega (arith, fits .rights-long) }, data-left _ _ _ _ _ _ (met .1 .1 .1)),
-      rw (← (met .0), ← (met .1 .0)) (stored-kept _ _ (sym (c .before .bettered .ensures) ∙ c .if1 .taken)),
+      (omega arith, record { table = met .1 .1 .0; lefts-long = omega (arith, fits .lefts-long); rights-long = omega (arith, fits .rights-long); lefts-split = fits .lefts-split; rights-split = fits .rights-split }, data-left _ _ _ _ _ _ (met .1 .1 .1)),
+      rw (← (met .0 .0), ← (met .1 .0)) (stored-kept _ _ (sym (c .before .bettered .ensures) ∙ c .if1 .taken)),
     )
 
 drop-bettered-requires : tie.Need-drop-bettered-requires
 drop-bettered-requires c κs =
     let fits = c .before .before .before .before .before .before .before .before .before .before .before .before .before .before .before .before .before .before .before .before .before .before .pre .0 in
-    record { table = c .before .before .before .before .before .before .before .before .before .before .before .before .meet .ensures .1 .1 .0; lefts-long = omega (arith, fits .lefts-long); rights-long = omega (arith, fits .rights-long) }
+    let met = c .before .before .before .before .before .before .before .before .before .before .before .before .meet .ensures in
+    (record { table = met .1 .1 .0; lefts-long = omega (arith, fits .lefts-long); rights-long = omega (arith, fits .rights-long); lefts-split = fits .lefts-split; rights-split = fits .rights-split }, met .0 .1)
 
 -- the columns have room for one more row still
 room : (c : tie.After-drop-bettered) → let a = c .before .before .before .before .before .before .before .before .before .before .before .before .before .before .before .before .before .before .before .before .before .before .before .args in
@@ -47,6 +49,8 @@ room c =
       table = rw (c .drop-bettered .ensures) (table-given-up 8 _ _ _ _ _ more (omega arith));
       lefts-long = fits .lefts-long;
       rights-long = fits .rights-long;
+      lefts-split = fits .lefts-split;
+      rights-split = fits .rights-split;
     }
 
 -- what is left, and the new datum behind it, is what rule 14 stores
@@ -57,7 +61,7 @@ last : (c : tie.After-drop-bettered) → let a = c .before .before .before .befo
 last c =
     let met = c .before .before .before .before .before .before .before .before .before .before .before .before .before .meet .ensures in
     let worse = sym (c .before .before .before .before .before .before .bettered .ensures) ∙ c .before .before .before .before .before .if1 .left in
-    rw (data-bettered _ _ _ _ _ _ _ (c .drop-bettered .ensures), ← (met .0), ← (met .1 .0)) (stored-new _ _ worse)
+    rw (data-bettered _ _ _ _ _ _ _ (c .drop-bettered .ensures), ← (met .0 .0), ← (met .1 .0)) (stored-new _ _ worse)
 
 -- no row below is another than it was
 left : (c : tie.After-drop-bettered) → let a = c .before .before .before .before .before .before .before .before .before .before .before .before .before .before .before .before .before .before .before .before .before .before .before .args in
@@ -78,13 +82,14 @@ returns-2 : tie.Need-returns-2
 returns-2 c =
     let at-drop = c .before .before .before .before .before .before .before .before .before .before .before .before .before .before .before in
     let a = c .before .before .before .before .before .before .before .before .before .before .before .before .before .before .before .before .before .before .before .before .before .before .before .before .before .before .before .before .before .before .before .before .before .before .before .before .before .before in
+    let split = at-drop .before .before .before .before .before .before .before .before .before .before .before .before .before .meet .ensures .0 .1 in
     let made = c .before .before .before .before .before .before .before .before .add-datum .ensures in (
       (
         omega arith,
-        rw (made .0, made .1 .0, made .1 .1 .0, made .1 .1 .1) (columns-added _ _ _ _ _ (a .args .p .now) _ _ (room at-drop) (a .pre .1 .1)),
-        rw (made .0, made .1 .0, made .1 .1 .0, made .1 .1 .1) (left-added _ _ _ _ _ (a .args .p .now) _ _ (room at-drop) (a .pre .1 .1) _ (left at-drop)),
+        rw (made .0, made .1 .0, made .1 .1 .0, made .1 .1 .1) (columns-added _ _ _ _ _ (a .args .p .now) _ (room at-drop) (a .pre .1 .1) split),
+        rw (made .0, made .1 .0, made .1 .1 .0, made .1 .1 .1) (left-added _ _ _ _ _ (a .args .p .now) _ (room at-drop) (a .pre .1 .1) _ (left at-drop)),
       ),
-      rw (made .0, made .1 .0, made .1 .1 .0, made .1 .1 .1) (data-added _ _ _ _ _ _ _ _ (room at-drop) (a .pre .1 .1) (a .pre .1 .0) ∙ last at-drop),
+      rw (made .0, made .1 .0, made .1 .1 .0, made .1 .1 .1) (data-added _ _ _ _ _ _ _ (room at-drop) (a .pre .1 .1) (a .pre .1 .0) ∙ last at-drop),
     )
 
 pub place-spec : {M : Type 1} → statement M

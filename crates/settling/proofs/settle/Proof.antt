@@ -37,7 +37,7 @@ learn-requires c κs =
         (a .pre .1 .0 .0, few a),
         (
           table-standing _ _ (a .pre .1 .0 .1) (a .pre .1 .0 .2) _ _ _ (marked .0) _ (omega arith) (a .pre .1 .1 .0),
-          ((p .0, p .1, omega (arith, p .2)), (marked .1 .0 _, a .pre .1 .1 .1 .1 .0)),
+          ((p .0, p .1, omega (arith, p .2), p .3), (marked .1 .0 _, a .pre .1 .1 .1 .1 .0)),
         ),
       ),
     )
@@ -63,6 +63,8 @@ room c =
       table = rw (c .drop-explained .ensures) (table-given-up 8 _ _ _ _ _ (fits .table) (omega arith));
       lefts-long = fits .lefts-long;
       rights-long = fits .rights-long;
+      lefts-split = fits .lefts-split;
+      rights-split = fits .rights-split;
     }
 
 -- no row of data is another than it was
@@ -115,7 +117,7 @@ returns c =
     )
 
 place-requires : tie.Need-place-requires
-place-requires c κs = let p = c .before .before .before .before .before .before .before .before .before .before .before .before .before .before .before .before .before .before .before .before .before .before .before .before .before .before .before .before .before .before .before .before .before .before .before .before .before .before .before .before .before .before .before .before .pre .1 .1 .1 .0 in (room (c .before .before .before .before .before .before .before .before .before .before .before), (p .0, p .1, omega (arith, p .2)))
+place-requires c κs = let p = c .before .before .before .before .before .before .before .before .before .before .before .before .before .before .before .before .before .before .before .before .before .before .before .before .before .before .before .before .before .before .before .before .before .before .before .before .before .before .before .before .before .before .before .before .pre .1 .1 .1 .0 in (room (c .before .before .before .before .before .before .before .before .before .before .before), (p .0, p .1, omega (arith, p .2), p .3))
 
 returns-2 : tie.Need-returns-2
 unfolding storeIn

@@ -1,16 +1,19 @@
 -- Definitions that serve the code alone: no statement of document 01 cites this file.
 -- Predicates and data in flat arrays, as calls work on them: row i has its count of terms at i and its terms from i * width on.
 -- A row without terms has been given up; in form no predicate is without terms. Assumes nothing: these are definitions.
-use Prim.Native.Nat.{ℕ, _*_, _≤_, _<_}
+use Prim.Native.Nat.{ℕ, _+_, _*_, _≤_, _<_}
 use mathlib.Core.Path.{_≡_}
 use mathlib.Core.Bool.{Bool, true, false}
 use mathlib.Core.List.{List, [], _∷_, _++_}
 use lib.ListN.{length, getD, take, drop}
-use Rattle.numbers.specs.Numbers.{num, tab}
+use Rattle.numbers.specs.Numbers.{num, bytes, put, tab}
 use Rattle.predicates.specs.Lists.{keep}
 use Rattle.state.specs.Model.{Datum, datum, Store}
-use Rattle.state.specs.Layout.{datumTerms, entryTerms, entryPlace, masksAt, joined, heldCount, entryCount, datumAt}
-use Rattle.state.specs.declared.Ends.{Ends}
+use Rattle.state.specs.Layout.{datumTerms, entryTerms, datumPlace, entryPlace, rightIn, leftMillionthsIn, rightMillionthsIn, masksAt, joined}
+use Rattle.state.specs.Layout.{heldCount, entryCount, datumAt}
+use Rattle.ends.specs.declared.End.{End}
+use Rattle.ends.specs.declared.Ends.{Ends}
+use Rattle.ends.specs.Ends.{countOf, endIn, AllSplit}
 
 -- predicates in two arrays: row i has its count of terms at i and its terms from i * width on
 pub record Table : Type 0 where
@@ -20,7 +23,7 @@ pub record Table : Type 0 where
 abbrev pub table : List ℕ → List ℕ → Table
 table counts masks = record { counts = counts; masks = masks }
 
--- held data: their ends beside a table of 8 terms a row
+-- held data: two columns of ends, two numbers each, beside a table of 8 terms a row
 pub record Columns : Type 0 where
   pub lefts : List ℕ
   pub rights : List ℕ
@@ -52,8 +55,10 @@ pub record TableFits (width n : ℕ) (t : Table) : Type 0 where
 -- the columns have n rows
 pub record ColumnsFit (n : ℕ) (c : Columns) : Type 0 where
   pub table : TableFits datumTerms n (tableOf c)
-  pub lefts-long : n ≤ length (c .lefts)
-  pub rights-long : n ≤ length (c .rights)
+  pub lefts-long : n * 2 ≤ length (c .lefts)
+  pub rights-long : n * 2 ≤ length (c .rights)
+  pub lefts-split : AllSplit (c .lefts)
+  pub rights-split : AllSplit (c .rights)
 
 -- ---- what the arrays hold
 
@@ -72,11 +77,11 @@ entriesIn n t = keep hasTerms (tab n (rowOf entryTerms t))
 
 -- a datum whose ends travel as one struct
 abbrev pub datumOf : Ends → List ℕ → Datum
-datumOf e terms = datum (e .left) (e .right) terms
+datumOf e terms = datum (countOf (e .left)) (countOf (e .right)) terms
 
 -- the datum in row i, given up or not
 unfoldable pub datumIn : Columns → ℕ → Datum
-datumIn c i = datum (getD (c .lefts) i 0) (getD (c .rights) i 0) (rowOf datumTerms (tableOf c) i)
+datumIn c i = datum (endIn (c .lefts) i) (endIn (c .rights) i) (rowOf datumTerms (tableOf c) i)
 
 -- the data in n rows
 unfoldable pub dataIn : ℕ → Columns → List Datum
@@ -85,6 +90,29 @@ dataIn n c = keep (λ d. hasTerms (d .terms)) (tab n (datumIn c))
 -- what the arrays hold in h rows of data and n rows of entries
 unfoldable pub storeIn : ℕ → Columns → ℕ → Table → Store
 storeIn h c n t = record { held = dataIn h c; entries = entriesIn n t }
+
+-- ---- ends in a state's bytes
+
+-- the ends of datum i, each as its two numbers
+unfoldable pub endsAt : List ℕ → ℕ → Ends
+endsAt s i =
+    record {
+      left = record { whole = num (datumPlace i) 8 s; millionths = num (datumPlace i + leftMillionthsIn) 4 s };
+      right = record { whole = num (datumPlace i + rightIn) 8 s; millionths = num (datumPlace i + rightMillionthsIn) 4 s };
+    }
+
+-- the bytes with other ends in place i
+unfoldable pub withEnds : ℕ → Ends → List ℕ → List ℕ
+withEnds i e s =
+    put (datumPlace i + rightMillionthsIn) (bytes 4 (e .right .millionths))
+    (put (datumPlace i + leftMillionthsIn) (bytes 4 (e .left .millionths))
+    (put (datumPlace i + rightIn) (bytes 8 (e .right .whole)) (put (datumPlace i) (bytes 8 (e .left .whole)) s)))
+
+-- the first n ends of a column have been read; the others are as they were
+pub record EndsRead (f : ℕ → End) (n : ℕ) (l₀ l : List ℕ) : Type 0 where
+  pub long : length l ≡ length l₀
+  pub front : (i : ℕ) → i < n → (getD l (i * 2) 0 ≡ f i .whole) × (getD l (i * 2 + 1) 0 ≡ f i .millionths)
+  pub rest : (i : ℕ) → n ≤ i → getD l (i * 2 + 1) 0 ≡ getD l₀ (i * 2 + 1) 0
 
 -- ---- rows that came from a state's bytes: each has been given up or is as the bytes have it
 

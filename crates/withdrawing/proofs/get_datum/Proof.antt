@@ -6,9 +6,10 @@ use mathlib.Core.List.{List, _++_, append-nil}
 use native.Mathlib.Omega.{arith}
 use lib.ListN.{length, take}
 use Rattle.numbers.specs.Numbers.{tab}
+use Rattle.ends.specs.Ends.{BothSplit}
 use Rattle.state.specs.Model.{Datum}
 use Rattle.state.specs.code.Tables.{columns, datumIn}
-use Rattle.state.proofs.FormLaws.{datum-row}
+use Rattle.state.proofs.FormLaws.{datum-row, ends-split}
 use Rattle.settling.proofs.ColumnLaws.{columns-added, rows-added}
 use Rattle.withdrawing.proofs.WithdrawnLaws.{seen-gone, length-terms, seen-stays}
 use borrow.Author.Needs.{needs}
@@ -35,20 +36,24 @@ long c =
     length-terms (a .args .risen) _ (a .args .s .now) (a .args .i) (a .pre .0 .2) _ (c .get-seen .ensures .1) _ (c .get-seen .ensures .0 .0)
 
 slice-aggregate-add-datum : tie.Need-slice-aggregate-add-datum
-slice-aggregate-add-datum c = long (c .before .before .before .before .before .before .before .before .before)
+slice-aggregate-add-datum c = long (c .before .before .before .before .before .before .before .before)
 
 add-datum-requires : tie.Need-add-datum-requires
 add-datum-requires c κs =
-    let at-get = c .before .before .before .before .before .before .before .before .before in
+    let at-get = c .before .before .before .before .before .before .before .before in
     let a = at-get .before .before .before .before .before .before .before in
     (a .pre .1, omega (arith, long at-get, at-get .get-seen .ensures .0 .1))
+
+add-result : tie.Need-add-result
+add-result c =
+    let at-get = c .before .before .before .before .before .before .before .before .before .before .before .before .before .before .before .before .before in
+    omega (arith, at-get .before .before .before .before .before .before .before .pre .0 .3)
 
 returns-2 : tie.Need-returns-2
 returns-2 c =
     let at-add = c .before .before .before .before .before .before .before .before in
-    let at-right = at-add .before .before .before .before .before .before in
-    let at-left = at-right .before in
-    let at-else = at-left .before in
+    let at-ends = at-add .before .before .before .before .before .before in
+    let at-else = at-ends .before in
     let at-get = at-else .before .before in
     let a = at-get .before .before .before .before .before .before .before in
     let made = at-add .add-datum .ensures in
@@ -56,9 +61,10 @@ returns-2 c =
     let terms = take (at-get .get-seen .result) (at-get .get-seen .last .1 .1 .1 .1 .0) in
     let few : length terms ≤ 8 = omega (arith, long at-get, seen .0 .1) in
     let was = tab (a .args .r) (datumIn (columns (a .args .lefts .now) (a .args .rights .now) (a .args .counts .now) (a .args .masks .now))) in
-    let stays = seen-stays (a .args .risen) _ (a .args .s .now) (a .args .i) (a .pre .0 .2) _ (seen .1) _ (seen .0 .0) _ _ (at-else .if1 .left) (at-left .get64 .ensures .0) (at-right .get642 .ensures .0) in (
-      (omega arith, rw (made .0, made .1 .0, made .1 .1 .0, made .1 .1 .1) (columns-added (a .args .r) _ _ _ _ terms _ _ (a .pre .1) few)),
-      rw (made .0, made .1 .0, made .1 .1 .0, made .1 .1 .1) (rows-added (a .args .r) _ _ _ _ terms _ _ (a .pre .1) few ∙ ap (λ (l : List Datum). was ++ l) (sym stays)),
+    let stays = seen-stays (a .args .risen) _ (a .args .s .now) (a .args .i) (a .pre .0 .2) _ (seen .1) _ (seen .0 .0) _ (at-else .if1 .left) (at-ends .get .ensures) in
+    let split : BothSplit (at-ends .get .result) = rw (at-ends .get .ensures) (ends-split _ (a .args .s .now) (a .args .i) (a .pre .0 .2)) in (
+      (omega arith, rw (made .0, made .1 .0, made .1 .1 .0, made .1 .1 .1) (columns-added (a .args .r) _ _ _ _ terms _ (a .pre .1) few split)),
+      rw (made .0, made .1 .0, made .1 .1 .0, made .1 .1 .1) (rows-added (a .args .r) _ _ _ _ terms _ (a .pre .1) few ∙ ap (λ (l : List Datum). was ++ l) (sym stays)),
     )
 
 pub get-datum-spec : {M : Type 1} → statement M
@@ -74,11 +80,9 @@ get-datum-spec =
     returns
     (λ c κs. search needs)
     (λ c. search needs)
-    (λ c κs. search needs)
-    (λ c. search needs)
     slice-aggregate-add-datum
     add-datum-requires
-    (λ c. search needs)
+    add-result
     (λ c. search needs)
     (λ c. search needs)
     (λ c. search needs)

@@ -58,6 +58,8 @@ loop-again c =
         table = table-more 8 _ (a .args .n + 1) _ _ (made .0 .1 .table) (omega (arith, fits .table .counted, kept .1 .1 .0)) (omega (arith, fits .table .long, kept .1 .1 .1 .0));
         lefts-long = omega (arith, fits .lefts-long, kept .0);
         rights-long = omega (arith, fits .rights-long, kept .1 .0);
+        lefts-split = made .0 .1 .lefts-split;
+        rights-split = made .0 .1 .rights-split;
       },
       withdrawn-next (a .args .risen) (a .args .s .now) (head .i) _ _ (head .inv .3) (made .1),
       kept .0 ∙ head .inv .4,

@@ -41,7 +41,7 @@ get-withdrawn-requires c κs =
     let at-known = c .before .before .before .before .before in
     let a = at-known .before .before .before .before .before in
     let some = few at-known in
-    ((a .pre .0, a .pre .1, at-known .before .before .get32 .ensures .0), columns-fresh _ 17 17 17 136 (omega arith) (omega arith) (omega arith) (omega arith))
+    ((a .pre .0, a .pre .1, at-known .before .before .get32 .ensures .0), columns-fresh _ 34 34 17 136 (omega arith) (omega arith) (omega arith) (omega arith))
 
 get-entries-requires : tie.Need-get-entries-requires
 get-entries-requires c κs =

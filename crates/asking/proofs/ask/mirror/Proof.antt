@@ -4,6 +4,7 @@ use Prim.Native.Nat.{_-_, _≤_}
 use mathlib.Core.Path.{refl}
 use native.Mathlib.Omega.{arith}
 use lib.ListN.{getD}
+use Rattle.claims.specs.code.Keys.{lastKey}
 use Rattle.state.proofs.StoreLaws.{Column, column-none, column-next, column-done}
 use borrow.Author.Needs.{needs}
 use Rattle.asking.proofs.ask.mirror.Statement.{statement}
@@ -11,7 +12,7 @@ use Rattle.asking.proofs.ask.mirror.Tie as tie
 
 abbrev Inv-loop : tie.InvT-loop
 Inv-loop lefts rights rows low₀ high₀ i₀ low high i =
-    (i ≤ rows) × Column (λ k. 288230376151711743 - getD rights k 0) i low₀ low × Column (λ k. 288230376151711743 - getD lefts k 0) i high₀ high
+    (i ≤ rows) × Column (λ k. lastKey - getD rights k 0) i low₀ low × Column (λ k. lastKey - getD lefts k 0) i high₀ high
 
 abbrev μ-loop : tie.MeasureT-loop
 μ-loop lefts rights rows low₀ high₀ i₀ low high i = rows - i

@@ -2,13 +2,14 @@
 -- Invariant: what the names leave that are done, and what was begun with. Measure: the names still to come, as a number.
 use mathlib.Core.Path.{refl}
 use mathlib.Core.Bool.{Bool}
+use mathlib.Core.List.{List}
 use native.Mathlib.Omega.{arith}
 use lib.Dec.{T}
 use Rattle.numbers.proofs.NumberLaws.{above-zero}
 use Rattle.names.specs.Sets.{subset, minus}
 use Rattle.names.proofs.SetLaws.{subset-refl}
-use Rattle.state.specs.Layout.{storeOf}
-use Rattle.asking.specs.code.One.{AtMostOne, Hull}
+use Rattle.state.specs.Model.{Datum}
+use Rattle.asking.specs.code.One.{Kept, Lacking, AtMostOne, Hull}
 use Rattle.asking.proofs.OneLaws.{walk-start, walk-end, walk-name, walk-less, walk-within}
 use Rattle.asking.proofs.OneSteps.{over-turn}
 use borrow.Author.Needs.{needs}
@@ -16,24 +17,24 @@ use Rattle.asking.proofs.one.over_names.Statement.{statement}
 use Rattle.asking.proofs.one.over_names.Tie as tie
 
 abbrev Inv-loop : tie.InvT-loop
-Inv-loop s masks names widest₀ rest₀ widest rest =
+Inv-loop lefts rights masks names widest₀ rest₀ widest rest =
     T (subset rest names)
-    × ((plain : Bool) → Hull (storeOf s .held) (AtMostOne plain 0) (widest₀ .left) (widest₀ .right)
-    → Hull (storeOf s .held) (AtMostOne plain (minus names rest)) (widest .left) (widest .right))
+    × ((ds : List Datum) → Kept ds lefts rights masks → Lacking ds names → (plain : Bool) → Hull ds (AtMostOne plain 0) (widest₀ .left) (widest₀ .right)
+    → Hull ds (AtMostOne plain (minus names rest)) (widest .left) (widest .right))
 
 abbrev μ-loop : tie.MeasureT-loop
-μ-loop s masks names widest₀ rest₀ widest rest = rest
+μ-loop lefts rights masks names widest₀ rest₀ widest rest = rest
 
 loop-holds : tie.Need-loop-holds Inv-loop μ-loop
-loop-holds c = (subset-refl _, λ plain w. rw (walk-start _) w)
+loop-holds c = (subset-refl _, λ ds kept lacks plain w. rw (walk-start _) w)
 
 span-requires : tie.Need-span-requires Inv-loop μ-loop
 span-requires c κs =
     let at-test = c .before in
     let head = at-test .before .loop in
-    let a = at-test .before .before .before .before in
+    let a = at-test .before .before .before .before .before in
     let name = walk-name _ _ (head .inv .0) (above-zero (at-test .loop-test .taken)) _ _ (c .least-name .ensures) refl in
-    (a .pre .0 .0, a .pre .0 .1, a .pre .0 .2, omega (arith, name .0))
+    (a .pre .0, a .pre .1, omega (arith, name .0))
 
 loop-less : tie.Need-loop-less Inv-loop μ-loop
 loop-less c =
@@ -48,18 +49,19 @@ loop-again c =
     let at-name = at-span .before in
     let at-test = at-name .before in
     let head = at-test .before .loop in
-    let a = at-test .before .before .before .before in
+    let a = at-test .before .before .before .before .before in
     let some = above-zero (at-test .loop-test .taken) in
-    let ends = at-span .span .ensures in
     let wide = c .before .widened .ensures in (
       walk-within _ _ (head .inv .0) some _ _ (at-name .least-name .ensures) (c .minus .ensures),
-      λ plain w. over-turn _ (a .pre .0 .1) _ _ (head .inv .0) some _ (at-name .least-name .ensures) _ _ (ends .0) (ends .1) (a .pre .1) _ (c .minus .ensures) plain _ _ _ _
-          (head .inv .1 plain w) (wide .0) (wide .1),
+      λ ds kept lacks plain w.
+          let ends = at-span .span .ensures ds kept in
+          over-turn ds kept _ _ (head .inv .0) some _ (at-name .least-name .ensures) _ _ (ends .0) (ends .1) lacks _ (c .minus .ensures) plain _ _ _ _
+          (head .inv .1 ds kept lacks plain w) (wide .0) (wide .1),
     )
 
 returns : tie.Need-returns Inv-loop μ-loop
 returns c =
-    let head = c .before .loop in λ plain w. rw (c .loop-test .left, walk-end _) at (head .inv .1 plain w)
+    let head = c .before .loop in λ ds kept lacks plain w. rw (c .loop-test .left, walk-end _) at (head .inv .1 ds kept lacks plain w)
 
 pub over-names-spec : {M : Type 1} → statement M
 over-names-spec =

@@ -3,47 +3,46 @@
 use Prim.Native.Nat.{_-_, _≤_}
 use mathlib.Core.Path.{refl}
 use mathlib.Core.Logic.{⊎-elim}
-use native.Mathlib.Omega.{arith}
+use mathlib.Core.List.{List}
 use lib.ListN.{length}
-use Rattle.state.specs.Layout.{dataMost}
-use Rattle.state.proofs.StateLaws.{held-count-le}
-use Rattle.asking.proofs.OneSteps.{Spanning, mask-count, span-take, span-pass, span-done}
+use Rattle.state.specs.Model.{Datum}
+use Rattle.asking.specs.code.One.{Kept}
+use Rattle.asking.proofs.OneSteps.{Spanning, span-take, span-pass, span-done}
 use borrow.Author.Needs.{needs}
 use Rattle.asking.proofs.one.span.Statement.{statement}
 use Rattle.asking.proofs.one.span.Tie as tie
 
 abbrev Inv-loop : tie.InvT-loop
-Inv-loop s masks set left₀ right₀ i₀ left right i = (i ≤ length masks) × (length masks ≤ dataMost) × Spanning s set i left right
+Inv-loop lefts rights masks set left₀ right₀ i₀ left right i =
+    (i ≤ length masks) × ((ds : List Datum) → Kept ds lefts rights masks → Spanning ds set i left right)
 
 abbrev μ-loop : tie.MeasureT-loop
-μ-loop s masks set left₀ right₀ i₀ left right i = length masks - i
+μ-loop lefts rights masks set left₀ right₀ i₀ left right i = length masks - i
 
 loop-holds : tie.Need-loop-holds Inv-loop μ-loop
-loop-holds c =
-    let a = c .before .before in
-    (search needs, omega (arith, mask-count _ _ (a .pre .2), held-count-le _ (a .pre .1)), (refl, refl))
+loop-holds c = (search needs, λ ds kept. (refl, refl))
 
 loop-again : tie.Need-loop-again Inv-loop μ-loop
 loop-again c =
     let at-shared = c .before in
     let at-test = at-shared .before .before in
     let head = at-test .before .loop in
-    let a = at-test .before .before .before .before in
-    let x = at-shared .shared .ensures in (
+    let a = at-test .before .before .before .before .before in
+    let x = at-shared .shared .ensures in
+    let in-row = at-test .loop-test .taken in (
       search needs,
-      head .inv .1,
-      ⊎-elim
-          (λ w. rw (w .5, w .6)
-          (span-take _ _ (a .pre .2) (a .pre .1) _ (a .pre .3) (head .i) (at-test .loop-test .taken) _ _ _ x (head .inv .2) (w .0 .taken) _ _ _ _ (w .1 .ensures .0) (w .3 .ensures .0) (w .2 .ensures) (w .4 .ensures)))
-          (λ w. rw (w .1, w .2) (span-pass _ _ (a .pre .2) (a .pre .1) _ (a .pre .3) (head .i) (at-test .loop-test .taken) _ _ _ x (head .inv .2) (w .0 .left)))
+      λ ds kept.
+          ⊎-elim
+          (λ w. rw (w .5, w .6) (span-take ds kept _ (a .pre .2) (head .i) in-row _ _ _ x (head .inv .1 ds kept) (w .0 .taken) _ _ (w .2 .ensures) (w .4 .ensures)))
+          (λ w. rw (w .1, w .2) (span-pass ds kept _ (a .pre .2) (head .i) in-row _ _ _ x (head .inv .1 ds kept) (w .0 .left)))
           (c .if1 .came),
     )
 
 returns : tie.Need-returns Inv-loop μ-loop
 returns c =
     let head = c .before .loop in
-    let a = c .before .before .before .before in
-    span-done _ _ (a .pre .2) (a .pre .1) _ (a .pre .3) (head .i) _ _ (c .loop-test .left) (head .inv .2)
+    let a = c .before .before .before .before .before in
+    λ ds kept. span-done ds kept _ (a .pre .2) (head .i) _ _ (c .loop-test .left) (head .inv .1 ds kept)
 
 pub span-spec : {M : Type 1} → statement M
 span-spec =
@@ -58,9 +57,8 @@ span-spec =
     (λ c. search needs)
     (λ c. search needs)
     (λ c κs. search needs)
-    (λ c κs. search needs)
     (λ c. search needs)
-    (λ c κs. search needs)
+    (λ c. search needs)
     (λ c κs. search needs)
     (λ c. search needs)
     (λ c. search needs)

@@ -1,66 +1,14 @@
--- `engine::ageing::stays_below` meets its contract: the test is carried along, so that no exit breaks the loop.
--- Invariant: the test so far is that of the first i places. Measure: the places still to test.
-use Prim.Native.Nat.{_-_, _≤_}
-use mathlib.Core.Path.{_≡_, refl, sym, _∙_}
-use native.Mathlib.Omega.{arith}
-use Rattle.predicates.specs.Lists.{allBelow}
-use Rattle.state.specs.Layout.{datumAt, heldCount}
-use Rattle.state.proofs.StateLaws.{held-count-le}
-use Rattle.state.proofs.FormLoops.{below-turn}
-use Rattle.engine.proofs.AgeLaws.{staysAt, stays-below}
-use Rattle.engine.proofs.WidenLaws.{held-at}
+-- `engine::ageing::stays_below` meets its contract: the whole microseconds tell (`far-stays`), or both numbers do.
+use mathlib.Core.Path.{sym, _∙_}
+use Rattle.engine.proofs.WidenLaws.{far-stays}
 use borrow.Author.Needs.{needs}
 use Rattle.engine.proofs.ageing.stays_below.Statement.{statement}
 use Rattle.engine.proofs.ageing.stays_below.Tie as tie
 
-abbrev Inv-loop : tie.InvT-loop
-Inv-loop s hi n ok₀ i₀ ok i = (i ≤ n) × (n ≡ heldCount s) × (n ≤ 16) × (ok ≡ allBelow i (staysAt hi s))
-
-abbrev μ-loop : tie.MeasureT-loop
-μ-loop s hi n ok₀ i₀ ok i = n - i
-
-loop-holds : tie.Need-loop-holds Inv-loop μ-loop
-unfolding allBelow
-loop-holds c =
-    let count = c .get32 .ensures .0 in
-    let a = c .before .before in
-    (search needs, count, omega (arith, held-count-le _ (a .pre .1)), refl)
-
-add-ok : tie.Need-add-ok Inv-loop μ-loop
-unfolding datumAt
-add-ok c =
-    let head = c .before .before in
-    let a = head .before .before .before in
-    omega (arith, held-at _ (a .pre .1) (head .loop .i) (omega arith) .below, c .get64 .ensures .0)
-
-loop-again : tie.Need-loop-again Inv-loop μ-loop
-unfolding datumAt
-loop-again c =
-    let head = c .before .before .loop in
-    (search needs, head .inv .1, head .inv .2, below-turn (staysAt _ _) (head .i) (head .ok) _ (head .inv .3) (rw (c .get64 .ensures .0)))
-
-returns : tie.Need-returns Inv-loop μ-loop
+returns : tie.Need-returns
 returns c =
-    let head = c .before .loop in
-    let a = c .before .before .before .before .args in
-    let done : head .i ≡ heldCount (a .s .now) = omega arith in
-    head .inv .3 ∙ rw done (sym (stays-below (a .hi) (a .s .now)))
+    let a = c .before .before .before in
+    sym (far-stays (a .args .s .now) (a .pre .1) (a .args .hi) (a .pre .2) (sym (c .before .far-below .ensures) ∙ c .if1 .taken))
 
 pub stays-below-spec : {M : Type 1} → statement M
-stays-below-spec =
-    tie.close
-    (tie.spec
-    Inv-loop
-    μ-loop
-    (λ c κs. search needs)
-    (λ c. search needs)
-    loop-holds
-    (λ c. search needs)
-    (λ c. search needs)
-    (λ c. search needs)
-    (λ c κs. search needs)
-    add-ok
-    (λ c. search needs)
-    (λ c. search needs)
-    loop-again
-    returns)
+stays-below-spec = tie.close (tie.spec (λ c κs. search needs) returns (λ c κs. search needs) (λ c. search needs))

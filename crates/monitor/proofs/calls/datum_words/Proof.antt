@@ -8,7 +8,7 @@ use Rattle.numbers.specs.Numbers.{num}
 use Rattle.epochs.specs.Epochs.{epochsIn}
 use Rattle.radio.specs.Names.{wanted, namesOf}
 use Rattle.state.specs.Layout.{ownAt, epochsAt, datumAt}
-use Rattle.monitor.proofs.CallLaws.{Held, held-out, given-told, length-written, ends-lt, terms-taken, words-written}
+use Rattle.monitor.proofs.CallLaws.{Held, held-out, given-told, length-written, right-split, left-down, right-up, ends-lt, terms-taken, words-written}
 use borrow.Author.Needs.{needs}
 use Rattle.monitor.proofs.calls.datum_words.Statement.{statement}
 use Rattle.monitor.proofs.calls.datum_words.Tie as tie
@@ -46,6 +46,11 @@ long c = let f = held c in omega (arith, ap length (terms c), f .count, c .befor
 few : (c : tie.After-get-words) → c .before .before .get322 .result ≤ 8
 few c = let f = held c in omega (arith, f .few, f .count, c .before .before .get322 .ensures .0)
 
+round-up-requires : tie.Need-round-up-requires
+round-up-requires c κs =
+    let a = c .before .before .before .before in
+    right-split _ _ (held-out _ (a .pre .0 .1) _ (a .pre .1 .0)) _ (c .get .ensures)
+
 array-share-prefix-masks : tie.Need-array-share-prefix-masks
 array-share-prefix-masks c = let size = few (c .before) in search needs
 
@@ -76,7 +81,8 @@ write-requires c κs =
     let w = at-words k in
     let at-right = w .before .before .before in
     let f = held w in
-    let ends = ends-lt _ _ f _ _ (at-right .before .get64 .ensures .0) (at-right .get642 .ensures .0) in
+    let read = at-right .before .get .ensures in
+    let ends = ends-lt _ _ f _ _ (left-down _ _ f _ read) (right-up _ _ f _ read _ (at-right .round-up .ensures)) in
     let a = at-right .before .before .before .before .before in
     ((omega (arith, f .own-le, at-right .before .before .get32 .ensures .0), ends .0, ends .1, omega (arith, long w, few w)), omega (arith, long w, few w, counted k, k .known-names .ensures .0 .1, a .pre .1 .2))
 
@@ -92,7 +98,8 @@ returns c =
     let w = at-words k in
     let at-right = w .before .before .before in
     let f = held w in
-    let same = words-written _ _ f _ _ _ _ _ (at-right .before .before .get32 .ensures .0) (at-right .before .get64 .ensures .0) (at-right .get642 .ensures .0) (names k) (terms w) in
+    let read = at-right .before .get .ensures in
+    let same = words-written _ _ f _ _ _ _ _ (at-right .before .before .get32 .ensures .0) (left-down _ _ f _ read) (right-up _ _ f _ read _ (at-right .round-up .ensures)) (names k) (terms w) in
     ((omega (arith, length-written _ _ f, ap length (names k), counted k, f .count, w .before .before .get322 .ensures .0), omega (arith, few w, k .known-names .ensures .0 .1)), rw same at (c .before .before .write .ensures))
 
 pub datum-words-spec : {M : Type 1} → statement M
@@ -103,8 +110,7 @@ datum-words-spec =
     (λ c. search needs)
     (λ c κs. search needs)
     (λ c κs. search needs)
-    (λ c. search needs)
-    (λ c κs. search needs)
+    round-up-requires
     (λ c. search needs)
     (λ c κs. search needs)
     (λ c. search needs)

@@ -5,6 +5,7 @@ use Rattle.message.specs.Read.{readingNumber}
 use Rattle.monitor.specs.Messages.{readBytes}
 use Rattle.monitor.specs.Receive.{delivered, deliveredAs, deliveredNumber, deliveredState}
 use Rattle.monitor.proofs.MessageCalls.{got-read, words-taken, words-in-taken, taken-says, refused-stays}
+use native.Mathlib.Omega.{arith}
 use borrow.Author.Needs.{needs}
 use Rattle.monitor.proofs.receive.receive_message.Statement.{statement}
 use Rattle.monitor.proofs.receive.receive_message.Tie as tie
@@ -42,7 +43,7 @@ deliver-requires c κs =
       a .pre .0,
       (
         (a .pre .1 .0, a .pre .1 .1, says .0, a .pre .1 .2),
-        (says .1, says .2, rw (c .before .before .term-words .ensures, words) (says .3), rw (c .before .epoch-words .ensures, words) (says .4)),
+        (says .1, omega (arith, says .2), rw (c .before .before .term-words .ensures, words) (says .3), rw (c .before .epoch-words .ensures, words) (says .4)),
       ),
     )
 

@@ -5,6 +5,7 @@ use Prim.Native.Nat.{ℕ, _<_}
 use mathlib.Core.Path.{_≡_, refl, sym, ap, _∙_}
 use mathlib.Core.List.{List}
 use native.Mathlib.Omega.{arith}
+use borrow.Author.Tests.{ltb-true, ltb-false, not-true, not-false}
 use lib.Dec.{T}
 use lib.ListN.{length, take}
 use Rattle.numbers.specs.Numbers.{put}
@@ -13,6 +14,7 @@ use Rattle.names.specs.Sets.{union}
 use Rattle.message.specs.Words.{masks}
 use Rattle.epochs.specs.Epochs.{older, spoken}
 use Rattle.clocks.specs.Clocks.{violatedBy}
+use Rattle.ends.specs.Ends.{countOf}
 use Rattle.state.specs.Model.{endLimit}
 use Rattle.state.specs.Layout.{stateBytes, stateOf, headOf, storeOf}
 use Rattle.state.specs.Form.{stateOk}
@@ -102,12 +104,14 @@ unfolding stateOf
 other c e = c .if1 .left (e ∙ sym (own-there c))
 
 -- the right end that is tested is the grown one
-right-grown : (c : tie.After-grow) → let a = start (from-other c) in c .grow .result .right ≡ grown (stateOf (bytes-at a) .head) (given a) .right
+right-grown : (c : tie.After-grow) → let a = start (from-other c) in countOf (c .grow .result .right) ≡ grown (stateOf (bytes-at a) .head) (given a) .right
 unfolding grown stateOf
-right-grown c = c .grow .ensures .1
+right-grown c = c .grow .ensures .1 .0
 
 below-limit : (c : tie.Else2) → let a = start (from-other (at-grow c)) in grown (stateOf (bytes-at a) .head) (given a) .right < endLimit
-below-limit c = omega (arith, right-grown (at-grow c), c .if2 .left)
+below-limit c =
+    let new = at-grow c .grow .result in
+    omega (arith, right-grown (at-grow c), ltb-true (countOf (new .right)) endLimit (sym (c .before .storable .ensures) ∙ not-false _ (c .if2 .left)))
 
 -- the identifiers that are heard
 heard-there : (c : tie.After-hear) → let a = start-of-hear c in
@@ -167,7 +171,8 @@ unfolding after
 returns-2 c =
     let g = c .before .before in
     let a = start (from-other g) in
-    (sym (receipt-end (bytes-at a) (given a) (other (from-other g)) (omega (arith, right-grown g, c .if2 .taken))), refl)
+    let past = ltb-false (countOf (g .grow .result .right)) endLimit (sym (c .before .storable .ensures) ∙ not-true _ (c .if2 .taken)) in
+    (sym (receipt-end (bytes-at a) (given a) (other (from-other g)) (omega (arith, right-grown g))), refl)
 
 returns-3 : tie.Need-returns-3
 unfolding after
@@ -194,7 +199,7 @@ take-requires c κs =
     let g = given a in (
       (a .pre .0 .0, a .pre .0 .1, a .pre .1 .0 .2, heed-fits (a .args .sender) _ (a .args .readings) _ (h .heed .ensures) (a .pre .1 .0 .3)),
       rw (formed-there f)
-          (arrived-some (headOf (bytes-at a)) g, omega (arith, long-there f, narrow h .if3 .left), arrived-normal (headOf (bytes-at a)) g, arrived-single (headOf (bytes-at a)) g),
+          (arrived-some (headOf (bytes-at a)) g, omega (arith, long-there f, narrow h .if3 .left), arrived-normal (headOf (bytes-at a)) g, arrived-single (headOf (bytes-at a)) g, at-grow (below (at-hear f)) .grow .ensures .1 .1),
     )
 
 -- the datum that is taken is the one that arrives
@@ -203,7 +208,7 @@ new-arrived : (c : tie.After-form-row) → let a = start-of-form c in
 new-arrived c =
     let g = at-grow (below (at-hear c)) in
     let a = start-of-form c in
-    datum-arrived (bytes-at a) (given a) _ _ _ (g .grow .ensures .0) (g .grow .ensures .1) (formed-there c)
+    datum-arrived (bytes-at a) (given a) _ _ _ (g .grow .ensures .0) (g .grow .ensures .1 .0) (formed-there c)
 
 -- the readings are tested as the definition says
 violation-there : (c : tie.After-take) → let a = start-of-take c in
@@ -291,6 +296,7 @@ deliver-spec =
     (λ c. search needs)
     returns
     grow-requires
+    (λ c κs. c .grow .ensures .1 .1 .1)
     (λ c. search needs)
     returns-2
     hear-requires

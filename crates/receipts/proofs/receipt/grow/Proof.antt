@@ -1,28 +1,27 @@
--- `receipts::receipt::grow` meets its contract: each delay less and plus what the drift adds to it is its advance (`least-drift`, `greatest-drift`).
+-- `receipts::receipt::grow` meets its contract: each end gains the advance of its delay; a message's ends have no millionths.
 use native.Mathlib.Omega.{arith}
 use Rattle.state.specs.Layout.{headOf}
-use Rattle.engine.proofs.AgeLaws.{drift-held, least-drift, greatest-drift}
+use Rattle.engine.proofs.AgeLaws.{drift-held}
 use borrow.Author.Needs.{needs}
 use Rattle.receipts.proofs.receipt.grow.Statement.{statement}
 use Rattle.receipts.proofs.receipt.grow.Tie as tie
 
-drift-over-requires : tie.Need-drift-over-requires
-drift-over-requires c κs = let a = c .before .before in (omega arith, omega (arith, c .get32 .ensures .0, drift-held (a .args .state .now) (a .pre .0 .1)))
+least-advance-requires : tie.Need-least-advance-requires
+least-advance-requires c κs = let a = c .before .before in (omega arith, omega (arith, c .get32 .ensures .0, drift-held (a .args .state .now) (a .pre .0 .1)))
 
-drift-over-requires-2 : tie.Need-drift-over-requires-2
-drift-over-requires-2 c κs =
+greatest-advance-requires : tie.Need-greatest-advance-requires
+greatest-advance-requires c κs =
     let a = c .before .before .before in (omega arith, omega (arith, c .before .get32 .ensures .0, drift-held (a .args .state .now) (a .pre .0 .1)))
 
 returns : tie.Need-returns
 unfolding headOf
 returns c =
-    let at-get = c .before .before in
-    let a = at-get .before .before in
-    let s = a .args .state .now in
-    let held = drift-held s (a .pre .0 .1) in (
-      rw (rw (at-get .get32 .ensures .0) at (c .before .drift-over .ensures .0), least-drift _ (a .args .least) held),
-      rw (rw (at-get .get32 .ensures .0) at (c .drift-over2 .ensures .0), greatest-drift _ (a .args .greatest)),
-    )
+    let at-hi = c .before .before in
+    let at-lo = at-hi .before in
+    let drift = at-lo .before .get32 .ensures .0 in
+    let lo = rw drift at (at-lo .least-advance .ensures .0) in
+    let hi = rw drift at (at-hi .greatest-advance .ensures .0) in
+    (omega (arith, lo), (omega (arith, hi), (at-lo .least-advance .ensures .1, at-hi .greatest-advance .ensures .1)))
 
 pub grow-spec : {M : Type 1} → statement M
 grow-spec =
@@ -30,10 +29,8 @@ grow-spec =
     (tie.spec
     (λ c κs. search needs)
     (λ c. search needs)
-    drift-over-requires
-    (λ c. search needs)
-    (λ c. search needs)
-    drift-over-requires-2
+    least-advance-requires
+    greatest-advance-requires
     (λ c. search needs)
     (λ c. search needs)
     returns)

@@ -25,7 +25,7 @@ take-here-requires c κs =
     let at-blame = c .before .before in
     let a = at-blame .before .before .before .before in
     let implied = blame-implies (violation a) (a .args .sender) (at-blame .blame .result) (at-blame .blame .ensures) (a .args .p .now) (a .pre .1 .3) in
-    ((a .pre .0 .0, a .pre .0 .1), (a .pre .1 .0, a .pre .1 .1, a .pre .1 .2, implied))
+    ((a .pre .0 .0, a .pre .0 .1), (a .pre .1 .0, a .pre .1 .1, a .pre .1 .2, implied, a .pre .1 .4))
 
 take-risen-requires : tie.Need-take-risen-requires
 unfolding violation
@@ -33,7 +33,7 @@ take-risen-requires c κs =
     let at-blame = c .before .before in
     let a = at-blame .before .before .before .before in
     let implied = blame-implies (violation a) (a .args .sender) (at-blame .blame .result) (at-blame .blame .ensures) (a .args .p .now) (a .pre .1 .3) in
-    ((a .pre .0 .0, a .pre .0 .1), (a .pre .1 .0, a .pre .1 .1, a .pre .1 .2, implied))
+    ((a .pre .0 .0, a .pre .0 .1), (a .pre .1 .0, a .pre .1 .1, a .pre .1 .2, implied, a .pre .1 .4))
 
 returns : tie.Need-returns
 unfolding violation Bytes

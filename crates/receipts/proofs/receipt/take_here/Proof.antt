@@ -26,7 +26,7 @@ returns c =
 take-datum-requires : tie.Need-take-datum-requires
 take-datum-requires c κs =
     let a = c .before .before .before .before .before in
-    ((a .pre .0 .0, a .pre .0 .1), (a .pre .1 .0, a .pre .1 .1, a .pre .1 .3))
+    ((a .pre .0 .0, a .pre .0 .1), (a .pre .1 .0, a .pre .1 .1, a .pre .1 .3, a .pre .1 .4))
 
 returns-2 : tie.Need-returns-2
 returns-2 c =

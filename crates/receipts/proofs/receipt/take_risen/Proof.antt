@@ -22,10 +22,10 @@ abbrev start : tie.After-withdraw → tie.Start
 start c = at-copy c .before .before .before .before .before
 
 slice-aggregate-copy-2 : tie.Need-slice-aggregate-copy-2
-slice-aggregate-copy-2 c = let a = c .before .before .before .before in sym (length-take-le 3032 (a .args .state .now) (omega (arith, a .pre .0 .0)))
+slice-aggregate-copy-2 c = let a = c .before .before .before .before in sym (length-take-le 3160 (a .args .state .now) (omega (arith, a .pre .0 .0)))
 
 copy-requires : tie.Need-copy-requires
-copy-requires c κs = let a = c .before .before .before .before in omega (arith, length-take-le 3032 (a .args .state .now) (omega (arith, a .pre .0 .0)))
+copy-requires c κs = let a = c .before .before .before .before in omega (arith, length-take-le 3160 (a .args .state .now) (omega (arith, a .pre .0 .0)))
 
 take-here-requires : tie.Need-take-here-requires
 unfolding withdrawnState stateOf
@@ -34,7 +34,7 @@ take-here-requires c κs =
     let a = start w in
     let s = a .args .state .now in
     let long = risen-long s (a .pre .0 .1) (a .pre .0 .0) (a .args .risen) _ (w .withdraw .ensures) in
-    ((omega (arith, long, a .pre .0 .0), risen-form s (a .pre .0 .1) (a .pre .0 .0) (a .args .risen) _ (w .withdraw .ensures)), (a .pre .1 .0, a .pre .1 .1, a .pre .1 .2, a .pre .1 .3))
+    ((omega (arith, long, a .pre .0 .0), risen-form s (a .pre .0 .1) (a .pre .0 .0) (a .args .risen) _ (w .withdraw .ensures)), (a .pre .1 .0, a .pre .1 .1, a .pre .1 .2, a .pre .1 .3, a .pre .1 .4))
 
 returns : tie.Need-returns
 unfolding withdrawnState stateOf Bytes

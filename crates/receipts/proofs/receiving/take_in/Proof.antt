@@ -40,12 +40,12 @@ settle-requires c κs =
     let some = few a in
     let rows = data-rows _ s form h _ _ _ _ _ _ _ _ (read .0) (read .1 .0) (read .1 .1 .0) (read .1 .1 .1) in
     let held = data-form _ s form h _ _ _ _ _ _ _ _ (read .0) (read .1 .0) (read .1 .1 .0) (read .1 .1 .1) in (
-      data-columns _ s form h _ _ _ _ _ _ _ _ (read .0) (read .1 .0) (read .1 .1 .0) (read .1 .1 .1) _ (omega arith) (columns-fresh _ 17 17 17 136 (omega arith) (omega arith) (omega arith) (omega arith)),
+      data-columns _ s form h _ _ _ _ _ _ _ _ (read .0) (read .1 .0) (read .1 .1 .0) (read .1 .1 .1) _ (omega arith) (columns-fresh _ 34 34 17 136 (omega arith) (omega arith) (omega arith) (omega arith)),
       (
         (a .pre .0 .0, form, a .pre .1 .0 .1),
         (
           table-awaiting (a .args .old .known) _ 48 s (a .args .masks .now) (omega arith) (omega (arith, a .pre .1 .1 .0 .2)),
-          ((a .pre .1 .1 .0 .0, a .pre .1 .1 .0 .1, omega arith), (a .pre .1 .1 .1, rows ∙ sym held)),
+          ((a .pre .1 .1 .0 .0, a .pre .1 .1 .0 .1, omega arith, a .pre .1 .1 .0 .3), (a .pre .1 .1 .1, rows ∙ sym held)),
         ),
       ),
     )

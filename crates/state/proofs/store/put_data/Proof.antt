@@ -29,14 +29,14 @@ neither r i standing e = go (ltb r i) (leb standing i) refl refl e
 
 abbrev Inv-loop : tie.InvT-loop
 Inv-loop s₀ lefts rights counts masks n standing r₀ i₀ s r i =
-    (i ≤ n) × (r ≤ i) × Written datumBytes 52 24 (dataIn i (columns lefts rights counts masks)) r s₀ s
+    (i ≤ n) × (r ≤ i) × Written datumBytes 60 24 (dataIn i (columns lefts rights counts masks)) r s₀ s
 
 abbrev μ-loop : tie.MeasureT-loop
 μ-loop s₀ lefts rights counts masks n standing r₀ i₀ s r i = n - i
 
 loop-holds : tie.Need-loop-holds Inv-loop μ-loop
 unfolding dataIn tab
-loop-holds c = (search needs, search needs, written-none datumBytes 52 24 _)
+loop-holds c = (search needs, search needs, written-none datumBytes 60 24 _)
 
 cast-count : tie.Need-cast-count Inv-loop μ-loop
 cast-count c =
@@ -48,18 +48,25 @@ add-to c =
     let head = c .before .before .before .before in
     omega (arith, head .before .before .before .before .before .before .pre .0 .table .narrow (head .loop .i))
 
+both-requires : tie.Need-both-requires Inv-loop μ-loop
+both-requires c κs =
+    let head = c .before .before .before .before in
+    let fit = head .before .before .before .before .before .before .pre .0 in
+    (omega (arith, fit .lefts-long), fit .lefts-split, omega (arith, fit .rights-long), fit .rights-split)
+
 part-put-datum-end : tie.Need-part-put-datum-end Inv-loop μ-loop
 part-put-datum-end c =
-    let head = c .before .before .before .before .before .before .before in
-    table-room 8 _ _ _ (head .before .before .before .before .before .before .pre .0 .table) (head .loop .i) (c .before .before .before .before .before .before .loop-test .taken)
+    let head = c .before .before .before .before .before .before in
+    table-room 8 _ _ _ (head .before .before .before .before .before .before .pre .0 .table) (head .loop .i) (c .before .before .before .before .before .loop-test .taken)
 
 put-datum-requires : tie.Need-put-datum-requires Inv-loop μ-loop
 put-datum-requires c κs =
-    let head = c .before .before .before .before .before .before .before .before in
+    let head = c .before .before .before .before .before .before .before in
     let a = head .before .before .before .before .before .before in (
-      data-room _ (head .loop .i) _ _ _ _ (a .pre .0) (c .before .before .before .before .before .before .before .loop-test .taken) _ _ _ (head .loop .inv .2) _ (c .before .before .before .before .before .if1 .taken) (a .pre .1 .0),
+      data-room _ (head .loop .i) _ _ _ _ (a .pre .0) (c .before .before .before .before .before .before .loop-test .taken) _ _ _ (head .loop .inv .2) _ (c .before .before .before .before .if1 .taken) (a .pre .1 .0),
       length-part-le 8 _ (head .loop .i) _ _ (a .pre .0 .table),
       omega arith,
+      c .before .before .both .ensures .2,
     )
 
 loop-again : tie.Need-loop-again Inv-loop μ-loop
@@ -74,7 +81,7 @@ loop-again c =
       omega arith,
       rw (live .2, live .3)
           (⊎-elim
-          (λ v. rw (v .8) (datum-stored _ (head .loop .i) _ _ _ _ (a .pre .0) turn _ _ _ w _ (live .0 .taken) (v .5 .ensures)))
+          (λ v. rw (v .7) (datum-stored _ (head .loop .i) _ _ _ _ (a .pre .0) turn _ _ _ w _ _ _ (v .1 .ensures .0) (v .1 .ensures .1) (live .0 .taken) (v .4 .ensures)))
           (λ v. let still = neither (head .loop .r) (head .loop .i) _ (v .0 .left) in
           rw (v .1) (datum-stays _ (head .loop .i) _ _ _ _ (a .pre .0) turn _ _ _ w (live .0 .taken) (still .0) (head .loop .inv .1)
           (a .pre .1 .1 .1 (head .loop .i) (still .1) (λ e. omega arith))))
@@ -101,10 +108,7 @@ put-data-spec =
     cast-count
     (λ c. search needs)
     add-to
-    (λ c. search needs)
-    (λ c. search needs)
-    (λ c. search needs)
-    (λ c. search needs)
+    both-requires
     (λ c. search needs)
     (λ c. search needs)
     (λ c. search needs)

@@ -14,14 +14,14 @@ use Rattle.state.proofs.store.put_entries.Statement.{statement}
 use Rattle.state.proofs.store.put_entries.Tie as tie
 
 abbrev Inv-loop : tie.InvT-loop
-Inv-loop s₀ first counts masks n r₀ i₀ s r i = (i ≤ n) × (r ≤ i) × Written entryBytes 68 856 (entriesIn i (tableFrom first s₀ counts masks)) r s₀ s
+Inv-loop s₀ first counts masks n r₀ i₀ s r i = (i ≤ n) × (r ≤ i) × Written entryBytes 68 984 (entriesIn i (tableFrom first s₀ counts masks)) r s₀ s
 
 abbrev μ-loop : tie.MeasureT-loop
 μ-loop s₀ first counts masks n r₀ i₀ s r i = n - i
 
 loop-holds : tie.Need-loop-holds Inv-loop μ-loop
 unfolding entriesIn tab
-loop-holds c = (search needs, search needs, written-none entryBytes 68 856 _)
+loop-holds c = (search needs, search needs, written-none entryBytes 68 984 _)
 
 cast-count : tie.Need-cast-count Inv-loop μ-loop
 cast-count c =

@@ -27,8 +27,8 @@ row-betters-requires : tie.Need-row-betters-requires Inv-loop μ-loop
 row-betters-requires c κs =
     let a = c .before .before .before .before .before .before .before in
     let i = c .before .loop .i in (
-      (omega (arith, a .pre .table .counted), table-room 8 _ _ _ (a .pre .table) i (c .loop-test .taken)),
-      (omega (arith, a .pre .lefts-long), omega (arith, a .pre .rights-long)),
+      (omega (arith, a .pre .0 .table .counted), table-room 8 _ _ _ (a .pre .0 .table) i (c .loop-test .taken)),
+      (omega (arith, a .pre .0 .lefts-long), a .pre .0 .lefts-split, omega (arith, a .pre .0 .rights-long), a .pre .0 .rights-split, a .pre .1),
     )
 
 returns : tie.Need-returns Inv-loop μ-loop

@@ -8,8 +8,9 @@ use Rattle.steps.proofs.steps.betters_row.Tie as tie
 returns : tie.Need-returns
 unfolding datumIn
 returns c =
-    let a = c .before .before .before .before .before .before .before .before .before .before .args in
-    rw (row-lent 8 (a .i) (a .held .now) (a .terms .now)) at (c .betters .ensures)
+    let at-both = c .before .before in
+    let a = at-both .before .before .before .before .before .before .before .args in
+    rw (at-both .both .ensures .0, at-both .both .ensures .1, row-lent 8 (a .i) (a .held .now) (a .terms .now)) at (c .betters .ensures)
 
 pub betters-row-spec : {M : Type 1} → statement M
 betters-row-spec =
@@ -20,10 +21,7 @@ betters-row-spec =
     (λ c. search needs)
     (λ c. search needs)
     (λ c. search needs)
-    (λ c. search needs)
-    (λ c. search needs)
-    (λ c. search needs)
-    (λ c. search needs)
+    (λ c κs. search needs)
     (λ c. search needs)
     (λ c. search needs)
     (λ c. search needs)

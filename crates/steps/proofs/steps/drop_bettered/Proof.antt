@@ -31,8 +31,8 @@ betters-row-requires c κs =
     let a = head .before .before .before .before .before .before in
     let i = head .loop .i in
     let same : getD (head .loop .held) i 0 ≡ getD (a .args .held .now) i 0 = ap (λ l. getD l i 0) (head .loop .inv .2) ∙ given-up-at _ _ i in (
-      (omega (arith, a .pre .table .counted), omega (arith, same, table-room 8 _ _ _ (a .pre .table) i (c .before .loop-test .taken))),
-      (omega (arith, a .pre .lefts-long), omega (arith, a .pre .rights-long)),
+      (omega (arith, a .pre .0 .table .counted), omega (arith, same, table-room 8 _ _ _ (a .pre .0 .table) i (c .before .loop-test .taken))),
+      (omega (arith, a .pre .0 .lefts-long), a .pre .0 .lefts-split, omega (arith, a .pre .0 .rights-long), a .pre .0 .rights-split, a .pre .1),
     )
 
 loop-again : tie.Need-loop-again Inv-loop μ-loop
@@ -41,7 +41,7 @@ loop-again c =
     let a = head .before .before .before .before .before .before in
     let i = head .loop .i in
     let same : getD (head .loop .held) i 0 ≡ getD (a .args .held .now) i 0 = ap (λ l. getD l i 0) (head .loop .inv .2) ∙ given-up-at _ _ i in
-    let near : i < length (a .args .held .now) = omega (arith, a .pre .table .counted) in
+    let near : i < length (a .args .held .now) = omega (arith, a .pre .0 .table .counted) in
     let test = c .before .betters-row .ensures ∙ ap (λ d. betters (datumOf (a .args .new) (a .args .p .now)) d) (datum-count _ _ _ _ _ i same) in
     ⊎-elim
     (λ w. (search needs, ap length (w .1) ∙ simp length-set (head .loop .inv .1), given-up-turn _ _ _ _ i true near (head .loop .inv .2) (sym (w .0 .taken) ∙ test) (w .1)))

@@ -29,7 +29,7 @@ loop-holds : tie.Need-loop-holds Inv-loop μ-loop
 unfolding tab learnt
 loop-holds c =
     let a = c .before .before .before .before .before .before .before .before .before in
-    (search needs, search needs, search needs, refl, refl, table-less 16 _ _ _ _ (a .pre .1 .1 .0) (omega arith), refl, refl, a .pre .1 .1 .1 .1, λ i l f. refl)
+    (search needs, search needs, search needs, refl, refl, table-less 16 _ _ _ _ (a .pre .1 .1 .0) (omega arith), refl, refl, a .pre .1 .1 .1 .1 .0, λ i l f. refl)
 
 -- row i lies within its array
 room : (c : tie.In-loop Inv-loop μ-loop) → let a = c .before .before .before .before .before .before .before .before .before .before .before .args in
@@ -42,43 +42,49 @@ cast-to c = omega (arith, c .before .before .before .before .before .before .bef
 add-to : tie.Need-add-to Inv-loop μ-loop
 add-to c = omega (arith, room (c .before))
 
-shared-slice-read-t25 : tie.Need-shared-slice-read-t25 Inv-loop μ-loop
-shared-slice-read-t25 c = omega (arith, c .before .before .before .before .before .before .before .before .before .before .before .before .before .pre .0 .lefts-long)
-
-shared-slice-read-t27 : tie.Need-shared-slice-read-t27 Inv-loop μ-loop
-shared-slice-read-t27 c = omega (arith, c .before .before .before .before .before .before .before .before .before .before .before .before .before .before .pre .0 .rights-long)
+both-requires : tie.Need-both-requires Inv-loop μ-loop
+both-requires c κs =
+    let fit = c .before .before .before .before .before .before .before .before .before .before .before .before .pre .0 in
+    (omega (arith, fit .lefts-long), fit .lefts-split, omega (arith, fit .rights-long), fit .rights-split)
 
 part-learn-from-start : tie.Need-part-learn-from-start Inv-loop μ-loop
-part-learn-from-start c = omega (arith, room (c .before .before .before))
+part-learn-from-start c = omega (arith, room (c .before .before))
 
 part-learn-from-end : tie.Need-part-learn-from-end Inv-loop μ-loop
-part-learn-from-end c = omega (arith, room (c .before .before .before))
+part-learn-from-end c = omega (arith, room (c .before .before))
 
 sub-learn-from : tie.Need-sub-learn-from Inv-loop μ-loop
-sub-learn-from c = omega (arith, room (c .before .before .before))
+sub-learn-from c = omega (arith, room (c .before .before))
 
 learn-from-requires : tie.Need-learn-from-requires Inv-loop μ-loop
 learn-from-requires c κs =
-    let head = c .before .before .before .before .before .before .before .before .loop in
-    let a = c .before .before .before .before .before .before .before .before .before .before .before .before .before .before .before .before .before .before in
+    let at-both = c .before .before .before .before in
+    let head = at-both .before .before .before .loop in
+    let a = at-both .before .before .before .before .before .before .before .before .before .before .before .before .before in
     let i = head .i in
     let held = a .args .held .now in
-    let near = room (c .before .before .before .before .before .before .before) in
+    let near = room (at-both .before .before) in
     let p = a .pre .1 .1 .1 .0 in (
       (a .pre .1 .0 .0, a .pre .1 .0 .1, head .inv .1),
       (
         table-held _ _ _ _ _ _ (a .pre .1 .1 .0) _ (head .inv .5) (head .inv .3) (head .inv .4) _ (omega arith),
         (
           rw (row-lent 8 i held (a .args .terms .now)) (omega (arith, row-length 8 i held (a .args .terms .now) near, a .pre .0 .table .narrow i), p .0, p .1, omega (arith, p .2)),
-          head .inv .8,
+          (head .inv .8, at-both .both .ensures .2, a .pre .1 .1 .1 .1 .1),
         ),
       ),
     )
 
+add-i : tie.Need-add-i Inv-loop μ-loop
+add-i c =
+    let at-test = c .before .before .before .before .before .before .before .before .before .before .before .before .before in
+    omega (arith, at-test .loop-test .taken, at-test .before .before .before .before .before .before .before .before .before .before .before .good)
+
 loop-again : tie.Need-loop-again Inv-loop μ-loop
 unfolding datumIn
 loop-again c =
-    let at-test = c .before .before .before .before .before .before .before .before .before .before .before .before .before .before in
+    let at-both = c .before .before .before .before .before .before .before .before .before .before .before in
+    let at-test = at-both .before .before in
     let head = at-test .before .loop in
     let a = at-test .before .before .before .before .before .before .before .before .before .before .before .args in
     let made = c .before .before .before .before .before .before .learn-from .ensures in (
@@ -89,7 +95,7 @@ loop-again c =
       search needs,
       made .0 .2,
       learnt-next _ (datumIn (columns (a .lefts .now) (a .rights .now) (a .held .now) (a .terms .now))) (head .i) _ _ _ (head .inv .6)
-          (rw (row-lent 8 (head .i) (a .held .now) (a .terms .now)) at (made .1)),
+          (rw (at-both .both .ensures .0, at-both .both .ensures .1, row-lent 8 (head .i) (a .held .now) (a .terms .now)) at (made .1)),
       search needs,
       made .0 .3,
       λ k l f. let same = made .0 .4 k (omega arith) f in same ∙ head .inv .9 k l (λ z. f (same ∙ z)),
@@ -113,16 +119,13 @@ learn-all-spec =
     (λ c. search needs)
     cast-to
     add-to
-    (λ c. search needs)
-    shared-slice-read-t25
-    (λ c. search needs)
-    shared-slice-read-t27
+    both-requires
     (λ c. search needs)
     sub-learn-from
     part-learn-from-start
     part-learn-from-end
     learn-from-requires
-    (λ c. search needs)
+    add-i
     (λ c. search needs)
     loop-again
     (λ c. search needs)

@@ -12,13 +12,13 @@ returns : tie.Need-returns
 unfolding disjoint
 returns c =
     let a = c .before .before .before .before .before .before .before .before in
-    ((search needs, search needs, table-less 16 _ _ _ _ (a .pre .1 .0) (omega arith), a .pre .1 .1 .1, λ i l f. refl), rw (sym (c .before .disjoint .ensures) ∙ not-true _ (c .if1 .taken)))
+    ((search needs, search needs, table-less 16 _ _ _ _ (a .pre .1 .0) (omega arith), a .pre .1 .1 .1 .0, λ i l f. refl), rw (sym (c .before .disjoint .ensures) ∙ not-true _ (c .if1 .taken)))
 
 learn-sum-requires : tie.Need-learn-sum-requires
 learn-sum-requires c κs =
     let a = c .before .before .before .before .before .before .before .before .before .before .before in
     let p = a .pre .1 .1 .0 in
-    (a .pre .0, (a .pre .1 .0, ((p .1, omega (arith, p .0, p .2), p .3), a .pre .1 .1 .1)))
+    (a .pre .0, (a .pre .1 .0, ((p .1, omega (arith, p .0, p .2), p .3), a .pre .1 .1 .1 .0)))
 
 returns-2 : tie.Need-returns-2
 unfolding disjoint

@@ -1,6 +1,6 @@
 -- `steps::steps::meet` meets its contract: no row has the predicate and nothing changes, or the first one that has is given up and met.
-use Prim.Native.Nat.{_<_}
-use mathlib.Core.Path.{refl, sym, ap₂, _∙_}
+use Prim.Native.Nat.{ℕ, _<_, min, max}
+use mathlib.Core.Path.{refl, sym, ap, ap₂, _∙_}
 use native.Mathlib.Omega.{arith}
 use lib.ListN.{length}
 use Rattle.steps.specs.Steps.{meet}
@@ -14,28 +14,33 @@ use Rattle.steps.proofs.steps.meet.Statement.{statement}
 use Rattle.steps.proofs.steps.meet.Tie as tie
 
 find-same-requires : tie.Need-find-same-requires
-find-same-requires c κs = c .before .before .before .before .before .before .pre .0 .table
+find-same-requires c κs = c .before .before .before .before .before .before .pre .0 .0 .table
 
 returns : tie.Need-returns
 returns c =
     let a = c .before .before .before .before .before .before .before .before in
     let none = meet-none (a .args .h) (a .args .lefts .now) (a .args .rights .now) (a .args .held .now) (a .args .terms .now) (datumOf (a .args .new) (a .args .p .now)) _ (c .before .find-same .ensures) (c .if1 .taken) in
-    (sym (none .0), (sym (none .1), (a .pre .0 .table, λ i l f. refl)))
+    ((sym (none .0), a .pre .0 .1), (sym (none .1), (a .pre .0 .0 .table, λ i l f. refl)))
 
 returns-2 : tie.Need-returns-2
 unfolding meet datumIn
 returns-2 c =
-    let at-find = c .before .before .before .before .before in
+    let at-both = c .before .before in
+    let at-find = at-both .before .before in
     let a = at-find .before .before .before .before .before .before .before in
     let n = datumOf (a .args .new) (a .args .p .now) in
     let r = at-find .find-same .ensures in
-    let near : at-find .find-same .result < a .args .h = omega (arith, r .within, c .before .before .before .before .if1 .left) in
-    let long : at-find .find-same .result < length (a .args .held .now) = omega (arith, a .pre .0 .table .counted) in (
-      ap₂ (λ x y. datum x y (a .args .p .now)) (c .before .before .greater .ensures) (c .lesser .ensures)
-          ∙ sym (meet-met (a .args .h) (a .args .lefts .now) (a .args .rights .now) (a .args .held .now) (a .args .terms .now) n _ r near long (a .pre .1)),
+    let near : at-find .find-same .result < a .args .h = omega (arith, r .within, at-both .before .if1 .left) in
+    let long : at-find .find-same .result < length (a .args .held .now) = omega (arith, a .pre .0 .0 .table .counted) in (
+      (
+        ap₂ (λ x y. datum x y (a .args .p .now)) (c .before .later .ensures .0 ∙ ap (λ (x : ℕ). max x (n .left)) (at-both .both .ensures .0))
+            (c .earlier .ensures .0 ∙ ap (λ (x : ℕ). min x (n .right)) (at-both .both .ensures .1))
+            ∙ sym (meet-met (a .args .h) (a .args .lefts .now) (a .args .rights .now) (a .args .held .now) (a .args .terms .now) n _ r near long (a .pre .1)),
+        (c .before .later .ensures .1, c .earlier .ensures .1),
+      ),
       (
         meet-without (a .args .h) (a .args .lefts .now) (a .args .rights .now) (a .args .held .now) (a .args .terms .now) n _ r near long (a .pre .1),
-        (table-zero 8 _ _ _ _ (a .pre .0 .table), left-zero (a .args .h) (at-find .find-same .result) (a .args .held .now) long),
+        (table-zero 8 _ _ _ _ (a .pre .0 .0 .table), left-zero (a .args .h) (at-find .find-same .result) (a .args .held .now) long),
       ),
     )
 
@@ -48,11 +53,8 @@ meet-spec =
     returns
     (λ c. search needs)
     (λ c. search needs)
-    (λ c. search needs)
-    (λ c. search needs)
     (λ c κs. search needs)
-    (λ c. search needs)
-    (λ c. search needs)
+    (λ c κs. search needs)
     (λ c κs. search needs)
     (λ c. search needs)
     returns-2)

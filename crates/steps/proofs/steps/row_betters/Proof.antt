@@ -14,9 +14,11 @@ returns c =
 returns-2 : tie.Need-returns-2
 unfolding datumIn
 returns-2 c =
-    let at-if1 = c .before .before .before .before in
+    let at-both = c .before .before in
+    let at-if1 = at-both .before in
     let a = at-if1 .before .before .before .before .before .before .before in
-    rw (row-full 8 (a .args .i) (a .args .held .now) (a .args .terms .now) (at-if1 .if1 .left) (a .pre .0 .1)) (rw (row-lent 8 (a .args .i) (a .args .held .now) (a .args .terms .now)) at (c .betters .ensures))
+    rw (row-full 8 (a .args .i) (a .args .held .now) (a .args .terms .now) (at-if1 .if1 .left) (a .pre .0 .1))
+    (rw (at-both .both .ensures .0, at-both .both .ensures .1, row-lent 8 (a .args .i) (a .args .held .now) (a .args .terms .now)) at (c .betters .ensures))
 
 pub row-betters-spec : {M : Type 1} → statement M
 row-betters-spec =
@@ -28,10 +30,7 @@ row-betters-spec =
     returns
     (λ c. search needs)
     (λ c. search needs)
-    (λ c. search needs)
-    (λ c. search needs)
-    (λ c. search needs)
-    (λ c. search needs)
+    (λ c κs. search needs)
     (λ c. search needs)
     (λ c. search needs)
     (λ c. search needs)

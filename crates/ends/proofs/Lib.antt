@@ -1,0 +1,2 @@
+-- The laws of ends in two numbers.
+pub mod EndLaws
