@@ -8,10 +8,10 @@
  *  The calls are reentrant and keep nothing between them: the archive has no data that is written, takes no memory but the stack and what is
  *  lent, and calls memcpy and memset alone. So threads may call at once, as long as none writes what another is lent.
  *
- *  Instants and readings are whole microseconds. A monitor's name is its identifier, 0 to MONITOR_GREATEST_NAME, and its epoch, 0 to
- *  MONITOR_GREATEST_EPOCH: one that was mended comes back under the next epoch, and is another name. A state knows of each identifier the greatest
- *  epoch that it has heard. Numbers in bytes are little-endian. A radio message is handed in as its 32-bit words, four bytes each; docs/layouts.md
- *  has all layouts.
+ *  Readings are whole microseconds, and so are the ends in messages and answers; a state keeps each end of a held interval to the millionth of one. A
+ *  monitor's name is its identifier, 0 to MONITOR_GREATEST_NAME, and its epoch, 0 to MONITOR_GREATEST_EPOCH: one that was mended comes back under the
+ *  next epoch, and is another name. A state knows of each identifier the greatest epoch that it has heard. Numbers in bytes are little-endian. A radio
+ *  message is handed in as its 32-bit words, four bytes each; docs/layouts.md has all layouts.
  *
  *  monitor_text.h reads and puts the numbers and has a text for each refusal. Link with libmonitor.a (x86-64 alone; ELF, the calling convention of
  *  Linux), which the package has and `rt staticlib monitor` writes to target/staticlib. */
@@ -22,7 +22,7 @@
 #include <stdint.h>
 
 /** Rises by one with each change that a C program can see; CHANGELOG.md says what it was. */
-#define MONITOR_VERSION 6
+#define MONITOR_VERSION 7
 
 /** The mark of a result that must be looked at, where the compiler knows one: a refusal that nobody sees leaves a state that nobody expects. */
 #if (defined(__cplusplus) && __cplusplus >= 201703L) || (defined(__STDC_VERSION__) && __STDC_VERSION__ >= 202311L)
@@ -37,8 +37,9 @@
 extern "C" {
 #endif
 
-/** A monitor's state. A lent state may be longer; the bytes beyond stay as they are. */
-#define MONITOR_STATE_BYTES 5265
+/** A monitor's state, which docs/layouts.md has byte by byte: each datum ends with the millionths of its ends. A lent state may be longer; the bytes
+ *  beyond stay as they are. */
+#define MONITOR_STATE_BYTES 5393
 
 /** What monitor_message_read writes: sender, left, right, term count, 8 bytes each. */
 #define MONITOR_READING_BYTES 32
@@ -66,7 +67,7 @@ extern "C" {
 /** The greatest epoch of a monitor, which counts how often it was mended. */
 #define MONITOR_GREATEST_EPOCH 15
 
-/** The greatest reading, and the greatest end of an interval that can be stored. */
+/** The greatest reading, and the greatest end of an interval that can be stored: one a millionth of a microsecond above it cannot. */
 #define MONITOR_GREATEST_READING ((UINT64_C(1) << 58) - 1)
 #define MONITOR_GREATEST_END ((UINT64_C(1) << 58) - 1)
 
@@ -81,8 +82,8 @@ extern "C" {
  *  looks memcpy or memset up at the first call (link with -z now, or statically, and it does not). */
 #define MONITOR_STACK_SET_UP 64
 #define MONITOR_STACK_AGE 256
-#define MONITOR_STACK_RECEIVE 8704
-#define MONITOR_STACK_RECEIVE_WITH_READINGS 8704
+#define MONITOR_STACK_RECEIVE 9344
+#define MONITOR_STACK_RECEIVE_WITH_READINGS 9408
 #define MONITOR_STACK_WRITE 576
 #define MONITOR_STACK_ASK 7552
 #define MONITOR_STACK_FEWEST 6144
@@ -93,7 +94,7 @@ extern "C" {
 enum monitor_answer {
     MONITOR_CONTRADICTED = 0,   /**< no instant counts: more monitors have failed than the limit allows */
     MONITOR_OPEN = 1,           /**< every instant counts: nothing is known of the time */
-    MONITOR_BETWEEN = 2         /**< left is the least instant that counts, right the greatest */
+    MONITOR_BETWEEN = 2         /**< left is the least instant that counts, rounded down, right the greatest, rounded up */
 };
 
 /** The numbers that a call can return. */
@@ -121,7 +122,7 @@ enum monitor_refusal {
     MONITOR_BUFFER = 24,        /**< a lent buffer is too short */
     MONITOR_STATE_FORM = 25,    /**< state out of form */
     /* caused by a filling site */
-    MONITOR_END = 30,           /**< an end would pass MONITOR_GREATEST_END */
+    MONITOR_END = 30,           /**< an end would pass MONITOR_GREATEST_END, be it by a fraction */
     MONITOR_TERM_COUNT = 31,    /**< more than MONITOR_MOST_TERMS terms in the new predicate's normal form, stored or not */
     MONITOR_TOO_MANY = 32,      /**< too many data or entries */
     /* caused by the host program, with clock readings */
@@ -144,7 +145,9 @@ enum monitor_refusal {
 MONITOR_CHECKED
 uint32_t monitor_set_up(uint8_t *state, size_t state_len, uint32_t own, uint32_t drift, uint64_t reading, uint64_t epoch);
 
-/** Ages the state to a reading of the own clock: every interval widens by what the drift can have made of the time passed.
+/** Ages the state to a reading of the own clock: every interval widens by what the drift can have made of the time passed. With d microseconds
+ *  passed at r parts per million a left end gains d * (1,000,000 - r) millionths of a microsecond and a right end d * (1,000,000 + r), and nothing is
+ *  rounded: ageing in two calls gives the same bytes as in one to the later reading.
  *  @param state      the monitor's bytes; those beyond MONITOR_STATE_BYTES stay as they are
  *  @param state_len  how many bytes are lent
  *  @param reading    the own clock, not below the last reading; an equal one changes nothing
@@ -154,7 +157,8 @@ MONITOR_CHECKED
 uint32_t monitor_age(uint8_t *state, size_t state_len, uint64_t reading);
 
 /** Receives a message at the reading the state was last aged to. The delays are counted on the own clock: the left end gains what true time
- *  advances by at least over the least delay, the right end what it advances by at most over the greatest, as monitor_age has it.
+ *  advances by at least over the least delay, the right end what it advances by at most over the greatest, as monitor_age has it. Ends are compared
+ *  to the millionth.
  *
  *  The message's epochs are heard first, that of the own identifier aside. One above the known one is the known one from then on, and the old name
  *  is withdrawn: it counts as failed in all held data and entries, those that are true by that go, the others are put in normal form, and what is
@@ -196,7 +200,8 @@ uint32_t monitor_receive_with_readings(uint8_t *state, size_t state_len, uint64_
                                        uint64_t own_reading, uint64_t half_width, uint32_t sender_drift, const uint8_t *message,
                                        size_t message_len);
 
-/** Writes a held datum as a message in ends form, with the own identifier as sender and the epochs that are known, the own one among them.
+/** Writes a held datum as a message in ends form, with the own identifier as sender and the epochs that are known, the own one among them. A message
+ *  has whole microseconds: the left end is rounded down and the right one up, and so it reads back.
  *  @param state        the monitor's bytes; they are not changed
  *  @param state_len    how many bytes are lent
  *  @param position     which datum; 0 is the oldest
@@ -210,7 +215,8 @@ uint32_t monitor_write(const uint8_t *state, size_t state_len, uint64_t position
 
 /** Asks what time it can be at the reading the state was last aged to. An instant counts if some set of failed monitors within the limit, the
  *  own one not among them, explains all that is known of failures, and each held interval that this set does not explain contains the instant.
- *  A name that was withdrawn counts nowhere: the mended monitor is another.
+ *  A name that was withdrawn counts nowhere: the mended monitor is another. An instant is a whole count of millionths of a microsecond; of those that
+ *  count, the answer has the least rounded down to a microsecond and the greatest rounded up.
  *  @param state       the monitor's bytes; they are not changed
  *  @param state_len   how many bytes are lent
  *  @param limit       how many monitors may have failed, 0 to MONITOR_GREATEST_LIMIT

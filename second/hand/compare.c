@@ -56,6 +56,18 @@ static const uint32_t drifts[] = {0, 1, 100, 999, 1000};
 enum slept { ALIKE, LONGEST, AT_END, PAST_END, SLEPTS };
 static unsigned long slept_at[COUNT(drifts)], slept[SLEPTS];
 
+/* What the millionths of an end alone decided: against the same state without them, or between ends whose wholes are equal. */
+enum decided {
+    APART, TOUCHING, NARROWED, STORED, KEPT, END_PASSED, END_REACHED, CARRIED, PIECES, FORM_GREAT, FORM_ORDER, FORM_END, FORM_UNUSED, IN_FORM,
+    CROSSED, LEFT_DOWN, RIGHT_UP, FEWER, DECIDED
+};
+static const char *const decided_names[DECIDED] = {
+    "apart", "touching", "narrowed by rule 15", "stored against rule 14", "kept against rule 14", "30", "up to the greatest end",
+    "a carry at 1,000,000", "aged in pieces", "25 by a million", "25 by the order", "25 by the greatest end", "25 by an unused place",
+    "equal wholes in form", "another kind of answer", "left end down", "right end up", "other fewest failures"
+};
+static unsigned long decided[DECIDED];
+
 /* ---- calls by both programs */
 
 /* Bytes lent to both, between filled guards and at any alignment. */
@@ -143,12 +155,12 @@ static uint32_t by_hand(const struct call *c, uint8_t *state, size_t len, uint8_
 /* As printed, times a million, in 128 bits: how many of the three triples in a name's place the readings violate it with. */
 static int violations(const uint8_t *place, const struct call *c, uint32_t own_drift)
 {
-    __extension__ typedef __int128 wide;
+    __extension__ typedef __int128 signed_wide;
     int count = 0;
     for (const uint8_t *saved = place + 4; saved < place + CLOCK; saved += 24) {
-        wide a = (wide)c->sender_reading - get64(saved), b = (wide)c->own_reading - get64(saved + 8);
-        wide left = (b < 0 ? -b : b) - a, right = ((wide)own_drift + c->sender_drift) * (a < 0 ? -a : a);
-        right += ((wide)get64(saved + 16) + c->half_width) * 1000000;
+        signed_wide a = (signed_wide)c->sender_reading - get64(saved), b = (signed_wide)c->own_reading - get64(saved + 8);
+        signed_wide left = (b < 0 ? -b : b) - a, right = ((signed_wide)own_drift + c->sender_drift) * (a < 0 ? -a : a);
+        right += ((signed_wide)get64(saved + 16) + c->half_width) * 1000000;
         count += (left < 0 ? -left : left) * 1000000 > right;
     }
     return count;
@@ -232,11 +244,10 @@ static uint32_t sender_epoch(const struct call *c)
 
 /* ---- delays */
 
-/* The ageing rule's greatest advance as printed, in 128 bits. */
+/* The ageing rule's greatest advance, rounded up. */
 static uint64_t greatest_advance(uint64_t passed, uint32_t drift)
 {
-    __extension__ typedef unsigned __int128 wide;
-    return (uint64_t)(((wide)passed * (1000000 + drift) + 999999) / 1000000);
+    return (uint64_t)(((wide)passed * (MILLION + drift) + MILLION - 1) / MILLION);
 }
 
 static int has_slept(const struct call *c)
@@ -257,6 +268,145 @@ static void count_slept(const struct call *c, uint32_t drift, uint32_t number)
     slept[LONGEST] += number == 0 && c->b == MONITOR_GREATEST_DELAY;
     slept[AT_END] += number == 0 && end == MONITOR_GREATEST_END;
     slept[PAST_END] += number == MONITOR_END && end == MONITOR_GREATEST_END + 1;
+}
+
+/* ---- fractions */
+
+/* Moves every end in use to the microsecond below, or to the one above. */
+static void round_ends(uint8_t *state, int up)
+{
+    for (uint32_t i = 0; i < get32(state + HELD_AT); i++) {
+        uint8_t *datum = state + DATA_AT + DATUM * i;
+        wide left = left_of(datum) + (up ? MILLION - 1 : 0), right = right_of(datum) + (up ? MILLION - 1 : 0);
+        put_ends(datum, left - left % MILLION, right - right % MILLION);
+    }
+}
+
+/* What the fractions made of a question's answer: they let the intervals cross, and they round. */
+static void count_answer(const struct call *c, const uint8_t *state, const uint8_t *answer)
+{
+    uint8_t down[MONITOR_STATE_BYTES], up[MONITOR_STATE_BYTES], by_down[MONITOR_ANSWER_BYTES], by_up[MONITOR_ANSWER_BYTES];
+    memcpy(down, state, sizeof down);
+    memcpy(up, state, sizeof up);
+    round_ends(down, 0);
+    round_ends(up, 1);
+    by_hand(c, down, sizeof down, by_down, sizeof by_down);
+    by_hand(c, up, sizeof up, by_up, sizeof by_up);
+    if (c->kind == FEWEST) {
+        decided[FEWER] += memcmp(answer, by_down, MONITOR_FEWEST_BYTES) != 0;
+        return;
+    }
+    decided[CROSSED] += get64(answer) != get64(by_down);
+    decided[RIGHT_UP] += get64(answer) == get64(by_down) && get64(answer + 16) != get64(by_down + 16);
+    decided[LEFT_DOWN] += get64(answer) == get64(by_up) && get64(answer + 8) != get64(by_up + 8);
+}
+
+/* Which fractions put a state out of form that is in form without them, or are in form with wholes that are equal. */
+static void count_form(const uint8_t *state, uint32_t number)
+{
+    uint8_t whole[MONITOR_STATE_BYTES];
+    uint32_t held = get32(state + HELD_AT);
+    memcpy(whole, state, sizeof whole);
+    for (uint32_t i = 0; i < MOST_DATA; i++)
+        put64(whole + DATA_AT + DATUM * i + PARTS_IN, 0);
+    if (hand_write(whole, sizeof whole, UINT64_MAX, NULL, 0) != MONITOR_POSITION)
+        return;
+    for (uint32_t i = 0; i < MOST_DATA; i++) {
+        const uint8_t *datum = state + DATA_AT + DATUM * i;
+        uint32_t left = get32(datum + PARTS_IN), right = get32(datum + PARTS_IN + 4);
+        int same = i < held && get64(datum) == get64(datum + 8);
+        decided[FORM_UNUSED] += i >= held && (left | right) > 0;
+        decided[FORM_GREAT] += i < held && (left == MILLION || right == MILLION);
+        decided[FORM_ORDER] += same && right < left && left < MILLION;
+        decided[FORM_END] += i < held && get64(datum + 8) == MONITOR_GREATEST_END && right > 0 && right < MILLION;
+        decided[IN_FORM] += number != MONITOR_STATE_FORM && same && left < right;
+    }
+}
+
+/* What an ageing made of the ends. */
+static void count_age(const struct call *c, const uint8_t *state, const uint8_t *after, uint32_t number)
+{
+    wide gain = (wide)(c->a - get64(state + READING_AT)) * (MILLION + get32(state + 4)), last = 0;
+    for (uint32_t i = 0; i < get32(state + HELD_AT); i++) {
+        const uint8_t *datum = state + DATA_AT + DATUM * i, *aged = after + DATA_AT + DATUM * i;
+        wide right = right_of(datum) + gain;
+        last = right > last ? right : last;
+        decided[CARRIED] += number == 0 && ((left_of(datum) % MILLION > 0 && left_of(aged) % MILLION == 0) ||
+                                            (right_of(datum) % MILLION > 0 && right_of(aged) % MILLION == 0));
+    }
+    decided[END_PASSED] += number == MONITOR_END && last / MILLION == MONITOR_GREATEST_END;
+    decided[END_REACHED] += number == 0 && last == GREATEST_MILLIONTHS;
+}
+
+/* Whether each term of a row contains one of another. */
+static int implies(const uint8_t *row, const uint8_t *other)
+{
+    for (uint32_t i = 0; i < get32(row); i++) {
+        int contains = 0;
+        for (uint32_t j = 0; j < get32(other); j++)
+            contains |= (get32(other + 4 + 4 * j) & ~get32(row + 4 + 4 * i)) == 0;
+        if (!contains)
+            return 0;
+    }
+    return 1;
+}
+
+/* Whether a datum is held as it stands. */
+static int is_held(const uint8_t *state, const uint8_t *datum)
+{
+    int held = 0;
+    for (uint32_t i = 0; i < get32(state + HELD_AT); i++)
+        held |= memcmp(state + DATA_AT + DATUM * i, datum, DATUM) == 0;
+    return held;
+}
+
+/* Whether one interval lies in another by the wholes, and yet not. */
+static int barely_outside(const uint8_t *inner, const uint8_t *outer)
+{
+    return get64(outer) <= get64(inner) && get64(inner + 8) <= get64(outer + 8) &&
+           (left_of(outer) > left_of(inner) || right_of(inner) > right_of(outer));
+}
+
+/* What a new datum, the last of a state, met in rule 14 and, where it has the predicate of a held one, in rule 15. */
+static void count_new(const uint8_t *before, const uint8_t *after, wide left, wide right)
+{
+    const uint8_t *new = after + DATA_AT + DATUM * (get32(after + HELD_AT) - 1);
+    if (get32(after + HELD_AT) == 0 || is_held(before, new))
+        return;
+    for (uint32_t i = 0; i < get32(before + HELD_AT); i++) {
+        const uint8_t *old = before + DATA_AT + DATUM * i;
+        wide from = left_of(old), to = right_of(old);
+        if (memcmp(old + 16, new + 16, PARTS_IN - 16) == 0) {
+            decided[NARROWED] += (from > left && from / MILLION == left / MILLION) || (to < right && to / MILLION == right / MILLION);
+            continue;
+        }
+        decided[STORED] += implies(old + 16, new + 16) && barely_outside(old, new);
+        decided[KEPT] += implies(new + 16, old + 16) && barely_outside(new, old) && is_held(after, old);
+    }
+}
+
+/* What the fractions made of a receipt whose message is in form, where no epoch has risen. */
+static void count_ends(const struct call *c, const uint8_t *before, const uint8_t *after, uint32_t number)
+{
+    uint8_t reading[MONITOR_READING_BYTES];
+    uint32_t drift = get32(before + 4);
+    if (hand_message_read(c->message, c->len, reading, sizeof reading) != 0 || memcmp(before + EPOCHS_AT, after + EPOCHS_AT, NAMES) != 0)
+        return;
+    wide left = (wide)get64(reading + 8) * MILLION + (wide)c->a * (MILLION - drift);
+    wide right = (wide)get64(reading + 16) * MILLION + (wide)c->b * (MILLION + drift);
+    decided[END_PASSED] += number == MONITOR_END && right / MILLION == MONITOR_GREATEST_END;
+    if (number != 0)
+        return;
+    decided[END_REACHED] += right == GREATEST_MILLIONTHS;
+    int learnt = memcmp(before + ENTRIES_AT, after + ENTRIES_AT, MOST_ENTRIES * ENTRY) != 0;
+    for (uint32_t i = 0; i < get32(before + HELD_AT); i++) {
+        const uint8_t *old = before + DATA_AT + DATUM * i;
+        wide from = left_of(old), to = right_of(old);
+        int after_new = from / MILLION == right / MILLION, before_new = to / MILLION == left / MILLION;
+        decided[APART] += learnt && ((after_new && from > right) || (before_new && left > to));
+        decided[TOUCHING] += !learnt && ((after_new && from < right) || (before_new && left < to));
+    }
+    count_new(before, after, left, right);
 }
 
 static void differ(const struct call *c, uint64_t round, const char *what, uint32_t engine, uint32_t hand)
@@ -285,6 +435,31 @@ static void count_receipt(const struct call *c, const uint8_t *state, uint32_t n
         count_slept(c, get32(state + 4), number);
 }
 
+/* Counts what the fractions decided in a call that both programs answered alike. */
+static void count_decided(const struct call *c, const uint8_t *state, const uint8_t *after, const uint8_t *out, uint32_t number)
+{
+    if (number != MONITOR_BUFFER && c->kind != SET_UP && c->kind != READ && c->kind != REWRITE)
+        count_form(state, number);
+    if ((c->kind == ASK || c->kind == FEWEST) && number == 0)
+        count_answer(c, state, out);
+    if (c->kind == AGE && (number == 0 || number == MONITOR_END))
+        count_age(c, state, after, number);
+    if ((c->kind == RECEIVE || c->kind == WITH_READINGS) && (number == 0 || number == MONITOR_END))
+        count_ends(c, state, after, number);
+}
+
+/* Ages to a reading on the way first: the same bytes. */
+static void age_in_pieces(struct source *r, uint64_t round, const struct call *c, const uint8_t *before, const uint8_t *after)
+{
+    uint8_t state[MONITOR_STATE_BYTES];
+    uint64_t last = get64(before + READING_AT), middle = last + below(r, c->a - last + 1);
+    memcpy(state, before, sizeof state);
+    uint32_t first = monitor_age(state, sizeof state, middle), second = monitor_age(state, sizeof state, c->a);
+    if (first != 0 || second != 0 || memcmp(state, after, sizeof state) != 0)
+        differ(c, round, "two pieces and one", first, second);
+    decided[PIECES] += last < middle && middle < c->a && get32(state + HELD_AT) > 0;
+}
+
 /* Runs a call in both programs, and compares. A refused call has changed nothing. */
 static uint32_t compare(uint64_t round, const struct call *c, struct lent *state, struct lent *out)
 {
@@ -307,6 +482,7 @@ static uint32_t compare(uint64_t round, const struct call *c, struct lent *state
         counts[out->hand[out->at] % 6]++;
     if (c->kind == RECEIVE || c->kind == WITH_READINGS)
         count_receipt(c, state->before + state->at, hand);
+    count_decided(c, state->before + state->at, state->hand + state->at, out->hand + out->at, hand);
     return hand;
 }
 
@@ -324,6 +500,8 @@ static uint32_t run(struct source *r, uint64_t round, const struct call *c, uint
     lend(r, &lent, state, MONITOR_STATE_BYTES, len);
     lend(r, &out, filler, sizeof filler, wanted > 0 && once_in(r, 10) ? below(r, wanted) : wanted);
     uint32_t number = compare(round, c, &lent, &out);
+    if (c->kind == AGE && number == 0)
+        age_in_pieces(r, round, c, state, lent.hand + lent.at);
     memcpy(state, lent.hand + lent.at, MONITOR_STATE_BYTES);
     return number;
 }
@@ -642,11 +820,31 @@ static void any_delays(struct source *r, uint64_t most, struct call *c)
     }
 }
 
+/* How long the greatest right end can gain by the drift, or 1 longer. */
+static uint64_t up_to_end(struct source *r, const uint8_t *state)
+{
+    wide last = 0;
+    for (uint32_t i = 0; i < get32(state + HELD_AT) % (MOST_DATA + 1); i++) {
+        wide right = right_of(state + DATA_AT + DATUM * i);
+        last = right > last ? right : last;
+    }
+    return last > GREATEST_MILLIONTHS ? 0 : (uint64_t)((GREATEST_MILLIONTHS - last) / (MILLION + get32(state + 4))) + below(r, 2);
+}
+
+/* A reading to age to, mostly a little later. */
+static uint64_t any_reading(struct source *r, const struct world *w, const uint8_t *state)
+{
+    uint64_t reading = get64(state + READING_AT);
+    if (once_in(r, 8))
+        return PICK(r, reading, reading + 1, reading + below(r, w->span), reading + below(r, 3000000), reading - 1,
+                    reading + below(r, UINT64_C(1) << 50), MONITOR_GREATEST_READING, MONITOR_GREATEST_READING + 1, bits(r));
+    return reading + (once_in(r, 16) ? up_to_end(r, state) : below(r, w->span));
+}
+
 static struct call any_call(struct source *r, const struct world *w, const uint8_t *state)
 {
     struct call c = {.kind = (enum kind)PICK(r, RECEIVE, RECEIVE, RECEIVE, WITH_READINGS, WITH_READINGS, WITH_READINGS, AGE, WRITE, ASK, ASK, FEWEST,
                                              READ, REWRITE)};
-    uint64_t reading = get64(state + READING_AT);
     switch (c.kind) {
     case RECEIVE:
     case WITH_READINGS:
@@ -659,10 +857,7 @@ static struct call any_call(struct source *r, const struct world *w, const uint8
         any_message(r, w, state, &c);
         break;
     case AGE:
-        c.a = PICK(r, reading, reading + 1, reading + below(r, w->span), reading + below(r, 3000000), reading - 1,
-                   reading + below(r, UINT64_C(1) << 50), MONITOR_GREATEST_READING, MONITOR_GREATEST_READING + 1, bits(r));
-        if (!once_in(r, 8))
-            c.a = reading + below(r, w->span);
+        c.a = any_reading(r, w, state);
         break;
     case WRITE:
         c.a = PICK(r, below(r, MOST_DATA + 1), below(r, 4), 0, UINT64_C(1) << 32, UINT64_MAX);
@@ -732,31 +927,70 @@ static void put_epochs(struct source *r, uint8_t *state)
         state[EPOCHS_AT + i] = (uint8_t)(times > 0 && once_in(r, times) ? PICK(r, 1, below(r, 16), MONITOR_GREATEST_EPOCH) : 0);
 }
 
+/* An end near the base. Its millionths are often those of another, or such that a short ageing carries to a whole. */
+static wide any_end(struct source *r, uint64_t base, uint64_t span, uint64_t drift, uint64_t often)
+{
+    uint64_t part = PICK(r, 0, often, often, 1, MILLION - 1, below(r, MILLION), drift * below(r, 4), (MILLION - drift * below(r, 4)) % MILLION);
+    wide end = (wide)(base + below(r, span)) * MILLION + part;
+    return end < GREATEST_MILLIONTHS ? end : GREATEST_MILLIONTHS;
+}
+
+/* Any held data; in a quarter of the states the wholes of all ends are equal or nearly so, now and then they are at two places far from each other,
+ * or the only right end is left just what some microseconds gain by the drift. */
+static void put_data(struct source *r, uint8_t *state, uint32_t held, uint32_t names)
+{
+    uint64_t often = below(r, MILLION), span = PICK(r, 10, 40, 1000, MONITOR_GREATEST_END), bases[3] = {0, 0, 0}, drift = get32(state + 4);
+    if (once_in(r, 4))
+        span = PICK(r, 1, 1, 2);
+    if (span < 1001)
+        bases[0] = bases[1] = bases[2] = PICK(r, 0, 1 << 29, MONITOR_GREATEST_END - span + 1);
+    if (span < 1001 && once_in(r, 8))
+        bases[2] = MONITOR_GREATEST_END - span + 1;
+    for (uint32_t i = 0; i < held; i++) {
+        uint8_t *datum = state + DATA_AT + DATUM * i;
+        wide one = any_end(r, bases[below(r, 3)], span, drift, often), other = any_end(r, bases[below(r, 3)], span, drift, often);
+        put_ends(datum, one < other ? one : other, one < other ? other : one);
+        put_terms(r, datum + 16, names, get32(state), DATUM_TERMS);
+    }
+    if (held == 1 && once_in(r, 4))
+        put_ends(state + DATA_AT, 0, GREATEST_MILLIONTHS - (1 + below(r, 9)) * (MILLION + drift));
+}
+
 /* Any state in form: runs reach few of them. */
 static void any_state(struct source *r, uint8_t *state)
 {
     uint32_t own = (uint32_t)below(r, NAMES), names = (uint32_t)PICK(r, 3, 4, 5, 8, 12, NAMES);
     uint32_t held = (uint32_t)PICK(r, 0, 1, 3, below(r, 17), 15, 16), known = (uint32_t)PICK(r, 0, 0, 1, 3, below(r, 33), 31, 32);
-    uint64_t span = PICK(r, 10, 40, 1000, MONITOR_GREATEST_END), base = span < 1001 ? PICK(r, 0, 1 << 29, MONITOR_GREATEST_END - 1000) : 0;
     memset(state, 0, MONITOR_STATE_BYTES);
     put32(state, own);
     put32(state + 4, (uint32_t)PICK(r, 0, 1, 100, below(r, 1001), 999, 1000));
     put64(state + READING_AT, PICK(r, 0, 7, below(r, MONITOR_GREATEST_READING), MONITOR_GREATEST_READING - 5, MONITOR_GREATEST_READING));
     put32(state + HELD_AT, held);
     put32(state + KNOWN_AT, known);
-    for (uint32_t i = 0; i < held; i++) {
-        uint8_t *datum = state + DATA_AT + DATUM * i;
-        uint64_t one = below(r, span), other = below(r, span);
-        put64(datum, base + (one < other ? one : other));
-        put64(datum + 8, base + (one < other ? other : one));
-        put_terms(r, datum + 16, names, own, DATUM_TERMS);
-    }
+    put_data(r, state, held, names);
     for (uint32_t i = 0; i < known; i++)
         put_terms(r, state + ENTRIES_AT + ENTRY * i, names, own, ENTRY_TERMS);
     if (once_in(r, 2))
         add_suspect(state, 1u << (own + 1 + below(r, NAMES - 1)) % NAMES);
     put_clocks(r, state);
     put_epochs(r, state);
+}
+
+/* One damage to an end, mostly of a datum in use: its millionths, or another whole beside them. */
+static void damage_end(struct source *r, uint8_t *state)
+{
+    uint8_t *datum = state + DATA_AT + DATUM * (once_in(r, 4) ? below(r, MOST_DATA) : below(r, 1 + get32(state + HELD_AT) % MOST_DATA));
+    uint8_t *part = datum + PARTS_IN + 4 * below(r, 2);
+    switch (below(r, 4)) {
+    case 0:
+        put64(datum + 8, MONITOR_GREATEST_END);
+        break;
+    case 1:
+        put64(datum, get64(datum + 8));
+        break;
+    default:
+        put32(part, (uint32_t)PICK(r, 0, 1, MILLION - 1, MILLION, MILLION, below(r, MILLION), 1u << 31, UINT32_MAX));
+    }
 }
 
 /* One damage, in the head, in a row in use, in the places of the clocks, in the epochs or anywhere; the state may stay in form. */
@@ -768,7 +1002,7 @@ static void damage_state(struct source *r, uint8_t *state)
                      below(r, MONITOR_STATE_BYTES));
     size_t last = MONITOR_STATE_BYTES - 4, word = at / 4 * 4 < last ? at / 4 * 4 : last, from = below(r, MONITOR_STATE_BYTES / 4) * 4;
     uint32_t x = get32(state + word);
-    switch (below(r, 7)) {
+    switch (below(r, 8)) {
     case 0:
         state[at] ^= (uint8_t)(1u << below(r, 8));
         break;
@@ -786,6 +1020,9 @@ static void damage_state(struct source *r, uint8_t *state)
         break;
     case 5:
         state[at] = (uint8_t)PICK(r, 1, 15, 16, 17, 255);
+        break;
+    case 6:
+        damage_end(r, state);
         break;
     default:
         put32(state + (word + 4 < last ? word + 4 : word), x);
@@ -835,14 +1072,14 @@ static void any_state_round(struct source *r, uint64_t round)
     }
 }
 
-static int report(void)
+/* The numbers that each call returned, and whether one was missing; adds how many calls there were. */
+static int report_numbers(unsigned long *all)
 {
     int missing = 0;
-    unsigned long all = 0;
     for (int k = 0; k < KINDS; k++) {
         printf("%-21s", kind_names[k]);
         for (unsigned n = 0; n < 64; n++) {
-            all += seen[k][n];
+            *all += seen[k][n];
             if (seen[k][n] > 0)
                 printf(" %u: %lu,", n, seen[k][n]);
         }
@@ -853,6 +1090,13 @@ static int report(void)
                 missing = 1;
             }
     }
+    return missing;
+}
+
+static int report(void)
+{
+    unsigned long all = 0;
+    int missing = report_numbers(&all);
     printf("answers: contradicted %lu, open %lu, between %lu\n", answers[0], answers[1], answers[2]);
     printf("fewest: 0 %lu, 1 %lu, 2 %lu, 3 %lu, 4 %lu, over %lu\n", counts[0], counts[1], counts[2], counts[3], counts[4], counts[5]);
     printf("readings: first %lu, agreed %lu, violated %lu\n", met[FIRST], met[AGREED], met[VIOLATED]);
@@ -864,6 +1108,12 @@ static int report(void)
         printf(" %u %lu,", drifts[i], slept_at[i]);
     printf(" delays alike %lu, the greatest %lu, up to the greatest end %lu, 30 at one past it %lu\n", slept[ALIKE], slept[LONGEST],
            slept[AT_END], slept[PAST_END]);
+    printf("by fractions alone:");
+    for (int i = 0; i < DECIDED; i++) {
+        printf("%s %s %lu", i > 0 ? "," : "", decided_names[i], decided[i]);
+        missing |= decided[i] == 0;
+    }
+    printf("\n");
     for (int i = 0; i < 6; i++)
         missing |= (i < 3 && answers[i] == 0) || counts[i] == 0 || (i < METS && met[i] == 0);
     for (int i = 0; i < HEARDS; i++)

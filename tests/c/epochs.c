@@ -74,8 +74,8 @@ static int row_is(const uint8_t *row, struct predicate p, uint32_t places)
 
 static int datum_is(uint32_t i, uint64_t left, uint64_t right, struct predicate p)
 {
-    const uint8_t *datum = state + OLDEST_LEFT + 52 * i;
-    return monitor_number(datum) == left && monitor_number(datum + 8) == right && row_is(datum + 16, p, MONITOR_MOST_TERMS);
+    const uint8_t *datum = state + DATUM_OF(i);
+    return ends_are(datum, left, 0, right, 0) && row_is(datum + TERMS_IN, p, MONITOR_MOST_TERMS);
 }
 
 static int entry_is(uint32_t i, struct predicate p)

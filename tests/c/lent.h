@@ -11,15 +11,19 @@
 #define GUARD 16
 #define MOST (MONITOR_STATE_BYTES + 40)
 
-/* Places in a state, as docs/layouts.md has them: the counts, the ends of the oldest datum, the first entry's mask, what is saved of a name's clock,
- * and the epoch of an identifier. */
+/* Places in a state, as docs/layouts.md has them: the counts, a datum and in it the right end, the terms and both ends' millionths, the first
+ * entry's mask, what is saved of a name's clock, and the epoch of an identifier. */
 #define HELD_COUNT 16
 #define ENTRY_COUNT 20
-#define OLDEST_LEFT 24
-#define OLDEST_RIGHT 32
-#define FIRST_MASK 860
-#define CLOCK_OF(name) (3032 + 76 * (name))
-#define EPOCH_OF(name) (5236 + (name))
+#define DATUM_BYTES 60
+#define DATUM_OF(i) (24 + DATUM_BYTES * (i))
+#define RIGHT_IN 8
+#define TERMS_IN 16
+#define LEFT_PART_IN 52
+#define RIGHT_PART_IN 56
+#define FIRST_MASK 988
+#define CLOCK_OF(name) (3160 + 76 * (name))
+#define EPOCH_OF(name) (5364 + (name))
 
 static int passed, failed;
 
@@ -40,6 +44,13 @@ static inline int report(void)
         failed++;
     printf("%d passed, %d failed\n", passed, failed);
     return failed != 0;
+}
+
+/* Whether the bytes of a datum have these ends, each with its millionths. */
+static inline int ends_are(const uint8_t *datum, uint64_t left, uint32_t left_part, uint64_t right, uint32_t right_part)
+{
+    return monitor_number(datum) == left && monitor_word(datum + LEFT_PART_IN) == left_part && monitor_number(datum + RIGHT_IN) == right &&
+           monitor_word(datum + RIGHT_PART_IN) == right_part;
 }
 
 /* A lent buffer of n bytes between guards; all bytes start as a pattern. */

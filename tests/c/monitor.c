@@ -103,10 +103,10 @@ static void listing(void)
 
     size_t len = monitor_put_words(message, first, WORDS);
     check(monitor_receive(state, s.n, 0, 50, message, len) == MONITOR_TAKEN, "get 0 50 of the first message");
-    check(monitor_number(state + OLDEST_LEFT) == 1000000 && monitor_number(state + OLDEST_RIGHT) == 1000251, "its interval has grown by the delays");
-    check(answers(state, 0, MONITOR_BETWEEN, 1000000, 1000251), "ask 0 is that interval");
+    check(ends_are(state + DATUM_OF(0), 1000000, 0, 1000250, 5000), "its interval has grown by the delays, to 1000250.005");
+    check(answers(state, 0, MONITOR_BETWEEN, 1000000, 1000251), "ask 0 is that interval, rounded");
     check(monitor_age(state, s.n, 2000000) == MONITOR_TAKEN, "age 2000000");
-    check(monitor_number(state + OLDEST_LEFT) == 2999800 && monitor_number(state + OLDEST_RIGHT) == 3000451, "it has widened by the drift");
+    check(ends_are(state + DATUM_OF(0), 2999800, 0, 3000450, 5000), "it has widened by the drift");
     check(answers(state, 0, MONITOR_BETWEEN, 2999800, 3000451), "and so has the answer");
     refusals_leave(state, message, len);
 
@@ -139,7 +139,7 @@ static void delays(void)
 {
     const uint64_t most = MONITOR_GREATEST_DELAY;
     check(arrives(0, 3, most, MONITOR_TAKEN, 3, 600000000), "without drift a delay is true time");
-    check(arrives(100, 1, 1, MONITOR_TAKEN, 0, 2), "with it the least is rounded down and the greatest up");
+    check(arrives(100, 1, 1, MONITOR_TAKEN, 0, 2), "with it 1 is 0.9999 to 1.0001");
     check(arrives(1000, most, most, MONITOR_TAKEN, 599400000, 600600000), "the greatest drift and delay");
     check(arrives(100, 0, most + 1, MONITOR_DELAY, 0, 0) && arrives(100, UINT64_MAX, UINT64_MAX, MONITOR_DELAY, 0, 0), "a longer delay is 21");
 }
