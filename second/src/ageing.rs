@@ -1,21 +1,15 @@
-//! Ageing (document 01, "Ageing"), by whose rule delays count too (document 02, W-202).
+//! Ageing (document 01, "Ageing"; document 02, W-205), by whose rule delays count too (document 02,
+//! W-202).
 
+use crate::instants::{Instant, MILLION};
 use crate::refusal;
 use crate::state::{self, Head, GREATEST_READING, STATE_BYTES};
 
 /// By how much true time advances at least and at most while d local microseconds pass, with a
-/// drift of r parts per million.
-pub fn advance(d: u64, r: u32) -> (u64, u64) {
-    const MILLION: u64 = 1_000_000;
-    let r = u64::from(r);
-    // Numbers of 128 bits are slow to divide, and seldom needed.
-    if d < 1 << 43 {
-        return (d * (MILLION - r) / MILLION, (d * (MILLION + r)).div_ceil(MILLION));
-    }
-    let product = |factor: u64| u128::from(d) * u128::from(factor);
-    let least = product(MILLION - r) / u128::from(MILLION);
-    let greatest = product(MILLION + r).div_ceil(MILLION.into());
-    (least as u64, greatest as u64)
+/// drift of r parts per million: exactly, in millionths.
+pub fn advance(d: u64, r: u32) -> (Instant, Instant) {
+    let (d, r) = (Instant::from(d), Instant::from(r));
+    (d * (MILLION - r), d * (MILLION + r))
 }
 
 /// `monitor_age`: every end advanced and the new reading, or 24, 25, 3, 20, 30.
@@ -27,7 +21,7 @@ pub fn call(lent: &mut [u8], reading: u64) -> u32 {
 }
 
 /// The advances since the last reading, or 24, 25, 3, 20.
-fn advances(lent: &[u8], reading: u64) -> Result<(u64, u64), u32> {
+fn advances(lent: &[u8], reading: u64) -> Result<(Instant, Instant), u32> {
     let head = Head::of(state::checked(lent)?);
     if reading > GREATEST_READING {
         return Err(refusal::READING);
@@ -37,7 +31,7 @@ fn advances(lent: &[u8], reading: u64) -> Result<(u64, u64), u32> {
 }
 
 /// Advances the ends of a state in form, unless one of them would pass the greatest.
-fn age(lent: &mut [u8], reading: u64, least: u64, greatest: u64) -> u32 {
+fn age(lent: &mut [u8], reading: u64, least: Instant, greatest: Instant) -> u32 {
     let bytes = lent.first_chunk_mut::<STATE_BYTES>().expect("a checked state");
     let rows = state::held_rows_mut(bytes);
     if rows.iter().any(|row| state::ends(row).advanced(least, greatest).is_none()) {

@@ -1,11 +1,11 @@
-//! Asking and fewest failures (document 01, "Asking"), made fast: `every_set` has them as the paper
-//! words them.
+//! Asking and fewest failures (document 01, "Asking"; document 02, W-205), made fast: `every_set`
+//! has them as the papers word them.
 //!
 //! The search goes from a claim that has to be explained to the names that explain it. Letters as
 //! in `predicates`: s is a set of failed names.
 
 use crate::claims::{places, Claims};
-use crate::instants::{Instants, GREATEST_END};
+use crate::instants::{Instant, Instants, Interval, GREATEST_INSTANT};
 use crate::message;
 use crate::predicates::{Term, ALL_NAMES};
 use crate::refusal;
@@ -58,7 +58,7 @@ impl Node {
 
     /// The first instant that all data contain which s leaves unexplained, where all entries are
     /// explained; none where two of them are apart.
-    fn first_instant(&self, claims: &Claims) -> Option<u64> {
+    fn first_instant(&self, claims: &Claims) -> Option<Instant> {
         let several = places(self.unexplained).filter(|&i| claims.holds(i, self.s));
         let active = several.fold(self.unexplained, |active, i| active & !(1 << i));
         let left = claims.greatest_left(active);
@@ -171,7 +171,7 @@ impl Aim for Explain {
 /// each end is better searched for alone.
 struct First {
     needed: u64,
-    instant: Option<u64>,
+    instant: Option<Instant>,
     apart: bool,
 }
 
@@ -223,8 +223,8 @@ impl Aim for Least {
 
 // ---- the answers
 
-/// The answer over a state in form: all that counts for some set within the limit, and the gaps.
-/// None is 'contradicted', all is 'open'.
+/// The exact answer over a state in form: all that counts for some set within the limit, and the
+/// gaps. None is 'contradicted', all is 'open'.
 pub fn ask(bytes: &[u8; STATE_BYTES], limit: u32) -> Instants {
     if limit == 0 {
         return without_failures(bytes);
@@ -239,7 +239,7 @@ pub fn ask(bytes: &[u8; STATE_BYTES], limit: u32) -> Instants {
     };
     claims.mirror();
     let right = first_instant(&claims, first).expect("an instant counts");
-    Instants::Between(left.into(), (GREATEST_END - right).into())
+    Instants::Between(left, GREATEST_INSTANT - right)
 }
 
 /// The answer at limit 0: what all held intervals have in common, unless a failure is known.
@@ -252,14 +252,14 @@ fn without_failures(bytes: &[u8; STATE_BYTES]) -> Instants {
     intervals.fold(Instants::All, Instants::meet)
 }
 
-fn first_instant(claims: &Claims, node: Node) -> Option<u64> {
+fn first_instant(claims: &Claims, node: Node) -> Option<Instant> {
     let mut first = First { needed: claims.entries, instant: None, apart: false };
     search(claims, &mut first, node);
     if !first.apart {
         return first.instant;
     }
-    let counts = |&x: &u64| search(claims, &mut Explain(claims.without(x)), node);
-    let earlier = |&x: &u64| first.instant.is_none_or(|instant| x < instant);
+    let counts = |&x: &Instant| search(claims, &mut Explain(claims.without(x)), node);
+    let earlier = |&x: &Instant| first.instant.is_none_or(|instant| x < instant);
     claims.lefts().into_iter().filter(earlier).find(counts).or(first.instant)
 }
 
@@ -306,13 +306,15 @@ pub fn fewest_call(lent: &[u8], out: &mut [u8]) -> u32 {
     message::answer(state::checked(lent).map(fewest).map(fewest_bytes), out)
 }
 
-/// 0 contradicted, 1 open, 2 between; left and right, both 0 unless between.
+/// 0 contradicted, 1 open, 2 between; left and right in whole microseconds, both 0 unless between.
 pub fn answer_bytes(answer: Instants) -> [u8; ANSWER_BYTES] {
-    let end = |x: i128| u64::try_from(x).expect("an end of 64 bits");
     message::numbers(match answer {
         Instants::Empty => [0, 0, 0],
         Instants::All => [1, 0, 0],
-        Instants::Between(left, right) => [2, end(left), end(right)],
+        Instants::Between(left, right) => {
+            let Interval { left, right } = Interval { left, right }.rounded();
+            [2, left, right]
+        }
     })
 }
 

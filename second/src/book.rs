@@ -1,6 +1,6 @@
-//! The book of a run (demand 3; document 01, "Asking"; document 02, W-201, W-202 and W-204): what
-//! the calls were handed and which were taken, and from that alone the instants that are possible.
-//! No state is looked at.
+//! The book of a run (demand 3; document 01, "Asking"; document 02, W-201, W-202, W-204 and W-205):
+//! what the calls were handed and which were taken, and from that alone the instants that are
+//! possible. No state is looked at.
 //!
 //! Names are pairs here, each with the epoch that its message had. A set has names that are current
 //! at the run's end, and every older name has failed without being counted.
@@ -11,7 +11,7 @@ use crate::calls::Call;
 use crate::claims::places;
 use crate::clocks::{Readings, Saved, Triple};
 use crate::epochs::{Epochs, Name, FIRST_EPOCHS};
-use crate::instants::{Instants, Interval};
+use crate::instants::{Instant, Instants, Interval};
 use crate::message::{self, Message};
 use crate::predicates::{sets, Term, NAMES};
 use crate::receiving::grown;
@@ -22,7 +22,7 @@ use std::ops::Deref;
 #[derive(Clone, Debug, PartialEq, Eq)]
 pub enum Line {
     /// The least and the greatest advance since the last reading.
-    Aged { least: u64, greatest: u64 },
+    Aged { least: Instant, greatest: Instant },
     /// The grown interval, and the terms of the predicate as it was formed, a true one too.
     Received { interval: Interval, terms: Vec<Vec<Name>> },
     /// A sender that violated test (20): from here on its name has to have failed.
@@ -171,8 +171,8 @@ pub struct Ended {
 
 impl Ended {
     /// Where the paths can end that agree with the failed names and the book. They start with any
-    /// whole number, and as each advance is by any whole amount within its bounds, no gap comes up
-    /// on the way.
+    /// whole count of millionths, and as each advance is by any such count within its bounds, no gap
+    /// comes up on the way.
     pub fn reached(&self, failed: &[Name]) -> Instants {
         let mut instants = Instants::All;
         for line in &self.lines {
@@ -240,7 +240,8 @@ impl BySet {
         self.0.iter().map(|(reached, set)| (*reached, &set[..]))
     }
 
-    /// From the least to the greatest instant that is possible within the limit; all or none.
+    /// From the least to the greatest instant that is possible within the limit, exactly; all or
+    /// none.
     pub fn possible(&self, limit: u32) -> Instants {
         let within = self.iter().filter(|(_, set)| set.len() <= limit as usize);
         within.fold(Instants::Empty, |all, (reached, _)| all.join(reached))

@@ -67,8 +67,12 @@ pub enum Branch {
     NameAdded,
     /// Violation: entries went that the name implies.
     NameDroveOut,
+    /// An end would pass the greatest, and does so by its fraction alone.
+    PassesByFraction,
     /// Step 1: a held datum's interval was disjoint from the new one.
     Disjoint,
+    /// Step 1: one was by the fraction alone.
+    DisjointByFraction,
     /// Step 1: an entry was not added, since one implies it.
     EntryImplied,
     /// Step 1: an entry was added.
@@ -83,10 +87,18 @@ pub enum Branch {
     NewExplained,
     /// Step 3: rule 15.
     Met,
+    /// Rule 15: the fraction alone told the left ends apart.
+    LeftByFraction,
+    /// Rule 15: the fraction alone told the right ends apart.
+    RightByFraction,
     /// Step 4: by rule 14 the new datum was not stored.
     NotStored,
+    /// Rule 14: the fraction alone kept a held datum from bettering the new one.
+    NewSparedByFraction,
     /// Step 4: by rule 14 held data went.
     HeldBettered,
+    /// Rule 14: the fraction alone kept the new datum from bettering a held one.
+    HeldSparedByFraction,
     /// Step 4: the new datum was stored.
     Stored,
     /// At the end there were too many data.
@@ -96,7 +108,7 @@ pub enum Branch {
 }
 
 impl Branch {
-    pub const ALL: [Branch; 44] = [
+    pub const ALL: [Branch; 50] = [
         Branch::Struck,
         Branch::OwnEpoch,
         Branch::RisenSender,
@@ -128,7 +140,9 @@ impl Branch {
         Branch::NameImplied,
         Branch::NameAdded,
         Branch::NameDroveOut,
+        Branch::PassesByFraction,
         Branch::Disjoint,
+        Branch::DisjointByFraction,
         Branch::EntryImplied,
         Branch::EntryAdded,
         Branch::EntriesGone,
@@ -136,8 +150,12 @@ impl Branch {
         Branch::HeldExplained,
         Branch::NewExplained,
         Branch::Met,
+        Branch::LeftByFraction,
+        Branch::RightByFraction,
         Branch::NotStored,
+        Branch::NewSparedByFraction,
         Branch::HeldBettered,
+        Branch::HeldSparedByFraction,
         Branch::Stored,
         Branch::TooManyData,
         Branch::TooManyEntries,

@@ -4,7 +4,7 @@
 //!
 //! Several claims are a mask, claim i being the bit of value 2^i.
 
-use crate::instants::{Interval, GREATEST_END};
+use crate::instants::{Instant, Interval, GREATEST_INSTANT};
 use crate::predicates::{Term, ALL_NAMES, NAMES};
 use crate::state::{self, Head, ENTRY_TERMS, MOST_DATA, MOST_ENTRIES, STATE_BYTES};
 
@@ -138,12 +138,12 @@ impl Claims {
     }
 
     /// The data whose left end is this instant or a later one.
-    pub fn from_left(&self, x: u64) -> u64 {
+    pub fn from_left(&self, x: Instant) -> u64 {
         places(self.data).fold(0, |late, i| late | u64::from(x <= self.intervals[i].left) << i)
     }
 
     /// The entries, and the data that do not contain this instant.
-    pub fn without(&self, x: u64) -> u64 {
+    pub fn without(&self, x: Instant) -> u64 {
         places(self.data).fold(self.entries, |without, i| {
             let Interval { left, right } = self.intervals[i];
             without | u64::from(x < left || right < x) << i
@@ -151,13 +151,13 @@ impl Claims {
     }
 
     /// The greatest left end of some data.
-    pub fn greatest_left(&self, data: u64) -> u64 {
+    pub fn greatest_left(&self, data: u64) -> Instant {
         places(data).fold(0, |left, i| left.max(self.intervals[i].left))
     }
 
     /// The left ends, rising, equal ones once.
-    pub fn lefts(&self) -> Vec<u64> {
-        let mut lefts: Vec<u64> = places(self.data).map(|i| self.intervals[i].left).collect();
+    pub fn lefts(&self) -> Vec<Instant> {
+        let mut lefts: Vec<Instant> = places(self.data).map(|i| self.intervals[i].left).collect();
         lefts.sort_unstable();
         lefts.dedup();
         lefts
@@ -167,7 +167,8 @@ impl Claims {
     pub fn mirror(&mut self) {
         for i in places(self.data) {
             let Interval { left, right } = self.intervals[i];
-            self.intervals[i] = Interval { left: GREATEST_END - right, right: GREATEST_END - left };
+            self.intervals[i] =
+                Interval { left: GREATEST_INSTANT - right, right: GREATEST_INSTANT - left };
         }
     }
 }

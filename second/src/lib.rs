@@ -5,7 +5,7 @@
 //! others to compare with: `engine` calls the archive, `calls` and `lent` lend the same bytes to
 //! both programs, `random` and `samples` make the seeded inputs, `timing` takes times. `book` has
 //! what demand 3 says of a whole run, without any state; `every_set` has asking as the paper words
-//! it, which `asking` is a fast form of.
+//! it, which `asking` is a fast form of, and `ranks` has ends by their order alone.
 
 pub mod ageing;
 pub mod asking;
@@ -24,6 +24,7 @@ pub mod listing;
 pub mod message;
 pub mod predicates;
 pub mod random;
+pub mod ranks;
 pub mod receiving;
 pub mod refusal;
 pub mod samples;

@@ -53,7 +53,7 @@ pub struct Message {
     pub sender: u32,
     /// Of the sender and of each identifier in the terms; others play no part, and are 0 once read.
     pub epochs: Epochs,
-    pub interval: Interval,
+    pub interval: Interval<u64>,
     /// In normal form.
     pub terms: Predicate,
 }
@@ -213,7 +213,7 @@ impl Form {
     }
 
     /// The interval that those words give, if its ends can be stored.
-    fn interval(self, words: &[u32]) -> Option<Interval> {
+    fn interval(self, words: &[u32]) -> Option<Interval<u64>> {
         match self {
             Form::Ends => Interval::of_ends(joined(words[0], words[1]), joined(words[2], words[3])),
             Form::Centre => {
@@ -288,7 +288,7 @@ pub fn write(message: &Message) -> Words {
 pub(crate) fn write_parts(
     sender: u32,
     epochs: &Epochs,
-    interval: Interval,
+    interval: Interval<u64>,
     terms: &[Term],
 ) -> Words {
     let mut words = Words::default();

@@ -1,11 +1,11 @@
-//! Receiving (document 01, "Receiving"; document 02, W-201, W-202 and W-204): a function for each
-//! of its steps. Epochs are heard in `hearing`.
+//! Receiving (document 01, "Receiving"; document 02, W-201, W-202, W-204 and W-205): a function for
+//! each of its steps. Epochs are heard in `hearing`.
 
 use crate::ageing::advance;
 use crate::branches::{Branch, Branches};
 use crate::clocks::{Readings, Saved, Triple};
 use crate::hearing::{formed, hear};
-use crate::instants::Interval;
+use crate::instants::{by_fraction, Interval, GREATEST_INSTANT};
 use crate::message::{self, Message};
 use crate::predicates::{holds, Predicate};
 use crate::refusal;
@@ -53,8 +53,10 @@ fn received(
 ) -> Result<State, u32> {
     let (mut state, message) = checked(lent, least, greatest, readings, message)?;
     let old = hear(&mut state, &message, seen);
-    let interval = grown(message.interval, least, greatest, state.drift);
-    let interval = interval.ok_or(refusal::PASSES_END)?;
+    let Some(interval) = grown(message.interval, least, greatest, state.drift) else {
+        enter_passed(message.interval, greatest, state.drift, seen);
+        return Err(refusal::PASSES_END);
+    };
     let predicate = formed(state.own, &message, old, seen);
     if predicate.len() > DATUM_TERMS {
         return Err(refusal::NEW_TERMS);
@@ -102,10 +104,16 @@ fn checked(
 /// The interval grown by delays, which count by the ageing rule on the receiver's clock: the least
 /// as a left end's advance, the greatest as a right end's (document 02, W-202). None if an end would
 /// pass the greatest one.
-pub fn grown(sent: Interval, least: u64, greatest: u64, drift: u32) -> Option<Interval> {
+pub fn grown(sent: Interval<u64>, least: u64, greatest: u64, drift: u32) -> Option<Interval> {
     let (left_gains, _) = advance(least, drift);
     let (_, right_gains) = advance(greatest, drift);
-    sent.advanced(left_gains, right_gains)
+    sent.exact().advanced(left_gains, right_gains)
+}
+
+/// Enters whether a right end that passes the greatest one does so by its fraction alone.
+fn enter_passed(sent: Interval<u64>, greatest: u64, drift: u32, seen: &mut Branches) {
+    let right = sent.exact().right + advance(greatest, drift).1;
+    seen.enter(Branch::PassesByFraction, by_fraction(right, GREATEST_INSTANT));
 }
 
 /// Test (20) against what is saved of the sender; then the triple is saved. Whether it violates.
@@ -175,6 +183,9 @@ fn counted(state: &State, seen: &mut Branches) -> Result<(), u32> {
 fn learn(state: &mut State, new: &Datum, seen: &mut Branches) {
     for datum in state.held.iter().filter(|datum| datum.interval.disjoint(new.interval)) {
         seen.enter(Branch::Disjoint, true);
+        let (one, other) = (datum.interval, new.interval);
+        let fraction = by_fraction(one.right, other.left) || by_fraction(other.right, one.left);
+        seen.enter(Branch::DisjointByFraction, fraction);
         let entry = Predicate::sum(&datum.predicate, &new.predicate);
         add_entry(&mut state.entries, entry, seen);
     }
@@ -211,10 +222,13 @@ fn explained(p: &Predicate, entries: &[Predicate]) -> bool {
 fn meet(state: &mut State, new: Datum, seen: &mut Branches) -> Datum {
     let same = state.held.iter().position(|datum| datum.predicate == new.predicate);
     seen.enter(Branch::Met, same.is_some());
-    match same.map(|place| state.held.remove(place)) {
-        Some(old) => Datum { interval: old.interval.meet(new.interval), ..new },
-        None => new,
-    }
+    let Some(place) = same else {
+        return new;
+    };
+    let (old, interval) = (state.held.remove(place).interval, new.interval);
+    seen.enter(Branch::LeftByFraction, by_fraction(old.left, interval.left));
+    seen.enter(Branch::RightByFraction, by_fraction(old.right, interval.right));
+    Datum { interval: old.meet(interval), ..new }
 }
 
 /// Step 4, rule 14: stored last, unless a held datum betters it; those that it betters go.
@@ -223,9 +237,13 @@ fn store(state: &mut State, new: Datum, seen: &mut Branches) {
         seen.enter(Branch::NotStored, true);
         return;
     }
+    let spared = state.held.iter().any(|datum| fails_by_fraction(datum, &new));
+    seen.enter(Branch::NewSparedByFraction, spared);
     let count = state.held.len();
     state.held.retain(|datum| !betters(&new, datum));
     seen.enter(Branch::HeldBettered, state.held.len() < count);
+    let spared = state.held.iter().any(|datum| fails_by_fraction(&new, datum));
+    seen.enter(Branch::HeldSparedByFraction, spared);
     state.held.push(new);
     seen.enter(Branch::Stored, true);
 }
@@ -233,4 +251,12 @@ fn store(state: &mut State, new: Datum, seen: &mut Branches) {
 /// Whether a implies b's predicate and lies within b's interval.
 fn betters(a: &Datum, b: &Datum) -> bool {
     a.interval.within(b.interval) && a.predicate.implies(&b.predicate)
+}
+
+/// Whether a would better b if the fractions were passed over, and does not.
+fn fails_by_fraction(a: &Datum, b: &Datum) -> bool {
+    let (inner, outer) = (a.interval, b.interval);
+    let left = outer.left <= inner.left || by_fraction(outer.left, inner.left);
+    let right = inner.right <= outer.right || by_fraction(inner.right, outer.right);
+    left && right && !inner.within(outer) && a.predicate.implies(&b.predicate)
 }

@@ -3,13 +3,14 @@
 
 use crate::claims::places;
 use crate::epochs::{Epochs, Name, FIRST_EPOCHS, GREATEST_EPOCH};
-use crate::instants::GREATEST_END;
+use crate::instants::{joined, Instant, Interval, GREATEST_END, GREATEST_INSTANT};
 use crate::message::{
     bytes_of, check_word, epoch_word, epoch_words, kind, named, split, word, MOST_TERMS,
     MOST_WORDS, PAYLOAD,
 };
 use crate::predicates::{normal, Term, GREATEST_NAME, NAMES};
 use crate::random::Random;
+use crate::state::GREATEST_MILLIONTHS;
 use std::io::{self, Write as _};
 
 pub mod climbing;
@@ -46,6 +47,14 @@ impl Tally {
             assert!(*count >= enough, "{what} came {count} times");
         }
     }
+}
+
+/// Whether the whole microseconds are the last one up to the left end and the first from the right
+/// one on: an exact interval as answers and messages have it, found without a division.
+pub fn rounds_outward(whole: Interval<u64>, exact: Interval) -> bool {
+    let [low, high] = [whole.left, whole.right].map(|end| 1_000_000 * Instant::from(end));
+    let down = low <= exact.left && exact.left < low + 1_000_000;
+    down && high - 1_000_000 < exact.right && exact.right <= high
 }
 
 /// A message lent from within a longer buffer, at any alignment. Where it was cut short, its last
@@ -156,6 +165,17 @@ fn end(random: &mut Random) -> u64 {
         1 => random.below(2 * word_end),
         _ => random.below(GREATEST_END + 1),
     }
+}
+
+/// Millionths of a microsecond: none, few that come again, an edge, or any.
+pub fn millionths(random: &mut Random) -> u32 {
+    let any = random.below(u64::from(GREATEST_MILLIONTHS) + 1) as u32;
+    random.pick(&[0, 0, 1, 200_000, 500_000, GREATEST_MILLIONTHS, any, any])
+}
+
+/// An end in that microsecond, if it can be stored with a fraction.
+pub fn end_within(random: &mut Random, whole: u64) -> Instant {
+    joined(whole, millionths(random)).min(GREATEST_INSTANT)
 }
 
 /// The greatest half width that the centre and a payload leave room for.

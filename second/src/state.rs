@@ -1,8 +1,8 @@
-//! The state and its bytes (document 01, "State bytes"; document 02, W-201 and W-204).
+//! The state and its bytes (document 01, "State bytes"; document 02, W-201, W-204 and W-205).
 
 use crate::clocks::{Saved, Triple, GREATEST_CLOCK};
 use crate::epochs::{Epochs, FIRST_EPOCHS, GREATEST_EPOCH};
-use crate::instants::{Interval, GREATEST_END};
+use crate::instants::{joined, split, Instant, Interval, GREATEST_INSTANT, MILLION};
 use crate::predicates::{is_normal, Predicate, Term, ALL_NAMES, GREATEST_NAME, NAMES};
 use crate::refusal;
 
@@ -30,10 +30,15 @@ pub const ENTRIES_AT: usize = datum_at(MOST_DATA);
 pub const CLOCKS_AT: usize = entry_at(MOST_ENTRIES);
 pub const EPOCHS_AT: usize = clock_at(NAMES);
 
-// In a datum: its left end stands first, and from the term count on it is as an entry.
+// In a datum: its left end's whole microseconds stand first, from the term count on it is as an
+// entry, and the millionths of both ends stand last.
 pub const RIGHT_AT: usize = 8;
 pub const TERM_COUNT_AT: usize = 16;
-pub const DATUM_BYTES: usize = TERM_COUNT_AT + MASKS_AT + MASK_BYTES * DATUM_TERMS;
+pub const LEFT_MILLIONTHS_AT: usize = TERM_COUNT_AT + MASKS_AT + MASK_BYTES * DATUM_TERMS;
+pub const RIGHT_MILLIONTHS_AT: usize = LEFT_MILLIONTHS_AT + 4;
+pub const DATUM_BYTES: usize = RIGHT_MILLIONTHS_AT + 4;
+/// A fraction has 0 to so many millionths.
+pub const GREATEST_MILLIONTHS: u32 = MILLION as u32 - 1;
 
 // In an entry: its term count stands first.
 pub const MASKS_AT: usize = 4;
@@ -67,9 +72,9 @@ pub const fn epoch_at(identifier: u32) -> usize {
 }
 
 // The sums as documents 01 and 02 have them.
-const _: () = assert!(DATUM_BYTES == 52 && ENTRY_BYTES == 68 && CLOCK_BYTES == 76);
-const _: () = assert!(ENTRIES_AT == 856 && CLOCKS_AT == 3_032);
-const _: () = assert!(EPOCHS_AT == 5_236 && STATE_BYTES == 5_265);
+const _: () = assert!(DATUM_BYTES == 60 && ENTRY_BYTES == 68 && CLOCK_BYTES == 76);
+const _: () = assert!(ENTRIES_AT == 984 && CLOCKS_AT == 3_160);
+const _: () = assert!(EPOCHS_AT == 5_364 && STATE_BYTES == 5_393);
 
 // ---- states
 
@@ -81,8 +86,13 @@ pub struct Datum {
 }
 
 impl Datum {
-    /// The datum of two ends in order and of a predicate's terms.
+    /// The datum of two ends in order, in whole microseconds, and of a predicate's terms.
     pub fn of(left: u64, right: u64, p: &[Term]) -> Datum {
+        Datum::exact(joined(left, 0), joined(right, 0), p)
+    }
+
+    /// The same with ends in millionths.
+    pub fn exact(left: Instant, right: Instant, p: &[Term]) -> Datum {
         Datum { interval: Interval { left, right }, predicate: Predicate::of(p) }
     }
 }
@@ -155,7 +165,7 @@ impl State {
         epochs.copy_from_slice(&self.epochs);
         for (row, datum) in data[DATA_AT..].chunks_exact_mut(DATUM_BYTES).zip(&self.held) {
             put_ends(row, datum.interval);
-            put_predicate(&mut row[TERM_COUNT_AT..], &datum.predicate);
+            put_predicate(&mut row[TERM_COUNT_AT..LEFT_MILLIONTHS_AT], &datum.predicate);
         }
         for (row, entry) in entries.chunks_exact_mut(ENTRY_BYTES).zip(&self.entries) {
             put_predicate(row, entry);
@@ -228,7 +238,10 @@ pub fn in_form(bytes: &[u8; STATE_BYTES]) -> bool {
 
 fn datum_in_form(row: &[u8; DATUM_BYTES], own: u32) -> bool {
     let Interval { left, right } = ends(row);
-    left <= right && right <= GREATEST_END && terms_in_form(terms_field(row), own)
+    left <= right
+        && right <= GREATEST_INSTANT
+        && millionths(row).iter().all(|&millionths| millionths <= GREATEST_MILLIONTHS)
+        && terms_in_form(terms_field(row), own)
 }
 
 /// Whether a count and the masks behind it are: 1 term to as many as there are places, in normal
@@ -301,14 +314,24 @@ fn datum(row: &[u8; DATUM_BYTES]) -> Datum {
     Datum { interval: ends(row), predicate: predicate(terms_field(row)) }
 }
 
-/// Left and right at the front of a row, whether in order or not.
+/// Left and right of a row, whether in order and range or not.
 pub fn ends(row: &[u8; DATUM_BYTES]) -> Interval {
-    Interval { left: u64_at(row, 0), right: u64_at(row, RIGHT_AT) }
+    let [left, right] = millionths(row);
+    Interval { left: joined(u64_at(row, 0), left), right: joined(u64_at(row, RIGHT_AT), right) }
 }
 
-pub fn put_ends(row: &mut [u8], interval: Interval) {
-    put_u64(row, 0, interval.left);
-    put_u64(row, RIGHT_AT, interval.right);
+/// The fractions of left and right, as they stand.
+fn millionths(row: &[u8; DATUM_BYTES]) -> [u32; 2] {
+    [u32_at(row, LEFT_MILLIONTHS_AT), u32_at(row, RIGHT_MILLIONTHS_AT)]
+}
+
+pub fn put_ends(row: &mut [u8], Interval { left, right }: Interval) {
+    let places = [(left, 0, LEFT_MILLIONTHS_AT), (right, RIGHT_AT, RIGHT_MILLIONTHS_AT)];
+    for (end, whole_at, millionths_at) in places {
+        let (whole, millionths) = split(end);
+        put_u64(row, whole_at, whole);
+        put_u32(row, millionths_at, millionths);
+    }
 }
 
 pub fn put_reading(bytes: &mut [u8; STATE_BYTES], reading: u64) {
@@ -317,7 +340,7 @@ pub fn put_reading(bytes: &mut [u8; STATE_BYTES], reading: u64) {
 
 /// The count and the masks in a datum's row, as an entry's row has them.
 pub fn terms_field(row: &[u8; DATUM_BYTES]) -> &[u8] {
-    &row[TERM_COUNT_AT..]
+    &row[TERM_COUNT_AT..LEFT_MILLIONTHS_AT]
 }
 
 /// The terms that a count and the masks behind it give, as they stand in bytes that are in form.

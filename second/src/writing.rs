@@ -1,5 +1,5 @@
-//! Writing (document 01, "The radio message"; document 02, W-204): one held datum as a message in
-//! ends form, with the epochs that are known.
+//! Writing (document 01, "The radio message"; document 02, W-204 and W-205): one held datum as a
+//! message in ends form, with the epochs that are known and in whole microseconds.
 
 use crate::message::{self, Words};
 use crate::refusal;
@@ -15,5 +15,5 @@ fn written(lent: &[u8], position: u64) -> Result<Words, u32> {
     let bytes = state::checked(lent)?;
     let datum = state::held_at(bytes, position).ok_or(refusal::POSITION)?;
     let (own, epochs) = (Head::of(bytes).own, state::epochs(bytes));
-    Ok(message::write_parts(own, epochs, datum.interval, &datum.predicate))
+    Ok(message::write_parts(own, epochs, datum.interval.rounded(), &datum.predicate))
 }

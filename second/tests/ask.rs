@@ -87,7 +87,7 @@ type Held<'a> = (&'a [u32], u64, u64);
 fn state(held: &[Held], entries: &[&[u32]]) -> State {
     let alone = |names: &[u32]| sum(&names.iter().map(std::slice::from_ref).collect::<Vec<_>>());
     let datum = |&(names, left, right): &Held| Datum {
-        interval: Interval { left, right },
+        interval: Interval { left, right }.exact(),
         predicate: alone(names),
     };
     State {

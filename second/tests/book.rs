@@ -10,7 +10,7 @@ use second::calls::Call;
 use second::clocks::{Readings, Saved, Triple, GREATEST_CLOCK};
 use second::epochs::{Name, GREATEST_EPOCH};
 use second::every_set::counting;
-use second::instants::{Instants, Interval};
+use second::instants::{joined, split, Instant, Instants, Interval};
 use second::lent::Lent;
 use second::message::Message;
 use second::predicates::{Predicate, Term, ALL_NAMES, GREATEST_NAME, NAMES};
@@ -145,10 +145,12 @@ fn mask(set: &[Name]) -> Term {
 /// Where the fewest are counted that are over the greatest limit.
 const OVER: usize = GREATEST_LIMIT as usize + 1;
 
-/// What was possible, by limit: nothing, all, or something between; and how many the fewest were.
+/// What was possible, by limit: nothing, all, or something between; of how many left and right ends
+/// an answer loses the fraction; and how many the fewest were.
 #[derive(Default)]
 struct Tally {
     possible: [[u64; 3]; GREATEST_LIMIT as usize + 1],
+    fractions: [u64; 2],
     fewest: [u64; OVER + 1],
 }
 
@@ -157,19 +159,23 @@ impl Tally {
         let kind = match possible {
             Instants::Empty => 0,
             Instants::All => 1,
-            Instants::Between(..) => 2,
+            Instants::Between(left, right) => {
+                let fractions = [left, right].map(|end| u64::from(split(end).1 > 0));
+                (0..2).for_each(|i| self.fractions[i] += fractions[i]);
+                2
+            }
         };
         self.possible[limit as usize][kind] += 1;
     }
 
     /// Prints the counts, and checks that each is enough.
     fn check(&self, title: &str, enough: u64) {
-        let Tally { possible, fewest } = self;
+        let Tally { possible, fractions, fewest } = self;
         report(&format!(
-            "{title}: possible is nothing, all, between by limit {possible:?}; fewest by count and over \
-             {GREATEST_LIMIT} {fewest:?}\n"
+            "{title}: possible is nothing, all, between by limit {possible:?}; left and right with a \
+             fraction {fractions:?}; fewest by count and over {GREATEST_LIMIT} {fewest:?}\n"
         ));
-        let least = possible.as_flattened().iter().chain(fewest).min();
+        let least = possible.as_flattened().iter().chain(fractions).chain(fewest).min();
         assert!(least >= Some(&enough), "{title}: too few of an answer");
     }
 }
@@ -203,10 +209,15 @@ fn names(all: &[(u32, u8)]) -> Vec<Name> {
     all.iter().map(|&(identifier, epoch)| Name { identifier, epoch }).collect()
 }
 
-/// A line of a receipt: its ends, and its terms of names by identifier and epoch.
-fn heard(left: u64, right: u64, terms: &[&[(u32, u8)]]) -> Line {
+/// A line of a receipt: its ends in millionths, and its terms of names by identifier and epoch.
+fn grown(left: Instant, right: Instant, terms: &[&[(u32, u8)]]) -> Line {
     let terms = terms.iter().map(|term| names(term)).collect();
     Line::Received { interval: Interval { left, right }, terms }
+}
+
+/// The same of whole microseconds.
+fn heard(left: u64, right: u64, terms: &[&[(u32, u8)]]) -> Line {
+    grown(joined(left, 0), joined(right, 0), terms)
 }
 
 fn blamed(identifier: u32, epoch: u8) -> Line {
@@ -218,6 +229,11 @@ fn possible(book: &Book, limit: u32) -> Instants {
     book.ended().by_set().possible(limit)
 }
 
+/// From the first whole microsecond to the second.
+fn between(left: u64, right: u64) -> Instants {
+    Instants::Between(joined(left, 0), joined(right, 0))
+}
+
 #[test]
 fn book_enters_advances_and_what_was_formed() {
     let mut book = Book::new(5, 100, 0, 0);
@@ -227,33 +243,35 @@ fn book_enters_advances_and_what_was_formed() {
     book.enter(&Call::Age { reading: 2_000_001 }, 0);
     book.enter(&received(2, 7, 7, &[0]), 0);
     let lines = [
-        heard(1_000, 1_251, &[&[(1, 0)], &[(2, 0), (3, 0)]]),
-        Line::Aged { least: 1_999_800, greatest: 2_000_200 },
+        grown(1_000_000_000, 1_250_005_000, &[&[(1, 0)], &[(2, 0), (3, 0)]]),
+        Line::Aged { least: 1_999_800_000_000, greatest: 2_000_200_000_000 },
         Line::Aged { least: 0, greatest: 0 },
-        Line::Aged { least: 0, greatest: 2 },
-        heard(7, 58, &[&[(2, 0)], &[]]),
+        Line::Aged { least: 999_900, greatest: 1_000_100 },
+        grown(7_000_000, 57_005_000, &[&[(2, 0)], &[]]),
     ];
     assert_eq!(book.lines(), lines);
+    // The first line's ends with each advance since.
+    assert_eq!(possible(&book, 0), Instants::Between(2_000_800_999_900, 2_001_451_005_100));
 }
 
 #[test]
 fn book_enters_intervals_grown_by_the_own_drift() {
     // Own drift, both delays, and what 10 to 10 grows to.
-    let grown = [
-        (0, 600_000_000, (600_000_010, 600_000_010)),
-        (100, 1, (10, 12)),
-        (100, 5, (14, 16)),
-        (100, 60_000_001, (59_994_010, 60_006_012)),
-        (1_000, 600_000_000, (599_400_010, 600_600_010)),
+    let cases = [
+        (0, 600_000_000, (600_000_010_000_000, 600_000_010_000_000)),
+        (100, 1, (10_999_900, 11_000_100)),
+        (100, 5, (14_999_500, 15_000_500)),
+        (100, 60_000_001, (59_994_010_999_900, 60_006_011_000_100)),
+        (1_000, 600_000_000, (599_400_010_000_000, 600_600_010_000_000)),
     ];
-    for (drift, delay, (left, right)) in grown {
+    for (drift, delay, (left, right)) in cases {
         let message = Message::of(1, 10, 10, &[]).bytes();
         // The sender's drift is another.
         let readings = Some(Readings::of(0, 0, 0, GREATEST_DRIFT - drift));
         let mut book = Book::new(5, drift, 0, 0);
         book.enter(&Call::Receive { least: delay, greatest: delay, readings, message }, 0);
-        assert_eq!(book.lines(), [heard(left, right, &[&[(1, 0)]])]);
-        assert_eq!(possible(&book, 0), Instants::Between(left.into(), right.into()));
+        assert_eq!(book.lines(), [grown(left, right, &[&[(1, 0)]])]);
+        assert_eq!(possible(&book, 0), Instants::Between(left, right));
     }
 }
 
@@ -265,7 +283,7 @@ fn book_enters_a_violation_before_what_was_formed() {
     book.enter(&watched(1, 0, 0, 1, 0), 0);
     book.enter(&watched(1, 100, 102, 1, 0), 0);
     assert_eq!(book.lines(), [heard.clone(), heard.clone()]);
-    assert_eq!(possible(&book, 0), Instants::Between(0, 10));
+    assert_eq!(possible(&book, 0), between(0, 10));
     book.enter(&watched(1, 200, 203, 1, 0), 0);
     let lines = [heard.clone(), heard.clone(), blamed(1, 0), heard];
     assert_eq!(book.lines(), lines);
@@ -337,18 +355,15 @@ fn book_counts_names_that_are_current_at_the_runs_end() {
     let mut book = Book::new(5, 0, 0, 0);
     book.enter(&told(Message::of(1, 0, 10, &[])), 0);
     book.enter(&told(Message::of(2, 20, 30, &[])), 0);
-    assert_eq!(
-        [possible(&book, 0), possible(&book, 1)],
-        [Instants::Empty, Instants::Between(0, 30)]
-    );
+    assert_eq!([possible(&book, 0), possible(&book, 1)], [Instants::Empty, between(0, 30)]);
     // Once 1 is mended, its old name has failed for free; so has it from the start in an earlier
     // line.
     book.enter(&told(Message::of(1, 22, 40, &[]).at(&[(1, 1)])), 0);
-    assert_eq!(possible(&book, 0), Instants::Between(22, 30));
-    assert_eq!(book.ended().reached(&[]), Instants::Between(22, 30));
-    assert_eq!(book.ended().reached(&names(&[(1, 1)])), Instants::Between(20, 30));
+    assert_eq!(possible(&book, 0), between(22, 30));
+    assert_eq!(book.ended().reached(&[]), between(22, 30));
+    assert_eq!(book.ended().reached(&names(&[(1, 1)])), between(20, 30));
     // An older name in a set would say nothing more.
-    assert_eq!(book.ended().reached(&names(&[(1, 0)])), Instants::Between(22, 30));
+    assert_eq!(book.ended().reached(&names(&[(1, 0)])), between(22, 30));
 }
 
 #[test]
@@ -363,7 +378,7 @@ fn book_blames_a_name_until_its_epoch_rises() {
     assert_eq!(book.saved(1), Some(Saved::first(Triple::of(0, 5_000, 0))));
     book.enter(&watched(1, 77, 0, 0, 0), 0);
     assert_eq!(book.saved(1), Some(Saved::first(Triple::of(0, 5_000, 0))));
-    assert_eq!(possible(&book, 0), Instants::Between(0, 10));
+    assert_eq!(possible(&book, 0), between(0, 10));
     // Heard in another's term, the history goes too.
     book.enter(&told(Message::of(2, 0, 10, &[2]).at(&[(1, 2)])), 0);
     assert_eq!(book.saved(1), None);
@@ -378,58 +393,73 @@ fn book_blames_a_name_until_its_epoch_rises() {
 fn book_of_the_listing_gives_its_answers() {
     let mut book = Book::new(5, 100, 0, 0);
     book.enter(&received(1, 1_000_000, 1_000_200, &[]), 0);
-    assert_eq!(possible(&book, 0), Instants::Between(1_000_000, 1_000_251));
+    assert_eq!(possible(&book, 0), Instants::Between(1_000_000_000_000, 1_000_250_005_000));
     book.enter(&Call::Age { reading: 2_000_000 }, 0);
-    assert_eq!(possible(&book, 0), Instants::Between(2_999_800, 3_000_451));
+    assert_eq!(possible(&book, 0), Instants::Between(2_999_800_000_000, 3_000_450_005_000));
     book.enter(&told(Message::of(2, 3_001_000, 3_001_000, &[])), 0);
     assert_eq!(possible(&book, 0), Instants::Empty);
-    assert_eq!(possible(&book, 1), Instants::Between(2_999_800, 3_001_000));
+    assert_eq!(possible(&book, 1), between(2_999_800, 3_001_000));
     assert_eq!(possible(&book, 2), Instants::All);
     assert_eq!(book.ended().by_set().fewest(), Some(&names(&[(1, 0)])[..]));
 }
 
 // ---- paths, one by one
 
-/// Instants that paths start from; far more than the ends and advances below reach.
-const STARTS: RangeInclusive<i128> = -100..=200;
+/// So many millionths are a step: all ends and advances of the small books are whole steps, and so
+/// are the outermost paths.
+const STEP: Instant = 100_000;
+/// Where paths start, in steps around 1,000 µs; further away than the ends below reach.
+const STARTS: RangeInclusive<Instant> = 10_000 - 200..=10_000 + 400;
 
-/// Where the paths from these instants end that agree with the set and the book, each of them
-/// walked: a name has failed if it is in the set, or is not the one that its identifier has at the
-/// end.
-fn walked(book: &Book, set: &[Name]) -> BTreeSet<i128> {
+/// An end or an advance in steps.
+fn steps(millionths: Instant) -> Instant {
+    assert_eq!(millionths % STEP, 0);
+    millionths / STEP
+}
+
+/// Where the paths from there end that agree with the set and the book, each of them walked: a name
+/// has failed if it is in the set, or is not the one that its identifier has at the end.
+fn walked(book: &Book, set: &[Name]) -> BTreeSet<Instant> {
     let current = |name: &Name| book.known()[name.identifier as usize] == name.epoch;
     let failed = |name: &Name| set.contains(name) || !current(name);
     let holds = |terms: &[Vec<Name>]| terms.iter().any(|term| term.iter().all(failed));
-    book.lines().iter().fold(STARTS.collect(), |here: BTreeSet<i128>, line| match line {
+    book.lines().iter().fold(STARTS.collect(), |here: BTreeSet<Instant>, line| match line {
         Line::Aged { least, greatest } => {
-            let amounts = i128::from(*least)..=i128::from(*greatest);
+            let amounts = steps(*least)..=steps(*greatest);
             here.into_iter().flat_map(|x| amounts.clone().map(move |amount| x + amount)).collect()
         }
         Line::Received { interval, terms } => {
-            let inside = i128::from(interval.left)..=i128::from(interval.right);
+            let inside = steps(interval.left)..=steps(interval.right);
             here.into_iter().filter(|x| inside.contains(x) || holds(terms)).collect()
         }
         Line::Blamed(name) => here.into_iter().filter(|_| failed(name)).collect(),
     })
 }
 
-/// A book of few names, epochs and small numbers, as if every call was taken.
+/// A book of few names and epochs, and of numbers that keep true time about 1,000 µs ahead of the
+/// reading, as if every call was taken.
 fn small_book(random: &mut Random) -> Book {
-    let drift = random.pick(&[0, 100, GREATEST_DRIFT]);
+    let drift = random.pick(&[0, GREATEST_DRIFT, GREATEST_DRIFT]);
     let (mut book, mut reading) = (Book::new(4, drift, 0, 1), 0);
     let epochs = random.pick(&[1, 2, 2, 2]);
     for _ in 0..random.below(20) {
         if random.once_in(3) {
-            reading += random.below(5);
+            reading += 100 * random.below(3);
             book.enter(&Call::Age { reading }, 0);
         } else {
-            let left = random.below(20);
+            // At the drift only these are whole steps.
+            let delays = if drift == 0 {
+                [(0, 0), (0, 2), (1, 3)]
+            } else {
+                [(0, 0), (100, 100), (200, 200)]
+            };
+            let (least, greatest) = random.pick(&delays);
+            let left = 1_000 + reading - least + random.below(20);
             let right = left + random.below(15);
             let terms: &[&[Term]] = &[&[], &[], &[1], &[6], &[8], &[3, 12], &[0], &[17], &[4, 24]];
             let (sender, terms) = (random.below(4) as u32, random.pick(terms));
             let mut message = Message::of(sender, left, right, terms);
             message.epochs = message.epochs.map(|_| random.below(epochs) as u8);
-            let (least, greatest) = random.pick(&[(0, 0), (0, 2), (1, 3)]);
             let (a, b, w) = (random.below(6), random.below(6), random.below(2));
             let readings = random.once_in(2).then_some(Readings::of(a, b, w, 0));
             book.enter(&Call::Receive { least, greatest, readings, message: message.bytes() }, 0);
@@ -439,10 +469,10 @@ fn small_book(random: &mut Random) -> Book {
 }
 
 /// Where all paths end that a receipt stops nowhere.
-fn unstopped(book: &Book) -> RangeInclusive<i128> {
+fn unstopped(book: &Book) -> RangeInclusive<Instant> {
     book.lines().iter().fold(STARTS, |range, line| match line {
         Line::Aged { least, greatest } => {
-            range.start() + i128::from(*least)..=range.end() + i128::from(*greatest)
+            range.start() + steps(*least)..=range.end() + steps(*greatest)
         }
         Line::Received { .. } | Line::Blamed(_) => range,
     })
@@ -468,7 +498,7 @@ fn book_reaches_what_paths_walked_one_by_one_do() {
             let (kind, same) = match book.ended().reached(&set) {
                 Instants::Empty => (0, walked.eq([])),
                 Instants::All => (1, walked.eq(unstopped(&book))),
-                Instants::Between(left, right) => (2, walked.eq(left..=right)),
+                Instants::Between(left, right) => (2, walked.eq(steps(left)..=steps(right))),
             };
             assert!(same, "seed {seed}: set {s}: {book:?}");
             met[kind] += 1;
@@ -768,7 +798,7 @@ fn book_of_a_run_with_mended_names_gives_the_answers() {
 
 // ---- further receipts
 
-/// The instants that an answer's bytes say.
+/// What an answer's bytes say, in whole microseconds.
 fn instants(answer: &[u8]) -> Instants {
     let numbers = answer.as_chunks().0.iter().map(|&number| u64::from_le_bytes(number));
     match numbers.collect::<Vec<u64>>()[..] {

@@ -8,7 +8,7 @@ use second::calls::Call;
 use second::clocks::{Readings, Saved, Triple};
 use second::epochs::FIRST_EPOCHS;
 use second::every_set::{ask, counting, fewest};
-use second::instants::{Instants, Interval};
+use second::instants::{joined, Instant, Instants, Interval};
 use second::message::{self, Message, MESSAGE_BYTES};
 use second::predicates::{self, holds, struck, Predicate, Term, ALL_NAMES, NAMES};
 use second::random::Random;
@@ -16,11 +16,12 @@ use second::samples::runs::{has_slept, World};
 use second::samples::states;
 use second::state::{
     self, clock_at, datum_at, entry_at, epoch_at, Datum, State, DRIFT_AT, ENTRY_COUNT_AT,
-    HELD_COUNT_AT, MASKS_AT, MASK_BYTES, NO_CLOCKS, OWN_AT, READING_AT, RIGHT_AT, STATE_BYTES,
-    TERM_COUNT_AT, TRIPLES_AT, TRIPLE_BYTES,
+    HELD_COUNT_AT, LEFT_MILLIONTHS_AT, MASKS_AT, MASK_BYTES, NO_CLOCKS, OWN_AT, READING_AT,
+    RIGHT_AT, RIGHT_MILLIONTHS_AT, STATE_BYTES, TERM_COUNT_AT, TRIPLES_AT, TRIPLE_BYTES,
 };
 use second::{ageing, receiving, set_up};
 use std::cmp::Ordering;
+use std::collections::BTreeSet;
 
 // ---- document 01's cases
 
@@ -92,8 +93,8 @@ fn case_disjoint_data_under_other_names_stay_and_the_sum_is_an_entry() {
 }
 
 #[test]
-fn case_advance_of_one_microsecond_is_0_and_2_and_of_none_0_and_0() {
-    assert_eq!(advance(1, 100), (0, 2));
+fn case_advance_of_one_microsecond_is_0_9999_and_1_0001_and_of_none_0_and_0() {
+    assert_eq!(advance(1, 100), (999_900, 1_000_100));
     assert_eq!(advance(0, 100), (0, 0));
 }
 
@@ -113,12 +114,14 @@ fn case_listing_holds_what_its_answers_say() {
     let mut bytes = set_up(5, 100);
     let words = [536870913, 1, 1073741824, 1074741824, 1610612736, 1611612936, 3760096586];
     assert_eq!(receiving::call(&mut bytes, 0, 50, None, &message::bytes_of(&words)), 0);
-    assert_eq!(held(&bytes), (vec![Datum::of(1_000_000, 1_000_251, &[2])], vec![]));
+    let heard = Datum::exact(1_000_000_000_000, 1_000_250_005_000, &[2]);
+    assert_eq!(held(&bytes), (vec![heard], vec![]));
     assert_eq!(ageing::call(&mut bytes, 2_000_000), 0);
-    assert_eq!(held(&bytes), (vec![Datum::of(2_999_800, 3_000_451, &[2])], vec![]));
+    let aged = Datum::exact(2_999_800_000_000, 3_000_450_005_000, &[2]);
+    assert_eq!(held(&bytes), (vec![aged], vec![]));
     let words = [536870914, 2, 1073741824, 1076742824, 1610612736, 1613613736, 3764098388];
     assert_eq!(receiving::call(&mut bytes, 0, 0, None, &message::bytes_of(&words)), 0);
-    let data = vec![Datum::of(2_999_800, 3_000_451, &[2]), Datum::of(3_001_000, 3_001_000, &[4])];
+    let data = vec![aged, Datum::of(3_001_000, 3_001_000, &[4])];
     assert_eq!(held(&bytes), (data, vec![Predicate::of(&[2, 4])]));
 }
 
@@ -141,7 +144,11 @@ fn bytes_of_a_state_stand_where_the_papers_put_them() {
         reading: 0x0108_0706_0504_0302,
         held: vec![
             Datum::of(1, 2, &[4]),
-            Datum::of(0x0201, 0x03_0201, &[0x0102_0304, 0x1000_0000]),
+            Datum::exact(
+                joined(0x0201, 0x04_0302),
+                joined(0x03_0201, 999_999),
+                &[0x0102_0304, 0x1000_0000],
+            ),
         ],
         entries: vec![Predicate::of(&[8]), Predicate::of(&[0x0504_0302])],
         clocks,
@@ -165,6 +172,8 @@ fn bytes_of_a_state_stand_where_the_papers_put_them() {
     put(datum_at(1) + TERM_COUNT_AT, &[2]);
     put(datum_at(1) + TERM_COUNT_AT + MASKS_AT, &[4, 3, 2, 1]);
     put(datum_at(1) + TERM_COUNT_AT + MASKS_AT + MASK_BYTES, &[0, 0, 0, 16]);
+    put(datum_at(1) + LEFT_MILLIONTHS_AT, &[2, 3, 4]);
+    put(datum_at(1) + RIGHT_MILLIONTHS_AT, &[0x3f, 0x42, 0x0f]);
     put(entry_at(0), &[1]);
     put(entry_at(0) + MASKS_AT, &[8]);
     put(entry_at(1), &[1]);
@@ -216,7 +225,7 @@ impl Received {
     fn new(before: &State, least: u64, greatest: u64, message: &[u8]) -> Received {
         let words = message::words_of(message).expect("whole words");
         let message = message::read(&words).expect("a sound message");
-        let Interval { left, right } = message.interval;
+        let Interval { left, right } = message.interval.exact();
         let predicate = Predicate::sum(&[1 << message.sender], &struck(before.own, &message.terms));
         let (later, latest) = (advance(least, before.drift).0, advance(greatest, before.drift).1);
         let interval = Interval { left: left + later, right: right + latest };
@@ -362,32 +371,30 @@ fn receipts_in_any_state_in_form_say_what_their_messages_do() {
 
 // ---- asking, instant by instant
 
-/// Instants around all ends of a state whose ends are below 41; the outermost are in no interval.
-const AROUND: std::ops::RangeInclusive<i128> = -1..=41;
+/// Instants that are in no interval, whatever its ends.
+const OUTERMOST: [Instant; 2] = [-1, Instant::MAX];
+
+/// Every end of a state with the instants next to it, and the outermost ones, rising: what counts
+/// changes nowhere else.
+fn around(state: &State) -> Vec<Instant> {
+    let ends = state.held.iter().flat_map(|datum| [datum.interval.left, datum.interval.right]);
+    let near = ends.flat_map(|end| [end - 1, end, end + 1]);
+    near.chain(OUTERMOST).collect::<BTreeSet<Instant>>().into_iter().collect()
+}
 
 /// Whether the instant counts for s, in document 01's words.
-fn counts(x: i128, s: Term, state: &State) -> bool {
-    let contains = |Interval { left, right }| (i128::from(left)..=right.into()).contains(&x);
+fn counts(x: Instant, s: Term, state: &State) -> bool {
+    let contains = |Interval { left, right }| (left..=right).contains(&x);
     state.entries.iter().all(|entry| holds(s, entry))
         && state.held.iter().all(|datum| holds(s, &datum.predicate) || contains(datum.interval))
 }
 
-/// The answer by those of the instants around that count: all if the outermost do.
-fn answer(counting: &[i128]) -> Instants {
+/// The answer by those of the instants around that count, rising: all if the outermost do.
+fn answer(counting: &[Instant]) -> Instants {
     match (counting.first(), counting.last()) {
-        (Some(-1), Some(41)) => Instants::All,
+        (Some(&left), Some(&right)) if [left, right] == OUTERMOST => Instants::All,
         (Some(&left), Some(&right)) => Instants::Between(left, right),
         _ => Instants::Empty,
-    }
-}
-
-/// A state with small ends.
-fn small(random: &mut Random) -> State {
-    loop {
-        let state = states::to_ask(random);
-        if state.held.iter().all(|datum| datum.interval.right < 41) {
-            return state;
-        }
     }
 }
 
@@ -396,16 +403,17 @@ fn small(random: &mut Random) -> State {
 #[test]
 fn asking_tells_the_least_and_greatest_instant_that_counts() {
     for seed in 0..300 {
-        let state = small(&mut Random::new(seed));
+        let state = states::to_ask(&mut Random::new(seed));
+        let around = around(&state);
         let most = if seed % 20 == 0 { GREATEST_LIMIT } else { 2 };
         let all = predicates::sets(ALL_NAMES & !(1 << state.own), most);
         for limit in 0..=most {
             let sets = || all.iter().copied().filter(|s| s.count_ones() <= limit);
-            let counting: Vec<i128> =
-                AROUND.filter(|&x| sets().any(|s| counts(x, s, &state))).collect();
+            let some = |x: &Instant| sets().any(|s| counts(*x, s, &state));
+            let counting: Vec<Instant> = around.iter().copied().filter(some).collect();
             assert_eq!(ask(&state, limit), answer(&counting), "seed {seed}: {limit}, {state:?}");
         }
-        let explains = |&s: &Term| AROUND.clone().any(|x| counts(x, s, &state));
+        let explains = |&s: &Term| around.iter().any(|&x| counts(x, s, &state));
         let least = all.into_iter().filter(explains).min_by_key(|s| (s.count_ones(), *s));
         let found = fewest(&state).filter(|s| s.count_ones() <= most);
         assert_eq!(found, least, "seed {seed}: {state:?}");
@@ -416,10 +424,12 @@ fn asking_tells_the_least_and_greatest_instant_that_counts() {
 fn asking_tells_what_counts_for_each_set() {
     let mut met = [0; 3];
     for seed in 0..5_000 {
-        let state = small(&mut Random::new(seed));
+        let state = states::to_ask(&mut Random::new(seed));
+        let around = around(&state);
         let data = state.held.iter().map(|datum| &datum.predicate);
         for s in predicates::sets(predicates::names_within(data.chain(&state.entries), 3), 3) {
-            let instants: Vec<i128> = AROUND.filter(|&x| counts(x, s, &state)).collect();
+            let counts = |x: &Instant| counts(*x, s, &state);
+            let instants: Vec<Instant> = around.iter().copied().filter(counts).collect();
             let wanted = answer(&instants);
             assert_eq!(counting(s, &state), wanted, "seed {seed}: {s}, {state:?}");
             met[usize::from(wanted != Instants::Empty) + usize::from(wanted == Instants::All)] += 1;

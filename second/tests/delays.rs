@@ -1,17 +1,20 @@
-//! Delays on the receiver's clock (document 02, W-202), by both programs: edges by name, then seeded
-//! receipts from radios that have slept. Numbers past the range, and the order of refusals, are in
-//! tests/receive.rs and tests/clocks.rs.
+//! Delays on the receiver's clock (document 02, W-202 and W-205), by both programs: edges by name,
+//! then seeded receipts from radios that have slept. Numbers past the range, and the order of
+//! refusals, are in tests/receive.rs and tests/clocks.rs.
 
 use second::branches::{Branch, Branches};
 use second::calls::Call;
 use second::clocks::{Readings, Saved};
-use second::instants::{Interval, GREATEST_END};
+use second::instants::{
+    by_fraction, joined, split, Instant, Interval, GREATEST_END, GREATEST_INSTANT, MILLION,
+};
 use second::lent::Lent;
-use second::message::Message;
-use second::predicates::{Predicate, Term, NAMES};
+use second::message::{Message, MOST_TERMS};
+use second::predicates::{normal, Predicate, Term, NAMES};
 use second::random::Random;
+use second::ranks::Ranks;
 use second::receiving;
-use second::samples::{states, Tally};
+use second::samples::{end_within, states, Tally};
 use second::state::{Datum, State};
 
 // ---- what is compared
@@ -25,29 +28,30 @@ fn call_in(call: &Call, before: &State, random: &mut Random) -> (u32, Vec<u8>, B
     (number, state.bytes().to_vec(), branches)
 }
 
-/// Left and right.
-type Ends = (u64, u64);
+/// Left and right as they are sent, and as they are held, in millionths.
+type Sent = (u64, u64);
+type Held = (Instant, Instant);
 /// Least and greatest.
 type Delays = (u64, u64);
-/// What the left and the right end gain.
-type Gains = (u64, u64);
+/// What the left and the right end gain, in millionths.
+type Gains = (Instant, Instant);
 
 /// Without readings, and with those of senders whose clocks drift less and more.
 fn with_and_without_readings() -> [Option<Readings>; 3] {
     [None, Some(Readings::of(7, 8, 9, 0)), Some(Readings::of(7, 8, 9, 1_000))]
 }
 
-fn receipt(delays: Delays, sent: Ends, terms: &[Term], readings: Option<Readings>) -> Call {
+fn receipt(delays: Delays, sent: Sent, terms: &[Term], readings: Option<Readings>) -> Call {
     let message = Message::of(1, sent.0, sent.1, terms).bytes();
     Call::Receive { least: delays.0, greatest: delays.1, readings, message }
 }
 
 /// At own name 5 with a drift, what was sent as these ends is held as those.
-fn grows(drift: u32, delays: Delays, sent: Ends, held: Ends) {
+fn grows(drift: u32, delays: Delays, sent: Sent, held: Held) {
     let before = State::fresh(5, drift, 1_000);
     for readings in with_and_without_readings() {
         let mut after = before.clone();
-        after.held = vec![Datum::of(held.0, held.1, &[2])];
+        after.held = vec![Datum::exact(held.0, held.1, &[2])];
         after.clocks[1] = readings.map(|readings| Saved::first(readings.triple));
         let call = receipt(delays, sent, &[], readings);
         let (number, bytes, _) = call_in(&call, &before, &mut Random::new(drift.into()));
@@ -57,7 +61,7 @@ fn grows(drift: u32, delays: Delays, sent: Ends, held: Ends) {
 }
 
 /// The same is refused and changes nothing; with a true predicate too.
-fn refuses(drift: u32, delays: Delays, sent: Ends, wanted: u32) {
+fn refuses(drift: u32, delays: Delays, sent: Sent, wanted: u32) {
     let before = State::fresh(5, drift, 1_000);
     for readings in with_and_without_readings() {
         for terms in [&[][..], &[0]] {
@@ -72,78 +76,81 @@ fn refuses(drift: u32, delays: Delays, sent: Ends, wanted: u32) {
 /// None, the least, a usual one, and the greatest with the one below it.
 const DRIFTS: [u32; 5] = [0, 1, 100, 999, 1_000];
 
+/// Whole microseconds.
+fn whole(left: u64, right: u64) -> Held {
+    (joined(left, 0), joined(right, 0))
+}
+
 // ---- edges
 
 #[test]
-fn delays_of_1_at_drift_100_grow_by_0_and_2() {
-    grows(100, (1, 1), (0, 0), (0, 2));
+fn delays_of_1_at_drift_100_grow_by_0_9999_and_1_0001() {
+    grows(100, (1, 1), (0, 0), (999_900, 1_000_100));
 }
 
 #[test]
-fn delays_of_5_at_drift_100_grow_by_4_and_6() {
-    grows(100, (5, 5), (10, 10), (14, 16));
+fn delays_of_5_at_drift_100_grow_by_4_9995_and_5_0005() {
+    grows(100, (5, 5), (10, 10), (14_999_500, 15_000_500));
 }
 
 #[test]
 fn delays_of_600_000_000_at_drift_1_000_grow_by_600_000_less_and_more() {
-    grows(1_000, (600_000_000, 600_000_000), (0, 0), (599_400_000, 600_600_000));
+    grows(1_000, (600_000_000, 600_000_000), (0, 0), whole(599_400_000, 600_600_000));
 }
 
 #[test]
 fn delays_without_drift_grow_by_themselves() {
     for d in [0, 1, 5, 999_999, 1_000_000, 60_000_001, 600_000_000] {
-        grows(0, (d, d), (7, 70), (7 + d, 70 + d));
-        grows(0, (0, d), (7, 70), (7, 70 + d));
+        grows(0, (d, d), (7, 70), whole(7 + d, 70 + d));
+        grows(0, (0, d), (7, 70), whole(7, 70 + d));
     }
 }
 
 #[test]
 fn delays_of_0_grow_by_nothing_at_any_drift() {
     for drift in DRIFTS {
-        grows(drift, (0, 0), (7, 70), (7, 70));
-        grows(drift, (0, 0), (GREATEST_END, GREATEST_END), (GREATEST_END, GREATEST_END));
+        grows(drift, (0, 0), (7, 70), whole(7, 70));
+        grows(drift, (0, 0), (GREATEST_END, GREATEST_END), whole(GREATEST_END, GREATEST_END));
     }
 }
 
 #[test]
-fn delays_are_rounded_down_on_the_left_and_up_on_the_right() {
+fn delays_are_not_rounded() {
     for (drift, d, least, greatest) in [
-        (1, 1, 0, 2),
-        (1, 999_999, 999_998, 1_000_000),
-        (1, 1_000_000, 999_999, 1_000_001),
-        (1, 1_000_001, 999_999, 1_000_003),
-        (1, 60_000_001, 59_999_940, 60_000_062),
-        (1, 600_000_000, 599_999_400, 600_000_600),
-        (100, 9_999, 9_998, 10_000),
-        (100, 10_000, 9_999, 10_001),
-        (100, 10_001, 9_999, 10_003),
-        (100, 599_999_999, 599_939_999, 600_059_999),
-        (999, 1_000, 999, 1_001),
-        (999, 1_000_000, 999_001, 1_000_999),
-        (999, 600_000_000, 599_400_600, 600_599_400),
-        (1_000, 1, 0, 2),
-        (1_000, 1_000, 999, 1_001),
-        (1_000, 1_001, 999, 1_003),
-        (1_000, 599_999_999, 599_399_999, 600_599_999),
+        (1, 1, 999_999, 1_000_001),
+        (1, 999_999, 999_998_000_001, 999_999_999_999),
+        (1, 1_000_000, 999_999_000_000, 1_000_001_000_000),
+        (1, 1_000_001, 999_999_999_999, 1_000_002_000_001),
+        (1, 60_000_001, 59_999_940_999_999, 60_000_061_000_001),
+        (1, 600_000_000, 599_999_400_000_000, 600_000_600_000_000),
+        (100, 50, 49_995_000, 50_005_000),
+        (100, 9_999, 9_998_000_100, 9_999_999_900),
+        (100, 10_000, 9_999_000_000, 10_001_000_000),
+        (100, 599_999_999, 599_939_999_000_100, 600_059_998_999_900),
+        (999, 1_000, 999_001_000, 1_000_999_000),
+        (999, 600_000_000, 599_400_600_000_000, 600_599_400_000_000),
+        (1_000, 1, 999_000, 1_001_000),
+        (1_000, 1_001, 999_999_000, 1_002_001_000),
+        (1_000, 599_999_999, 599_399_999_001_000, 600_599_998_999_000),
     ] {
-        grows(drift, (d, d), (7, 70), (7 + least, 70 + greatest));
+        grows(drift, (d, d), (7, 70), (7_000_000 + least, 70_000_000 + greatest));
     }
 }
 
 /// The other way round it would be 1,001 and 1,998.
 #[test]
 fn delays_count_the_least_as_a_left_ends_advance_and_the_greatest_as_a_right_ends() {
-    grows(1_000, (1_000, 2_000), (0, 0), (999, 2_002));
-    grows(1_000, (0, 2_000), (0, 0), (0, 2_002));
-    grows(100, (0, 50_000), (1_000_000_000, 1_000_000_200), (1_000_000_000, 1_000_050_205));
-    grows(100, (0, 600_000_000), (0, 0), (0, 600_060_000));
+    grows(1_000, (1_000, 2_000), (0, 0), whole(999, 2_002));
+    grows(1_000, (0, 2_000), (0, 0), whole(0, 2_002));
+    grows(100, (0, 50_000), (1_000_000_000, 1_000_000_200), whole(1_000_000_000, 1_000_050_205));
+    grows(100, (0, 600_000_000), (0, 0), whole(0, 600_060_000));
 }
 
 #[test]
 fn delays_of_60_000_001_are_taken_and_of_600_000_001_are_21() {
-    grows(100, (0, 60_000_000), (0, 0), (0, 60_006_000));
-    grows(100, (0, 60_000_001), (0, 0), (0, 60_006_002));
-    grows(100, (60_000_001, 60_000_001), (0, 0), (59_994_000, 60_006_002));
+    grows(100, (0, 60_000_000), (0, 0), whole(0, 60_006_000));
+    grows(100, (0, 60_000_001), (0, 0), (0, 60_006_001_000_100));
+    grows(100, (60_000_001, 60_000_001), (0, 0), (59_994_000_999_900, 60_006_001_000_100));
     for drift in DRIFTS {
         for least in [0, 60_000_001, 600_000_000, 600_000_001] {
             refuses(drift, (least, 600_000_001), (0, 0), 21);
@@ -168,16 +175,26 @@ fn delays_of_any_64_bits_are_21() {
 
 #[test]
 fn delays_up_to_the_greatest_end_are_taken_and_past_it_are_30() {
-    // One microsecond can be two.
+    // One microsecond can be 1.0001.
     let top = (1 << 58) - 1;
-    grows(100, (0, 1), (0, (1 << 58) - 3), (0, top));
-    grows(100, (1, 1), ((1 << 58) - 3, (1 << 58) - 3), ((1 << 58) - 3, top));
-    refuses(100, (0, 1), (0, (1 << 58) - 2), 30);
+    grows(100, (0, 1), (0, top - 2), (0, GREATEST_INSTANT - 999_900));
+    grows(
+        100,
+        (1, 1),
+        (top - 2, top - 2),
+        (GREATEST_INSTANT - 1_000_100, GREATEST_INSTANT - 999_900),
+    );
+    refuses(100, (0, 1), (0, top - 1), 30);
     refuses(100, (0, 1), (0, top), 30);
-    grows(0, (0, 1), (0, top - 1), (0, top));
+    grows(0, (0, 1), (0, top - 1), whole(0, top));
+    refuses(0, (0, 1), (0, top), 30);
+    // A millionth past the greatest end.
+    grows(1, (0, 1_000_000), (0, top - 1_000_001), whole(0, top));
+    refuses(1, (0, 1_000_000), (0, top - 1_000_000), 30);
+    refuses(1, (0, 1), (0, top - 1), 30);
     let gains = [600_000_000, 600_000_600, 600_060_000, 600_599_400, 600_600_000];
     for (drift, gain) in DRIFTS.into_iter().zip(gains) {
-        grows(drift, (0, 600_000_000), (3, top - gain), (3, top));
+        grows(drift, (0, 600_000_000), (3, top - gain), whole(3, top));
         refuses(drift, (0, 600_000_000), (3, top - gain + 1), 30);
         refuses(drift, (600_000_000, 600_000_000), (top - gain, top - gain + 1), 30);
     }
@@ -185,23 +202,18 @@ fn delays_up_to_the_greatest_end_are_taken_and_past_it_are_30() {
 
 // ---- seeded receipts
 
-/// What the ends gain: the last n with n × 1,000,000 ≤ least × (1,000,000 − drift), and the first
-/// with n × 1,000,000 ≥ greatest × (1,000,000 + drift).
+/// What the ends gain: least × (1,000,000 − drift) and greatest × (1,000,000 + drift) millionths.
 fn gains((least, greatest): Delays, drift: u32) -> Gains {
-    let [least, greatest] = [least, greatest].map(u128::from);
-    let (less, more) = (u128::from(1_000_000 - drift), u128::from(1_000_000 + drift));
-    let last = first(|n| n * 1_000_000 > least * less) - 1;
-    (last, first(|n| n * 1_000_000 >= greatest * more))
+    (times(least, 1_000_000 - drift), times(greatest, 1_000_000 + drift))
 }
 
-/// The first number that will do, by halves: all that follow do too.
-fn first(does: impl Fn(u128) -> bool) -> u64 {
-    let (mut low, mut high) = (0, u64::MAX);
-    while low < high {
-        let middle = low + (high - low) / 2;
-        (low, high) = if does(middle.into()) { (low, middle) } else { (middle + 1, high) };
+/// So many times a factor, by doubling and adding.
+fn times(count: u64, factor: u32) -> Instant {
+    match count {
+        0 => 0,
+        _ if count % 2 == 0 => 2 * times(count / 2, factor),
+        _ => times(count - 1, factor) + Instant::from(factor),
     }
-    low
 }
 
 /// A receipt from a radio that has slept, in a state.
@@ -214,15 +226,17 @@ struct Sleeper {
 
 impl Sleeper {
     fn drawn(random: &mut Random) -> Sleeper {
-        let before = if random.once_in(2) { close(random) } else { states::in_form(random) };
+        let near = random.once_in(2);
+        let before = if near { close(random) } else { states::in_form(random) };
         let before = State { drift: random.pick(&DRIFTS), ..before };
         let delays = long(random);
-        let (left, right) = aim(random, &before);
+        let about = before.held.get(random.index(before.held.len().max(1))).copied();
+        let (left, right) = aim(random, about);
         let (later, latest) = gains(delays, before.drift);
-        let right = right.saturating_sub(latest).min(GREATEST_END);
-        let left = left.saturating_sub(later).min(right);
-        let terms: &[Term] = random.pick(&[&[][..], &[], &[], &[2], &[12, 16], &[0]]);
-        let message = Message::of(other_name(random, before.own), left, right, terms);
+        let right = whole_about(random, right - latest);
+        let left = whole_about(random, left - later).min(right);
+        let (sender, terms) = predicate(random, before.own, about.filter(|_| near));
+        let message = Message::of(sender, left, right, &terms);
         let message = Message { epochs: before.epochs, ..message };
         let (a, b, drift) = (random.below(6), random.below(6), random.pick(&DRIFTS));
         let readings = random.once_in(2).then_some(Readings::of(a, b, 2, drift));
@@ -235,20 +249,24 @@ impl Sleeper {
     }
 
     /// The right end once it has gained so much.
-    fn end(&self, gain: u64) -> u64 {
-        self.message.interval.right + gain
+    fn end(&self, gain: Instant) -> Instant {
+        joined(self.message.interval.right, 0) + gain
     }
 
-    /// What comes of it if the ends gain so much: the same as of the grown message without delay.
+    /// What comes of it if the ends gain so much: the same as of the grown message without delay,
+    /// which has whole microseconds where all ends are ranks.
     fn outcome(&self, (later, latest): Gains) -> (u32, Vec<u8>) {
-        let mut bytes = self.before.bytes();
-        if self.end(latest) > GREATEST_END {
-            return (30, bytes);
+        if self.end(latest) > GREATEST_INSTANT {
+            return (30, self.before.bytes());
         }
-        let (left, right) = (self.message.interval.left + later, self.end(latest));
-        let grown = Message { interval: Interval { left, right }, ..self.message.clone() };
-        let number = receiving::call(&mut bytes, 0, 0, self.readings, &grown.bytes());
-        (number, bytes)
+        let left = joined(self.message.interval.left, 0) + later;
+        let grown = Interval { left, right: self.end(latest).max(left) };
+        let ranks = Ranks::of(&self.before, grown);
+        let message = Message { interval: ranks.lowered(grown), ..self.message.clone() };
+        let mut bytes = ranks.lowered_state(&self.before).bytes();
+        let number = receiving::call(&mut bytes, 0, 0, self.readings, &message.bytes());
+        let after = State::of(&bytes).expect("a state in form");
+        (number, ranks.raised_state(&after).bytes())
     }
 
     /// What is to come of it.
@@ -258,6 +276,25 @@ impl Sleeper {
             return (21, self.before.bytes());
         }
         self.outcome(gains(self.delays, self.before.drift))
+    }
+}
+
+/// A sender and terms, often those of the datum's predicate, none of them or one more, if there is
+/// one that has a term for a sender.
+fn predicate(random: &mut Random, own: u32, about: Option<Datum>) -> (u32, Vec<Term>) {
+    let terms = about.map(|datum| datum.predicate.to_vec()).unwrap_or_default();
+    match terms.iter().find(|t| t.is_power_of_two()).map(|t| t.trailing_zeros()) {
+        Some(sender) if random.once_in(3) => (sender, terms),
+        Some(sender) if random.once_in(4) => (sender, vec![]),
+        Some(sender) if random.once_in(3) => {
+            let more = 1 << other_name(random, own);
+            let room = terms.len().min(MOST_TERMS as usize - 1);
+            (sender, normal(&[&terms[..room], &[more]].concat()))
+        }
+        _ => {
+            let terms: &[Term] = random.pick(&[&[][..], &[], &[], &[2], &[12, 16], &[0]]);
+            (other_name(random, own), terms.to_vec())
+        }
     }
 }
 
@@ -275,8 +312,10 @@ fn other_name(random: &mut Random, own: u32) -> u32 {
 fn close(random: &mut Random) -> State {
     let base = random.pick(&[700_000_000, 1 << 40, GREATEST_END - 2_000_000]);
     let data = (0..1 + random.below(8)).map(|_| {
-        let left = base + random.below(1_000_000);
-        let interval = Interval { left, right: left + random.below(1_000_000) };
+        let whole = base + random.below(1_000_000);
+        let left = end_within(random, whole);
+        let right = (left + Instant::from(random.below(1 << 40))).min(GREATEST_INSTANT);
+        let interval = Interval { left, right };
         let (one, other) = (2 << random.below(4), 2 << random.below(4));
         Datum { interval, predicate: Predicate::sum(&[one], &[other]) }
     });
@@ -301,42 +340,48 @@ fn long(random: &mut Random) -> Delays {
     (least, greatest)
 }
 
-/// Ends to grow to: about the greatest one, about those of a held datum, or anywhere.
-fn aim(random: &mut Random, state: &State) -> Ends {
-    let (near, far) = (random.pick(&[0, 0, 1, 2]), random.below(1 << 40));
-    let Interval { left, right } = match state.held.len() {
-        0 => Interval { left: far, right: far },
-        held => state.held[random.index(held)].interval,
-    };
+/// A whole end in or next to this instant's microsecond.
+fn whole_about(random: &mut Random, x: Instant) -> u64 {
+    let (whole, _) = split(x.clamp(0, GREATEST_INSTANT));
+    random.pick(&[whole, whole, whole + 1]).min(GREATEST_END)
+}
+
+/// Ends to grow to: about the greatest one, about those of the datum, or anywhere.
+fn aim(random: &mut Random, about: Option<Datum>) -> Held {
+    let near = joined(random.pick(&[0, 0, 1, 2]), random.pick(&[0, 0, 1, 999_999]));
+    let far = Instant::from(random.below(1 << 40)) * random.pick(&[1, MILLION]);
+    let anywhere = Interval { left: far, right: far };
+    let Interval { left, right } = about.map_or(anywhere, |datum| datum.interval);
     match random.below(12) {
-        0 => (GREATEST_END, GREATEST_END),
-        1 | 2 => (far, GREATEST_END + near),
+        0 => (GREATEST_INSTANT, GREATEST_INSTANT),
+        1 | 2 => (far, GREATEST_INSTANT + near),
         3 => (right + near, right + near + far),
-        4 => (left.saturating_sub(far), left.saturating_sub(near)),
-        5..=7 => (left.saturating_sub(near), right + near),
-        8..=10 => (left + near, right.saturating_sub(near)),
-        _ => (far, far + random.below(2_000_000)),
+        4 => (left - far, left - near),
+        5..=7 => (left - near, right + near),
+        8..=10 => (left + near, right - near),
+        _ => (far, far + joined(random.below(2_000_000), 0)),
     }
 }
 
 /// Rules that are not meant: what the ends gain if delays are true time, if the two advances change
-/// places, and if they are rounded to the nearest.
+/// places, and if they are rounded to whole microseconds.
 fn other_rules(delays: Delays, drift: u32) -> [(&'static str, Gains); 3] {
     let (least, greatest) = delays;
     let swapped = (gains((0, least), drift).1, gains((greatest, 0), drift).0);
-    let nearest = |delay: u64, factor: u32| (delay * u64::from(factor) + 500_000) / 1_000_000;
-    let rounded = (nearest(least, 1_000_000 - drift), nearest(greatest, 1_000_000 + drift));
-    [("not as true time", delays), ("not swapped", swapped), ("not to the nearest", rounded)]
+    let (left, right) = gains(delays, drift);
+    let Interval { left, right } = Interval { left, right }.rounded().exact();
+    let true_time = whole(least, greatest);
+    [("not as true time", true_time), ("not swapped", swapped), ("not rounded", (left, right))]
 }
 
 // ---- what was reached
 
 /// What a taken receipt met.
-fn taken(sleeper: &Sleeper, branches: Branches) -> [(&'static str, bool); 21] {
+fn taken(sleeper: &Sleeper, branches: Branches) -> [(&'static str, bool); 22] {
     let Sleeper { before: State { drift, .. }, delays: (least, greatest), .. } = *sleeper;
     let end = sleeper.end(gains(sleeper.delays, drift).1);
-    let exact = |delay: u64, factor: u32| (delay * u64::from(factor)).is_multiple_of(1_000_000);
-    let [left, right] = [exact(least, 1_000_000 - drift), exact(greatest, 1_000_000 + drift)];
+    let whole = |delay: u64, factor: u32| (delay * u64::from(factor)).is_multiple_of(1_000_000);
+    let [left, right] = [whole(least, 1_000_000 - drift), whole(greatest, 1_000_000 + drift)];
     [
         ("taken at drift 0", drift == 0),
         ("at drift 1", drift == 1),
@@ -349,11 +394,15 @@ fn taken(sleeper: &Sleeper, branches: Branches) -> [(&'static str, bool); 21] {
         ("after 600,000,000", greatest == 600_000_000),
         ("least 0", least == 0),
         ("least is greatest", least == greatest),
-        ("left rounded", !left),
-        ("right rounded", !right),
-        ("left exact at a drift", left && least > 0 && drift > 0),
-        ("right exact at a drift", right && drift > 0),
-        ("up to 2^58 − 1", end == GREATEST_END),
+        ("left with a fraction", !left),
+        ("right with one", !right),
+        ("left whole at a drift", left && least > 0 && drift > 0),
+        ("right whole at a drift", right && drift > 0),
+        ("up to 2^58 − 1", end == GREATEST_INSTANT),
+        (
+            "in the microsecond before it",
+            end < GREATEST_INSTANT && end + MILLION > GREATEST_INSTANT,
+        ),
         ("disjoint", branches.has(Branch::Disjoint)),
         ("met", branches.has(Branch::Met)),
         ("not stored", branches.has(Branch::NotStored)),
@@ -362,26 +411,41 @@ fn taken(sleeper: &Sleeper, branches: Branches) -> [(&'static str, bool); 21] {
     ]
 }
 
+/// What the fraction alone decided in a taken receipt.
+fn by_the_fraction(branches: Branches) -> [(&'static str, bool); 5] {
+    [
+        ("disjoint", branches.has(Branch::DisjointByFraction)),
+        ("a left end", branches.has(Branch::LeftByFraction)),
+        ("a right end", branches.has(Branch::RightByFraction)),
+        ("stored", branches.has(Branch::NewSparedByFraction)),
+        ("held spared", branches.has(Branch::HeldSparedByFraction)),
+    ]
+}
+
 /// Why a receipt was refused.
 fn refused(sleeper: &Sleeper, number: u32) -> [(&'static str, bool); 8] {
     let (greatest, always) = (sleeper.delays.1, sleeper.message.terms.holds(0));
     let end = sleeper.end(gains(sleeper.delays, sleeper.before.drift).1);
+    let by_fraction = by_fraction(end, GREATEST_INSTANT);
     [
         ("21 by one", number == 21 && greatest == 600_000_001),
         ("21 by more", number == 21 && greatest > 600_000_001),
         ("21 by the least", number == 21 && greatest <= 600_000_000),
-        ("30 at 2^58", number == 30 && end == GREATEST_END + 1),
-        ("30 past it", number == 30 && end > GREATEST_END + 1),
-        ("30 by the drift alone", number == 30 && sleeper.end(greatest) <= GREATEST_END),
+        ("30 by the fraction", number == 30 && by_fraction),
+        ("30 by more", number == 30 && !by_fraction),
+        (
+            "30 by the drift alone",
+            number == 30 && sleeper.end(joined(greatest, 0)) <= GREATEST_INSTANT,
+        ),
         ("30 of a true predicate", number == 30 && always),
         ("32", number == 32),
     ]
 }
 
-/// Number and bytes are those that the gains by halves give, and other rules often give others.
+/// Number and bytes are those that the gains give by ranks, and other rules often give others.
 #[test]
 fn delays_of_radios_that_have_slept_are_answered_alike() {
-    let mut tally = Tally::default();
+    let (mut tally, mut fractions) = (Tally::default(), Tally::default());
     for seed in 0..50_000 {
         let mut random = Random::new(seed);
         let sleeper = Sleeper::drawn(&mut random);
@@ -391,6 +455,9 @@ fn delays_of_radios_that_have_slept_are_answered_alike() {
         for (what, met) in taken(&sleeper, branches) {
             tally.count(what, number == 0 && met);
         }
+        for (what, met) in by_the_fraction(branches) {
+            fractions.count(what, number == 0 && met);
+        }
         for (what, met) in refused(&sleeper, number) {
             tally.count(what, met);
         }
@@ -399,4 +466,5 @@ fn delays_of_radios_that_have_slept_are_answered_alike() {
         }
     }
     tally.check("50,000 receipts after a sleep", 500);
+    fractions.check("by the fraction alone", 50);
 }

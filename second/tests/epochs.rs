@@ -314,7 +314,7 @@ fn epochs_withdrawn_rows_close_up_in_their_order() {
     before.entries = (6..14).map(|n| Predicate::of(&[one(n), one(n + 8)])).collect();
     let state = heard(&before, &[mended(8, 1), mended(20, 1), mended(13, 1)]);
     let left = [6, 7, 9, 10, 11];
-    assert!(state.held.iter().map(|datum| datum.interval.right).eq(left));
+    assert!(state.held.iter().map(|datum| datum.interval.rounded().right).eq(left));
     let entries = left.map(|n| Predicate::of(&[1 << n, 1 << (n + 8)]));
     assert_eq!(state.entries, entries);
 }
@@ -371,7 +371,7 @@ fn epochs_heard_in_a_term_clear_the_triples() {
         assert_eq!((state.clocks[1], state.clocks[3]), (None, before.clocks[3]));
         assert!(branches.has(Branch::TriplesInTerm) && !branches.has(Branch::TriplesOfSender));
         // The bytes of the place are zero.
-        assert!(state.bytes()[3_032 + 76..][..76].iter().all(|&byte| byte == 0));
+        assert!(state.bytes()[3_160 + 76..][..76].iter().all(|&byte| byte == 0));
     }
     // The known epoch, or an older one, clears nothing.
     let before = before.at(&[(1, 1)]);
@@ -714,5 +714,5 @@ fn epochs_of_first_names_are_the_bytes_of_before() {
     // Where no epoch is above 0, the last 29 bytes are zero and change nothing.
     let state = heard(&fresh(), &[sent(1, 0, 10, &[TWO]), sent(3, 20, 30, &[])]);
     assert_eq!(state.epochs, FIRST_EPOCHS);
-    assert!(state.bytes()[5_236..].iter().all(|&byte| byte == 0));
+    assert!(state.bytes()[5_364..].iter().all(|&byte| byte == 0));
 }

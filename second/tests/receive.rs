@@ -3,7 +3,7 @@
 
 use second::branches::{Branch, Branches};
 use second::engine;
-use second::instants::GREATEST_END;
+use second::instants::{Instant, GREATEST_END, GREATEST_INSTANT};
 use second::lent::{compare, Lent};
 use second::message::{bytes_of, write, Message};
 use second::predicates::{Predicate, Term, GREATEST_NAME, NAMES};
@@ -41,6 +41,11 @@ type Held<'a> = (u64, u64, &'a [Term]);
 fn words(sent: Sent) -> Vec<u32> {
     let (sender, left, right, terms) = sent;
     write(&Message::of(sender, left, right, terms)).to_vec()
+}
+
+/// A state of own name 0 and drift 100 with these ends in millionths, under name 1.
+fn exact(left: Instant, right: Instant) -> State {
+    State { held: vec![Datum::exact(left, right, &[2])], ..state(&[], &[]) }
 }
 
 /// A state of own name 0 and drift 100 with these data and entries.
@@ -123,9 +128,9 @@ fn full() -> State {
 #[test]
 fn receive_delay_600_000_000_is_taken_and_one_more_is_21() {
     let message = bytes_of(&words((1, 10, 20, &[])));
-    for (least, left) in [(0, 10), (1, 10), (600_000_000, 599_940_010)] {
+    for (least, left) in [(0, 10_000_000), (1, 10_999_900), (600_000_000, 599_940_010_000_000)] {
         let (after, _) = taken(&state(&[], &[]), (least, 600_000_000), &message);
-        assert_eq!(after, state(&[(left, 600_060_020, &[2])], &[]));
+        assert_eq!(after, exact(left, 600_060_020_000_000));
         refused_bytes(&state(&[], &[]), (least, 600_000_001), &message, 21);
     }
 }
@@ -137,10 +142,15 @@ fn receive_least_delay_above_greatest_is_21_and_equal_is_taken() {
         refused(&state(&[], &[]), (least, greatest), (1, 10, 20, &[]), 21);
     }
     let message = bytes_of(&words((1, 10, 20, &[])));
-    let grown = [(0, 10, 20), (1, 10, 22), (7, 16, 28), (most, 599_940_010, 600_060_020)];
+    let grown = [
+        (0, 10_000_000, 20_000_000),
+        (1, 10_999_900, 21_000_100),
+        (7, 16_999_300, 27_000_700),
+        (most, 599_940_010_000_000, 600_060_020_000_000),
+    ];
     for (delay, left, right) in grown {
         let (after, _) = taken(&state(&[], &[]), (delay, delay), &message);
-        assert_eq!(after, state(&[(left, right, &[2])], &[]));
+        assert_eq!(after, exact(left, right));
     }
 }
 
@@ -157,7 +167,7 @@ fn receive_delays_of_many_bits_are_21() {
 fn receive_left_gains_the_least_delay_and_right_the_greatest() {
     let message = bytes_of(&words((1, 10, 20, &[])));
     let (after, _) = taken(&state(&[], &[]), (3, 50), &message);
-    assert_eq!(after, state(&[(12, 71, &[2])], &[]));
+    assert_eq!(after, exact(12_999_700, 70_005_000));
 }
 
 // ---- the message
@@ -291,9 +301,10 @@ fn receive_right_end_at_the_greatest_is_taken_and_past_it_is_30() {
     let none = state(&[], &[]);
     let sent: Sent = (1, top - 60, top - 51, &[]);
     let message = bytes_of(&words(sent));
-    for (least, left) in [(0, top - 60), (50, top - 11)] {
+    let left = GREATEST_INSTANT - 60_000_000;
+    for (least, gained) in [(0, 0), (50, 49_995_000)] {
         let (after, _) = taken(&none, (least, 50), &message);
-        assert_eq!(after, state(&[(left, top, &[2])], &[]));
+        assert_eq!(after, exact(left + gained, GREATEST_INSTANT - 995_000));
         refused(&none, (least, 51), sent, 30);
         refused(&none, (least, GREATEST_DELAY), sent, 30);
     }
@@ -406,11 +417,15 @@ fn receive_disjoint_intervals_give_the_sum_as_an_entry() {
 #[test]
 fn receive_delays_can_make_intervals_touch() {
     let before = state(&[(11, 20, &[2])], &[]);
-    // One microsecond can be two.
-    let message = bytes_of(&words((2, 0, 9, &[])));
-    let (after, branches) = taken(&before, (0, 1), &message);
-    assert_eq!(after, state(&[(11, 20, &[2]), (0, 11, &[4])], &[]));
-    assert!(!branches.has(Branch::Disjoint));
+    // One microsecond can be 1.0001, which is enough from 10 on and not from 9.
+    for (right, entries) in [(10, &[][..]), (9, &[Predicate::of(&[2, 4])])] {
+        let message = bytes_of(&words((2, 0, right, &[])));
+        let (after, branches) = taken(&before, (0, 1), &message);
+        let grown = Datum::exact(0, 1_000_000 * Instant::from(right) + 1_000_100, &[4]);
+        assert_eq!(after.held, [before.held[0], grown]);
+        assert_eq!(after.entries, entries);
+        assert_eq!(branches.has(Branch::Disjoint), right == 9);
+    }
 }
 
 #[test]

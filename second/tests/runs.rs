@@ -56,7 +56,7 @@ struct Seen {
 impl Seen {
     fn count(&mut self, call: &Call, number: u32, branches: Branches, state: &[u8]) {
         *self.numbers[call.kind()].entry(number).or_default() += 1;
-        let why = [Branch::TooManyData, Branch::TooManyEntries];
+        let why = [Branch::PassesByFraction, Branch::TooManyData, Branch::TooManyEntries];
         for branch in Branch::ALL.into_iter().filter(|&branch| branches.has(branch)) {
             if number == 0 || why.contains(&branch) {
                 self.branches[branch] += 1;
@@ -258,7 +258,7 @@ fn runs_that_fill_all_places_are_answered_alike() {
 #[test]
 fn runs_from_any_state_in_form_are_answered_alike() {
     let mut seen = Seen::default();
-    for seed in 0..60_000 {
+    for seed in 0..80_000 {
         let mut random = Random::new(seed);
         let state = states::in_form(&mut random);
         let (world, steps) = (World::around(&mut random, &state), 1 + random.below(4));

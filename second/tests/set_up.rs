@@ -41,7 +41,7 @@ fn taken(numbers: Numbers) {
     fresh[DRIFT_AT] = drift as u8;
     fresh[DRIFT_AT + 1] = (drift >> 8) as u8;
     (0..8).for_each(|i| fresh[READING_AT + i] = (reading >> (8 * i)) as u8);
-    fresh[5_236 + own as usize] = epoch as u8;
+    fresh[5_364 + own as usize] = epoch as u8;
     let (number, bytes) = set_up_in(STATE_BYTES, numbers);
     assert_eq!(number, 0, "{numbers:?}");
     assert!(bytes == fresh, "{numbers:?}");

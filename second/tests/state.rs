@@ -1,24 +1,25 @@
 //! The state's bytes in every call, by both programs: each condition of the form broken on its own,
-//! every bit flipped, damaged places of the senders' clocks, damaged epochs, lengths, and any
-//! bytes.
+//! every bit flipped, damaged fractions, damaged places of the senders' clocks, damaged epochs,
+//! lengths, and any bytes.
 
 use second::asking::ANSWER_BYTES;
 use second::branches::Branches;
 use second::calls::Call;
 use second::clocks::{Readings, Saved, Triple, GREATEST_CLOCK};
 use second::epochs::GREATEST_EPOCH;
-use second::instants::{Interval, GREATEST_END};
+use second::instants::{joined, GREATEST_END};
 use second::lent::Lent;
 use second::message::{Message, MESSAGE_BYTES};
 use second::predicates::{Predicate, Term, ALL_NAMES, GREATEST_NAME, NAMES};
 use second::random::Random;
-use second::samples::{clocks, epochs, report, states};
+use second::samples::{clocks, end_within, epochs, report, states};
 use second::state::{
     clock_at, datum_at, entry_at, epoch_at, Datum, State, CLOCK_BYTES, DATUM_BYTES, DATUM_TERMS,
     DRIFT_AT, ENTRY_BYTES, ENTRY_COUNT_AT, ENTRY_TERMS, GREATEST_DRIFT, GREATEST_READING,
-    HELD_COUNT_AT, MASKS_AT, MASK_BYTES, MOST_DATA, MOST_ENTRIES, OWN_AT, READING_AT, RIGHT_AT,
-    STATE_BYTES, TERM_COUNT_AT, TRIPLES_AT,
+    HELD_COUNT_AT, LEFT_MILLIONTHS_AT, MASKS_AT, MASK_BYTES, MOST_DATA, MOST_ENTRIES, OWN_AT,
+    READING_AT, RIGHT_AT, RIGHT_MILLIONTHS_AT, STATE_BYTES, TERM_COUNT_AT, TRIPLES_AT,
 };
+use std::cmp::Ordering;
 use std::collections::BTreeMap;
 
 // ---- what is compared
@@ -292,6 +293,207 @@ fn state_ends_out_of_order_or_range_are_25() {
     }
 }
 
+// ---- fractions
+
+/// The row at a position with these ends: whole microseconds and millionths of each.
+fn with_ends(state: &State, i: usize, left: (u64, u32), right: (u64, u32)) -> Vec<u8> {
+    let mut bytes = changed(state, datum_at(i), &left.0.to_le_bytes());
+    let mut put = |at: usize, number: &[u8]| {
+        bytes[datum_at(i) + at..][..number.len()].copy_from_slice(number);
+    };
+    put(RIGHT_AT, &right.0.to_le_bytes());
+    put(LEFT_MILLIONTHS_AT, &left.1.to_le_bytes());
+    put(RIGHT_MILLIONTHS_AT, &right.1.to_le_bytes());
+    bytes
+}
+
+#[test]
+fn state_fraction_of_999_999_is_in_form_and_1_000_000_is_25() {
+    let (last, past) = (999_999, [1_000_000, 1_000_001, 1 << 20, 1 << 24, 1 << 31, u32::MAX]);
+    for state in [some(), full(), watched()] {
+        for i in 0..state.held.len() {
+            for millionths in [0, 1, 500_000, last] {
+                in_form(&with_ends(&state, i, (10, millionths), (20, 0)));
+                in_form(&with_ends(&state, i, (10, 0), (20, millionths)));
+                in_form(&with_ends(&state, i, (10, millionths), (20, last)));
+            }
+            for millionths in past {
+                out_of_form(&with_ends(&state, i, (10, millionths), (20, 0)));
+                out_of_form(&with_ends(&state, i, (10, 0), (20, millionths)));
+                // Compared as one number the ends would be in order.
+                out_of_form(&with_ends(&state, i, (10, millionths), (u64::from(millionths), 0)));
+            }
+        }
+    }
+}
+
+#[test]
+fn state_ends_in_one_microsecond_are_compared_by_their_fractions() {
+    for whole in [0, 10, 1 << 32, GREATEST_END - 1] {
+        for i in 0..3 {
+            for (left, right) in [(0, 0), (0, 1), (1, 1), (5, 999_999), (999_999, 999_999)] {
+                in_form(&with_ends(&some(), i, (whole, left), (whole, right)));
+            }
+            for (left, right) in [(1, 0), (2, 1), (999_999, 0), (999_999, 999_998), (256, 255)] {
+                out_of_form(&with_ends(&some(), i, (whole, left), (whole, right)));
+                in_form(&with_ends(&some(), i, (whole, left), (whole + 1, 0)));
+            }
+            // The wholes come first.
+            out_of_form(&with_ends(&some(), i, (whole + 1, 0), (whole, 999_999)));
+        }
+    }
+}
+
+#[test]
+fn state_greatest_end_with_a_fraction_is_25() {
+    let top = GREATEST_END;
+    for i in 0..3 {
+        in_form(&with_ends(&some(), i, (0, 5), (top, 0)));
+        in_form(&with_ends(&some(), i, (top, 0), (top, 0)));
+        in_form(&with_ends(&some(), i, (top - 1, 999_999), (top, 0)));
+        in_form(&with_ends(&some(), i, (top - 1, 999_999), (top - 1, 999_999)));
+        for millionths in [1, 2, 500_000, 999_999] {
+            out_of_form(&with_ends(&some(), i, (0, 5), (top, millionths)));
+            out_of_form(&with_ends(&some(), i, (top, 0), (top, millionths)));
+            out_of_form(&with_ends(&some(), i, (top, millionths), (top, millionths)));
+            out_of_form(&with_ends(&some(), i, (top, millionths), (top, 0)));
+        }
+    }
+}
+
+#[test]
+fn state_fraction_in_an_unused_place_is_25() {
+    for state in [State::fresh(0, 0, 0), some()] {
+        for i in state.held.len()..MOST_DATA {
+            for at in [LEFT_MILLIONTHS_AT, RIGHT_MILLIONTHS_AT] {
+                for byte in 0..4 {
+                    out_of_form(&changed(&state, datum_at(i) + at + byte, &[1]));
+                }
+            }
+        }
+    }
+}
+
+#[test]
+fn state_fractions_stand_behind_the_masks_of_their_datum() {
+    assert_eq!((datum_at(0), datum_at(1), entry_at(0), clock_at(0)), (24, 84, 984, 3_160));
+    let state = State { held: vec![Datum::exact(2_000_003, 5_000_258, &[2])], ..some() };
+    let mut bytes = state.bytes();
+    assert_eq!(bytes[24 + 52..24 + 60], [3, 0, 0, 0, 2, 1, 0, 0]);
+    in_form(&bytes);
+    bytes[24 + 56..24 + 60].copy_from_slice(&[0x40, 0x42, 0x0f, 0]);
+    out_of_form(&bytes);
+}
+
+/// What is wrong with a datum's ends, as document 02 words it; or what they are.
+#[derive(Clone, Copy, Debug, PartialEq, Eq, PartialOrd, Ord)]
+enum Ends {
+    /// A fraction above 999,999.
+    Range,
+    /// Left above right by the whole microseconds.
+    Order,
+    /// Left above right by the fraction alone.
+    OrderByFraction,
+    /// Right above the greatest end by its fraction alone.
+    PastByFraction,
+    /// No datum, and a byte that is not zero.
+    Unused,
+    /// In order by the fraction alone.
+    ByFraction,
+    /// The greatest end.
+    Greatest,
+    /// All others that are in form.
+    Sound,
+}
+
+impl Ends {
+    /// Of the row at a position where so many are held.
+    fn of(bytes: &[u8], i: usize, held: usize) -> Ends {
+        let row = &bytes[24 + 60 * i..24 + 60 * (i + 1)];
+        if i >= held {
+            return if row.iter().all(|&byte| byte == 0) { Ends::Sound } else { Ends::Unused };
+        }
+        let number = |from: usize, to: usize| {
+            row[from..to].iter().rev().fold(0, |n, &byte| n << 8 | u64::from(byte))
+        };
+        let (left, right) = ((number(0, 8), number(52, 56)), (number(8, 16), number(56, 60)));
+        match (left.0.cmp(&right.0), left.1.cmp(&right.1)) {
+            _ if left.1.max(right.1) > 999_999 => Ends::Range,
+            (Ordering::Greater, _) => Ends::Order,
+            (Ordering::Equal, Ordering::Greater) => Ends::OrderByFraction,
+            _ if right.0 == (1 << 58) - 1 && right.1 > 0 => Ends::PastByFraction,
+            _ if right.0 == (1 << 58) - 1 => Ends::Greatest,
+            (Ordering::Equal, Ordering::Less) => Ends::ByFraction,
+            _ => Ends::Sound,
+        }
+    }
+
+    fn in_form(self) -> bool {
+        matches!(self, Ends::ByFraction | Ends::Greatest | Ends::Sound)
+    }
+}
+
+/// By what is wrong, where one datum is; by what they are, where all are in form.
+#[derive(Default)]
+struct DamagedEnds(BTreeMap<Ends, u64>);
+
+impl DamagedEnds {
+    /// Counts a state. Whether it is in form.
+    fn count(&mut self, bytes: &[u8]) -> bool {
+        let held = usize::from(bytes[16]);
+        let all: Vec<Ends> = (0..16).map(|i| Ends::of(bytes, i, held)).collect();
+        let wrong: Vec<Ends> = all.iter().copied().filter(|ends| !ends.in_form()).collect();
+        match wrong[..] {
+            [] => {
+                let kinds = [Ends::ByFraction, Ends::Greatest, Ends::Sound];
+                for kind in kinds.into_iter().filter(|kind| all.contains(kind)) {
+                    *self.0.entry(kind).or_default() += 1;
+                }
+            }
+            [ends] => *self.0.entry(ends).or_default() += 1,
+            _ => {}
+        }
+        wrong.is_empty()
+    }
+
+    fn check(&self, numbers: &Numbers, enough: u64) {
+        report(&format!(
+            "200,000 states with damaged fractions: one out of form, or all in form {:?}, numbers \
+             {numbers:?}\n",
+            self.0
+        ));
+        for ends in [
+            Ends::Range,
+            Ends::Order,
+            Ends::OrderByFraction,
+            Ends::PastByFraction,
+            Ends::Unused,
+            Ends::ByFraction,
+            Ends::Greatest,
+            Ends::Sound,
+        ] {
+            assert!(self.0.get(&ends) >= Some(&enough), "{ends:?}: {:?}", self.0);
+        }
+        answered_both_ways(numbers, enough);
+    }
+}
+
+#[test]
+fn state_damaged_fractions_are_answered_alike() {
+    let mut damaged = DamagedEnds::default();
+    let fill = |random: &mut Random, state: &mut State| {
+        for _ in state.held.len()..random.index(4) {
+            let (low, more) = (random.below(9), random.below(3));
+            let (one, other) = (end_within(random, low), end_within(random, low + more));
+            let terms = [1 << ((state.own + 1) % NAMES)];
+            state.held.push(Datum::exact(one.min(other), one.max(other), &terms));
+        }
+    };
+    let count = |bytes: &[u8], _| damaged.count(bytes);
+    let numbers = damaged_are_25(200_000, fill, states::damage_fraction, count);
+    damaged.check(&numbers, 1_000);
+}
+
 #[test]
 fn state_term_count_of_0_is_25() {
     for i in 0..MOST_DATA {
@@ -330,22 +532,18 @@ fn state_term_count_above_8_or_16_is_25() {
 
 #[test]
 fn state_ninth_term_that_fits_is_25() {
-    // Behind a datum's masks stands the next one's left end, which would do as a ninth term.
+    // Behind a datum's masks stand its left millionths, which would do as a ninth term, and its
+    // right ones as a tenth.
     let ninth = DATUM_TERMS as u32 + 1;
-    for i in 0..MOST_DATA - 1 {
-        let mut state = full();
-        state.held[i + 1].interval = Interval { left: 1 << 20, right: 1 << 20 };
+    let few: Vec<Term> = (0..DATUM_TERMS as u32).map(|n| 1 | 2 << n).collect();
+    for i in 0..MOST_DATA {
+        let mut state = rows(&[1; MOST_DATA], &[ENTRY_TERMS]);
+        state.own = GREATEST_NAME;
+        state.held[i] = Datum::exact(joined(7, 1 | 2 << 8), joined(9, 1 | 2 << 9), &few);
         in_form(&state.bytes());
-        out_of_form(&changed(&state, term_count_at(i), &ninth.to_le_bytes()));
-    }
-    // Behind the last one stands the first entry's count, behind the last entry any byte.
-    let few: Vec<Term> = [3, 5, 6, 9, 10, 12].to_vec();
-    let mut state = rows(&[1; MOST_DATA], &[ENTRY_TERMS]);
-    state.own = GREATEST_NAME;
-    state.held[MOST_DATA - 1].predicate = Predicate::of(&few);
-    in_form(&state.bytes());
-    for count in few.len() as u32 + 1..=ninth {
-        out_of_form(&changed(&state, term_count_at(MOST_DATA - 1), &count.to_le_bytes()));
+        for count in [ninth, ninth + 1, ninth + 2] {
+            out_of_form(&changed(&state, term_count_at(i), &count.to_le_bytes()));
+        }
     }
     let seventeenth = ENTRY_TERMS as u32 + 1;
     let last = changed(&full(), entry_at(MOST_ENTRIES - 1), &seventeenth.to_le_bytes());
@@ -456,7 +654,8 @@ fn unused(state: &State) -> Vec<usize> {
     let mut places: Vec<usize> = no_data.chain(no_entries).collect();
     let behind = |count_at: usize, p: &[Term]| count_at + MASKS_AT + MASK_BYTES * p.len();
     for (i, datum) in state.held.iter().enumerate() {
-        places.extend(behind(term_count_at(i), &datum.predicate)..datum_at(i + 1));
+        let masks_end = datum_at(i) + LEFT_MILLIONTHS_AT;
+        places.extend(behind(term_count_at(i), &datum.predicate)..masks_end);
     }
     for (i, entry) in state.entries.iter().enumerate() {
         places.extend(behind(entry_at(i), entry)..entry_at(i + 1));
@@ -749,9 +948,9 @@ fn state_epoch_of_15_is_in_form_and_16_is_25_in_every_call() {
 
 #[test]
 fn state_epochs_stand_behind_the_clocks_by_identifier() {
-    assert_eq!((epoch_at(0), epoch_at(28), STATE_BYTES), (5_236, 5_264, 5_265));
+    assert_eq!((epoch_at(0), epoch_at(28), STATE_BYTES), (5_364, 5_392, 5_393));
     // The byte before them is the last of a triple, and the one behind them is not looked at.
-    out_of_form(&changed(&State::fresh(5, 0, 0), 5_235, &[1]));
+    out_of_form(&changed(&State::fresh(5, 0, 0), 5_363, &[1]));
     in_form(&[&State::fresh(5, 0, 0).bytes()[..], &[16, 255]].concat());
 }
 
@@ -768,7 +967,7 @@ struct DamagedEpochs {
 impl DamagedEpochs {
     /// Counts a state. Whether it is in form.
     fn count(&mut self, bytes: &[u8], own: u32) -> bool {
-        let epochs = &bytes[5_236..5_265];
+        let epochs = &bytes[5_364..5_393];
         let wrong: Vec<usize> = (0..epochs.len()).filter(|&n| epochs[n] > 15).collect();
         if let [n] = wrong[..] {
             self.alone[n] += 1;
@@ -839,7 +1038,9 @@ fn few_numbers_among_zeros_are_answered_alike() {
     // Those of the head, of the first datum and of the first entry; of long ones both halves.
     let head = [OWN_AT, DRIFT_AT, READING_AT, READING_AT + 4, HELD_COUNT_AT, ENTRY_COUNT_AT];
     let masks = [MASKS_AT, MASKS_AT + MASK_BYTES];
-    let datum = [0, RIGHT_AT, RIGHT_AT + 4, TERM_COUNT_AT].map(|at| datum_at(0) + at);
+    let ends = [0, RIGHT_AT, RIGHT_AT + 4, LEFT_MILLIONTHS_AT, RIGHT_MILLIONTHS_AT];
+    let datum = [&ends[..], &[TERM_COUNT_AT]].concat();
+    let datum: Vec<usize> = datum.into_iter().map(|at| datum_at(0) + at).collect();
     let datum_masks = masks.map(|at| term_count_at(0) + at);
     let entry = [0, masks[0], masks[1]].map(|at| entry_at(0) + at);
     let clock = [0, TRIPLES_AT, TRIPLES_AT + 4].map(|at| clock_at(3) + at);

@@ -241,7 +241,7 @@ impl Made {
     fn count(&mut self, receipt: &Receipt, number: u32, after: &State) {
         let Receipt { before, message, new, entry } = receipt;
         let equal = |sum: &Sum| ("with equal masks", sum.distinct() < sum.terms.len());
-        if after.held.iter().any(|datum| datum.interval == message.interval) {
+        if after.held.iter().any(|datum| datum.interval == message.interval.exact()) {
             let named = ("the receiver named", new.terms.len() < 1 + message.terms.len());
             count(&mut self.data, new, DATUM_TERMS, &[equal(new), named]);
         }

@@ -1,12 +1,12 @@
 //! Writing a held datum, by both programs: edges by name, then seeded states.
 
 use second::epochs::{FIRST_EPOCHS, GREATEST_EPOCH};
-use second::instants::GREATEST_END;
+use second::instants::{Interval, GREATEST_END, GREATEST_INSTANT};
 use second::lent::{compare, Lent};
 use second::message::{self, ends_form_bytes, Message, MESSAGE_BYTES, MOST_WORDS};
 use second::predicates::{ALL_NAMES, GREATEST_NAME, NAMES};
 use second::random::Random;
-use second::samples::states;
+use second::samples::{rounds_outward, states};
 use second::state::{Datum, State, DATUM_TERMS, MOST_DATA, MOST_ENTRIES, OWN_AT, STATE_BYTES};
 use second::{engine, writing};
 
@@ -120,6 +120,28 @@ fn write_high_and_low_words_of_the_ends() {
 }
 
 #[test]
+fn write_rounds_the_left_end_down_and_the_right_end_up() {
+    let cases = [
+        ((999_900, 11_000_100), (0, 12)),
+        ((999_999, 1_000_001), (0, 2)),
+        ((1_000_000, 1_000_000), (1, 1)),
+        ((5_200_000, 5_900_000), (5, 6)),
+        ((5_000_001, 5_000_001), (5, 6)),
+        ((5_999_999, 6_000_000), (5, 6)),
+        (((1 << 29) * 1_000_000 - 1, (1 << 29) * 1_000_000 + 1), ((1 << 29) - 1, (1 << 29) + 1)),
+        ((GREATEST_INSTANT - 1, GREATEST_INSTANT), (GREATEST_END - 1, GREATEST_END)),
+        ((GREATEST_INSTANT - 999_999, GREATEST_INSTANT - 1), (GREATEST_END - 1, GREATEST_END)),
+        ((GREATEST_INSTANT, GREATEST_INSTANT), (GREATEST_END, GREATEST_END)),
+    ];
+    for ((left, right), (whole_left, whole_right)) in cases {
+        let state = holding(9, vec![Datum::exact(left, right, &[2])]);
+        let message = message::read(&written(&state, 0)).expect("a sound message");
+        let wanted = Interval { left: whole_left, right: whole_right };
+        assert_eq!(message.interval, wanted, "{left} {right}");
+    }
+}
+
+#[test]
 fn write_least_and_greatest_ends_and_names() {
     for own in [0, GREATEST_NAME] {
         let name = 1 << (GREATEST_NAME - own);
@@ -136,7 +158,7 @@ fn write_position_0_is_the_oldest() {
     for position in 0..MOST_DATA as u64 {
         let message = message::read(&written(&state, position)).expect("a sound message");
         let datum = state.held[position as usize];
-        assert_eq!(message.interval, datum.interval);
+        assert_eq!(message.interval.exact(), datum.interval);
         assert_eq!(message.terms[..], datum.predicate[..]);
     }
 }
@@ -194,7 +216,7 @@ fn write_several_flaws_is_the_first_of_24_25_23_24() {
 
 #[test]
 fn write_every_datum_of_any_state_reads_back() {
-    let (mut mended, mut longest) = (0, 0);
+    let (mut mended, mut longest, mut fractions) = (0, 0, 0);
     for seed in 0..5_000 {
         let state = states::in_form(&mut Random::new(seed));
         for (position, datum) in state.held.iter().enumerate() {
@@ -206,9 +228,15 @@ fn write_every_datum_of_any_state_reads_back() {
             }
             mended += u64::from(epochs != FIRST_EPOCHS);
             longest = longest.max(words.len());
-            let message = Message { sender: state.own, epochs, interval: datum.interval, terms };
-            assert_eq!(message::read(&words), Ok(message), "seed {seed}");
+            let read = message::read(&words).expect("a sound message");
+            let interval = read.interval;
+            assert!(rounds_outward(interval, datum.interval), "seed {seed}: {read:?}, {datum:?}");
+            fractions += u64::from(interval.exact() != datum.interval);
+            assert_eq!(read, Message { sender: state.own, epochs, interval, terms }, "seed {seed}");
         }
     }
-    assert!(mended > 2_000 && longest > 36, "{mended}, {longest}");
+    assert!(
+        mended > 2_000 && longest > 36 && fractions > 10_000,
+        "{mended}, {longest}, {fractions}"
+    );
 }

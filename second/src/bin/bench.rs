@@ -193,8 +193,8 @@ const FULL_GOALS: Goals = Goals { form: Some(10.), receive: Some(46.), ask: [10.
 /// all saved.
 fn filled(effort: Effort, count: usize, filling: Filling, goals: Goals) {
     let near = filling.loads(count, false);
-    let (far, mended) = (filling.loads(count, filling.entries > 0), near.iter().map(Load::mended));
-    let loads = [mended.collect(), near, far];
+    let mended = near.iter().filter_map(Load::mended).collect();
+    let loads = [mended, near, filling.loads(count, filling.entries > 0)];
     let none = loads.each_ref().map(|loads| loads.iter().map(Case::new).collect());
     calls(effort, filling, filling.name, none, &goals);
     let all = loads.map(|loads| loads.iter().map(|load| Case::new(&load.with_clocks())).collect());

@@ -77,6 +77,7 @@ fn datum(random: &mut Random, most: u64) -> Datum {
 
 fn interval(random: &mut Random) -> Interval {
     let (one, other) = (random.below(SPAN), random.below(SPAN));
+    let (one, other) = (super::end_within(random, one), super::end_within(random, other));
     Interval { left: one.min(other), right: one.max(other) }
 }
 

@@ -33,12 +33,14 @@ impl Load {
     }
 
     /// The same with the message that its sender would have sent once it was mended: to receive it
-    /// withdraws the old name.
-    pub fn mended(&self) -> Load {
+    /// withdraws the old name. None where there is no room for what comes of it.
+    pub fn mended(&self) -> Option<Load> {
         let words = message::words_of(&self.message).expect("whole words");
         let message = message::read(&words).expect("a sound message");
         let sender = message.sender;
-        Load { state: self.state.clone(), message: message.at(&[(sender, 1)]).bytes() }
+        let message = message.at(&[(sender, 1)]).bytes();
+        let taken = receiving::call(&mut self.state.clone(), 10, 60, None, &message) == 0;
+        taken.then(|| Load { state: self.state.clone(), message })
     }
 }
 

@@ -6,7 +6,7 @@ use crate::calls::Call;
 use crate::claims::places;
 use crate::clocks::{Readings, Triple, GREATEST_CLOCK};
 use crate::epochs::{Epochs, GREATEST_EPOCH};
-use crate::instants::{Interval, GREATEST_END};
+use crate::instants::{split, Interval, GREATEST_END};
 use crate::message::{bytes_of, named, MOST_TERMS};
 use crate::predicates::{holds, normal, Predicate, Term, GREATEST_NAME, NAMES};
 use crate::random::Random;
@@ -32,6 +32,8 @@ pub struct World {
     epoch: u8,
     /// Once in so many names a message brings another epoch than the known one.
     steady: u64,
+    /// Once in so many messages one is about a held datum.
+    about: u64,
     /// Senders and terms name those below it.
     names: u64,
     /// Intervals lie from here on at the start of the run, and move on with the reading.
@@ -53,6 +55,7 @@ impl World {
             reading: random.pick(&[0, 5, 1_000_000, GREATEST_READING - 3 * span]),
             epoch: own_epoch(random),
             steady: 40,
+            about: 10,
             names,
             base: random.pick(&[0, 0, 0, 1 << 29, GREATEST_END - 3 * span]),
             span,
@@ -75,6 +78,7 @@ impl World {
             reading: random.below(1_000_000),
             epoch: own_epoch(random),
             steady: 200,
+            about: 5,
             names: random.pick(&[12, 20, NAMES]).into(),
             base: random.pick(&[0, 1 << 29, 1 << 40]),
             span: 1000,
@@ -84,13 +88,14 @@ impl World {
 
     /// Few names and small numbers in any state.
     pub fn around(random: &mut Random, state: &State) -> World {
-        let left = state.held.first().map_or(0, |datum| datum.interval.left);
+        let left = state.held.first().map_or(0, |datum| split(datum.interval.left).0);
         World {
             own: state.own,
             drift: state.drift,
             reading: state.reading,
             epoch: state.epochs[state.own as usize],
             steady: 12,
+            about: 2,
             names: random.pick(&[3, 4, 5, 8, NAMES]).into(),
             base: random.pick(&[0, 0, left]),
             span: random.pick(&[12, 40]),
@@ -212,8 +217,11 @@ impl World {
 
     /// The bytes of a message whose parts are small, damaged now and then.
     fn message(&self, random: &mut Random, state: &State, delay: u64) -> Vec<u8> {
-        let (sender, terms) = self.predicate(random, state);
-        let interval = self.interval(random, state, delay);
+        let about = random.once_in(self.about).then(|| self.about_held(random, state)).flatten();
+        let (sender, terms, interval) = about.unwrap_or_else(|| {
+            let (sender, terms) = self.predicate(random, state);
+            (sender, terms, self.interval(random, state, delay))
+        });
         let epochs = self.epochs(random, state, named(sender, &terms));
         let mut words = super::sealed(sender, &epochs, &in_any_form(random, interval), &terms);
         if random.once_in(12) {
@@ -266,6 +274,30 @@ impl World {
         (sender, self.terms(random))
     }
 
+    /// Sender, terms and interval about those of a held datum, so that a fraction can decide: its
+    /// predicate, with a term more or with fewer, and ends in the same microseconds or the next. None
+    /// where nothing is held, or where the predicate has no term for a sender.
+    fn about_held(
+        &self,
+        random: &mut Random,
+        state: &State,
+    ) -> Option<(u32, Vec<Term>, Interval<u64>)> {
+        let held = state.held.get(random.index(state.held.len().max(1)))?;
+        let mut terms = held.predicate.to_vec();
+        let sender = *terms.iter().find(|t| t.is_power_of_two())?;
+        match random.below(4) {
+            0 => terms.push(1 << random.below(self.names)),
+            1 | 2 => terms.retain(|&t| t == sender || random.once_in(2)),
+            _ => {}
+        }
+        terms = normal(&terms);
+        terms.truncate(MOST_TERMS as usize);
+        let Interval { left, right } = held.interval.rounded();
+        let right = right - u64::from(random.once_in(2) && left < right);
+        let left = random.pick(&[left, left, left + 1]).min(right);
+        Some((sender.trailing_zeros(), terms, Interval { left, right }))
+    }
+
     /// Adds a name but these to a term that has none of them, or takes one from it: once the name
     /// is mended the predicate is the same as before.
     fn vary(&self, random: &mut Random, terms: &mut Vec<Term>, but: Term) {
@@ -310,7 +342,7 @@ impl World {
     }
 
     /// An interval as it is sent, so long before.
-    fn interval(&self, random: &mut Random, state: &State, delay: u64) -> Interval {
+    fn interval(&self, random: &mut Random, state: &State, delay: u64) -> Interval<u64> {
         let from = self.base + state.reading.saturating_sub(self.reading);
         let Interval { left, right } = if !state.held.is_empty() && random.once_in(4) {
             near(random, state)
@@ -322,6 +354,9 @@ impl World {
         };
         let right = right.min(GREATEST_END);
         let here = Interval { left: left.min(right), right };
+        if delay <= GREATEST_DELAY && random.once_in(40) {
+            return past(delay, state.drift).unwrap_or(here);
+        }
         if SLEPT.contains(&delay) && !random.once_in(4) {
             return before(random, here, delay, state.drift);
         }
@@ -329,7 +364,7 @@ impl World {
     }
 
     /// One place, or several beside each other, or far from all.
-    fn placed(&self, random: &mut Random, from: u64) -> Interval {
+    fn placed(&self, random: &mut Random, from: u64) -> Interval<u64> {
         let place = random.below(self.places);
         let left = from + 100 * place;
         match random.below(10) {
@@ -411,19 +446,29 @@ fn slept(random: &mut Random, more: u64) -> (u64, u64) {
     (random.pick(&[greatest, greatest - more, greatest - more, least]), greatest)
 }
 
-/// The interval that grows to this right end in a delay, or to one past it, if there is room below.
-fn before(random: &mut Random, here: Interval, delay: u64, drift: u32) -> Interval {
-    let (_, greatest) = advance(delay, drift);
-    let gained = greatest - u64::from(random.once_in(3));
+/// The interval that grows to the microsecond before this right end in a delay, or past this end by
+/// less than another, if there is room below.
+fn before(random: &mut Random, here: Interval<u64>, delay: u64, drift: u32) -> Interval<u64> {
+    let gained = Interval { left: 0, right: advance(delay, drift).1 }.rounded().right;
+    let gained = gained - u64::from(random.once_in(3));
     match here.right.checked_sub(gained) {
         Some(right) => Interval { left: here.left.saturating_sub(gained), right },
         None => here,
     }
 }
 
-/// Ends that are those of a held datum, or next to them.
-fn near(random: &mut Random, state: &State) -> Interval {
-    let Interval { left, right } = state.held[random.index(state.held.len())].interval;
+/// The interval that grows past the greatest end by its fraction alone, if the delay has one.
+fn past(delay: u64, drift: u32) -> Option<Interval<u64>> {
+    let (gained, millionths) = split(advance(delay, drift).1);
+    let end = GREATEST_END - gained;
+    (millionths > 0).then_some(Interval { left: end, right: end })
+}
+
+/// Ends that are about those of a held datum, or next to them.
+fn near(random: &mut Random, state: &State) -> Interval<u64> {
+    let held = state.held[random.index(state.held.len())].interval;
+    let inner = Interval { left: held.rounded().left, right: split(held.right).0 };
+    let Interval { left, right } = random.pick(&[inner, held.rounded()]);
     let (low, high) = (random.pick(&[0, 0, 1, 2]), random.pick(&[0, 0, 1, 2]));
     let (one, other) = match random.below(5) {
         0 => (left.saturating_sub(low), right + high),
@@ -436,7 +481,7 @@ fn near(random: &mut Random, state: &State) -> Interval {
 }
 
 /// The interval's words, in centre form now and then if it has one.
-fn in_any_form(random: &mut Random, Interval { left, right }: Interval) -> Vec<u32> {
+fn in_any_form(random: &mut Random, Interval { left, right }: Interval<u64>) -> Vec<u32> {
     let width = right - left;
     if width.is_multiple_of(2) && width < 1 << 29 && random.once_in(2) {
         super::centre_form(left + width / 2, width / 2)

@@ -1,13 +1,14 @@
 //! Seeded states: in form, whether calls would reach them or not, and damaged ones.
 
 use crate::epochs::GREATEST_EPOCH;
-use crate::instants::{Interval, GREATEST_END};
+use crate::instants::{Instant, Interval, GREATEST_END};
 use crate::predicates::{normal, Predicate, Term, ALL_NAMES, GREATEST_NAME, NAMES};
 use crate::random::Random;
 use crate::state::{
-    clock_at, epoch_at, Datum, State, CLOCKS_AT, CLOCK_BYTES, DATA_AT, DATUM_BYTES, DATUM_TERMS,
-    DRIFT_AT, ENTRIES_AT, ENTRY_BYTES, ENTRY_COUNT_AT, ENTRY_TERMS, EPOCHS_AT, GREATEST_DRIFT,
-    GREATEST_READING, HELD_COUNT_AT, MOST_DATA, MOST_ENTRIES, OWN_AT, READING_AT, STATE_BYTES,
+    clock_at, datum_at, epoch_at, Datum, State, CLOCKS_AT, CLOCK_BYTES, DATA_AT, DATUM_BYTES,
+    DATUM_TERMS, DRIFT_AT, ENTRIES_AT, ENTRY_BYTES, ENTRY_COUNT_AT, ENTRY_TERMS, EPOCHS_AT,
+    GREATEST_DRIFT, GREATEST_MILLIONTHS, GREATEST_READING, HELD_COUNT_AT, LEFT_MILLIONTHS_AT,
+    MOST_DATA, MOST_ENTRIES, OWN_AT, READING_AT, RIGHT_AT, RIGHT_MILLIONTHS_AT, STATE_BYTES,
     TERM_COUNT_AT, TRIPLES_AT,
 };
 
@@ -43,6 +44,9 @@ fn count(random: &mut Random, most: usize) -> usize {
 fn datum(random: &mut Random, own: u32, names: u64, small: bool) -> Datum {
     let mut end = || if small { random.below(40) } else { super::end(random) };
     let (one, other) = (end(), end());
+    // Now and then in one microsecond.
+    let other = random.pick(&[one, other, other, other]);
+    let (one, other) = (super::end_within(random, one), super::end_within(random, other));
     Datum {
         interval: Interval { left: one.min(other), right: one.max(other) },
         predicate: predicate(random, own, names, DATUM_TERMS),
@@ -72,9 +76,10 @@ struct Suspects {
     names: Vec<u32>,
     /// The first so many of them may have failed.
     failed: usize,
-    /// Intervals lie from here on.
+    /// Ends lie in so many microseconds from here on.
     base: u64,
-    instant: u64,
+    span: u64,
+    instant: Instant,
 }
 
 impl Suspects {
@@ -84,7 +89,17 @@ impl Suspects {
         let names = (0..count).map(|_| others.swap_remove(random.index(others.len())));
         let names = names.collect();
         let base = random.pick(&[0, 0, 1 << 29, GREATEST_END - 40]);
-        Suspects { names, failed: random.index(6).min(count), base, instant: random.below(41) }
+        // In a single one only the fractions differ.
+        let span = random.pick(&[1, 3, 8, 41]);
+        let failed = random.index(6).min(count);
+        let mut suspects = Suspects { names, failed, base, span, instant: 0 };
+        suspects.instant = suspects.end(random);
+        suspects
+    }
+
+    fn end(&self, random: &mut Random) -> Instant {
+        let whole = self.base + random.below(self.span);
+        super::end_within(random, whole)
     }
 
     /// A term of at most so many of the names.
@@ -114,7 +129,7 @@ impl Suspects {
 
     /// A datum that the instant is in, or now and then one to be explained.
     fn datum(&self, random: &mut Random) -> Datum {
-        let (one, other) = (random.below(41), random.below(41));
+        let (one, other) = (self.end(random), self.end(random));
         let (mut left, mut right) = (one.min(other), one.max(other));
         let astray = random.once_in(4);
         if !astray {
@@ -122,7 +137,7 @@ impl Suspects {
         }
         let explained = astray && !random.once_in(20);
         Datum {
-            interval: Interval { left: self.base + left, right: self.base + right },
+            interval: Interval { left, right },
             predicate: self.predicate(random, DATUM_TERMS, explained),
         }
     }
@@ -186,7 +201,7 @@ pub fn damage(random: &mut Random, bytes: &mut [u8]) {
     let at = place(random, bytes);
     let word = word_at(at);
     let small = random.index(MOST_ENTRIES + 2) as u32;
-    match random.below(9) {
+    match random.below(10) {
         0 | 1 => bytes[at] ^= 1 << random.below(8),
         2 => bytes[at] = bytes[at].wrapping_add(random.pick(&[1, 255])),
         3 => put(bytes, word, random.pick(&[0, 1, small, 1 << 28, 1 << 29, u32::MAX])),
@@ -194,6 +209,7 @@ pub fn damage(random: &mut Random, bytes: &mut [u8]) {
         5 => put(bytes, random.pick(&NUMBERS), small),
         6 => damage_clock(random, bytes),
         7 => damage_epoch(random, bytes),
+        8 => damage_fraction(random, bytes),
         _ => {
             let from = word_at(place(random, bytes));
             bytes.copy_within(from..from + 4, word);
@@ -218,6 +234,30 @@ pub fn damage_epoch(random: &mut Random, bytes: &mut [u8]) {
     let at = epoch_at(random.below(NAMES.into()) as u32);
     let (most, any) = (GREATEST_EPOCH, random.bits() as u8);
     bytes[at] = random.pick(&[most, most, most + 1, most + 1, 32, 64, 128, 255, any, any & most]);
+}
+
+/// Other ends for a datum: a fraction about the greatest or far above it, one where there is no
+/// datum, the two fractions or the wholes changed round, both ends in one microsecond, or the right
+/// one in the greatest, with or without its fraction.
+pub fn damage_fraction(random: &mut Random, bytes: &mut [u8]) {
+    let held = usize::from(bytes[HELD_COUNT_AT]).clamp(1, MOST_DATA);
+    let (place, any_place) = (random.index(held), random.index(MOST_DATA));
+    let row = datum_at(random.pick(&[place, place, place, any_place]));
+    let (left, right) = (row + LEFT_MILLIONTHS_AT, row + RIGHT_MILLIONTHS_AT);
+    let (most, any) = (GREATEST_MILLIONTHS, random.bits() as u32);
+    match random.below(6) {
+        0 | 1 => {
+            let edges = [0, 1, most - 1, most, most, most + 1, most + 1, most + 2, u32::MAX, any];
+            put(bytes, random.pick(&[left, right]), random.pick(&edges));
+        }
+        2 => (0..4).for_each(|i| bytes.swap(left + i, right + i)),
+        3 => bytes.copy_within(row..row + 8, row + RIGHT_AT),
+        4 => (0..8).for_each(|i| bytes.swap(row + i, row + RIGHT_AT + i)),
+        _ => {
+            bytes[row + RIGHT_AT..][..8].copy_from_slice(&GREATEST_END.to_le_bytes());
+            put(bytes, right, random.pick(&[0, 0, 1, most, any % (most + 1)]));
+        }
+    }
 }
 
 /// The four bytes of a state that a place is in; the last ones are counted from its end.

@@ -23,7 +23,8 @@ ask 2
 fewest
 ";
 
-/// And what it prints, delays counting by the ageing rule (document 02, W-202).
+/// And what it prints, delays counting by the ageing rule (document 02, W-202): 1,000,250.005 and
+/// 3,000,450.005 are rounded up (W-205).
 pub const PRINTED: &str = "\
 ok
 ok
