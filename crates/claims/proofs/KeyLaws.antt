@@ -4,7 +4,6 @@
 -- No contract cites this file. Assumes nothing.
 use Prim.Native.Nat.{ℕ, zero, suc, _+_, _*_, _-_, _/_, _%_, _^_, _≤_, _<_, min}
 use mathlib.Core.Path.{_≡_, refl, sym, ap, _∙_}
-use mathlib.Core.Logic.{_⊎_, inl, inr}
 use mathlib.Core.Bool.{Bool, true, false, cond}
 use mathlib.Core.List.{List, [], _++_}
 use native.Mathlib.Decide.{ℕ-discrete, decLt}
@@ -35,7 +34,7 @@ use Rattle.state.proofs.StoreLaws.{column-front, length-column}
 use Rattle.search.specs.code.Search.{Rows}
 use Rattle.claims.specs.declared.keys.Scale.{Scale}
 use Rattle.claims.specs.code.Keys.{leastWhole, baseOf, countLimit, countable, scaleBy, scaleOf, below, partsMost, rankStep, rankKey, millionthsAt, partsOf}
-use Rattle.claims.specs.code.Keys.{keyBy, stepOf, downBy, upBy, keyOf, lastKey, withEnds, mapped, keyed}
+use Rattle.claims.specs.code.Keys.{Counted, countFrom, keyBy, stepOf, downBy, upBy, keyOf, lastKey, withEnds, mapped, keyed}
 use Rattle.claims.specs.code.Tables.{entryClaim, claimAt, claimLeft, claimRight, Loaded, Bounded}
 use Rattle.claims.proofs.TableLaws.{claim-entry, claim-datum, datum-claim}
 
@@ -192,13 +191,15 @@ module _ (f : ℕ → ℕ) (s : List ℕ) (n i : ℕ) (ends : Ends) (r : ℕ) (l
   unfolding claimRight datumAt endsAt
   claim-right q = rw (le-ltb i n l) (rw e at q)
 
--- the parts are read where they are needed
-pub keys-read : (s l : List ℕ) (scale : Scale) (ranked : ℕ) → scale ≡ scaleOf s
-    → ((scale .counted ≡ true) × (ranked ≡ 0)) ⊎ ((scale .counted ≡ false) × (ranked ≡ heldCount s))
-    → l ≡ tab (ranked * 2) (millionthsAt s) ++ drop (ranked * 2) (zeros partsMost) → (x : ℕ) → keyBy scale l x ≡ keyOf s x
-unfolding keyOf partsOf
-keys-read s l scale ranked c (inl w) e x = rw (← c, w .0)
-keys-read s l scale ranked c (inr w) e x = rw (← c, w .0) (ap (λ (p : List ℕ). rankKey p x) (rw (w .1) at e))
+-- counts are the keys where they fit, and ranks where they do not
+pub counts-key : (s : List ℕ) (base : ℕ) → Counted s base → (x : ℕ) → countFrom base x ≡ keyOf s x
+unfolding keyOf scaleOf
+counts-key s base c x = rw (c .0, c .1)
+
+pub ranks-key : (s l : List ℕ) (h : ℕ) → countable s ≡ false → h ≡ heldCount s → l ≡ tab (h * 2) (millionthsAt s) ++ drop (h * 2) (zeros partsMost)
+    → (x : ℕ) → rankKey l x ≡ keyOf s x
+unfolding keyOf scaleOf partsOf
+ranks-key s l h c e q x = rw c (ap (λ (p : List ℕ). rankKey p x) (rw e at q))
 
 -- ---- keys of a state in form
 
@@ -313,18 +314,16 @@ module _ (s : List ℕ) (t : T (inForm s)) where
         let b = ok .below in
         rw q ((split .0, omega arith), (split .1, omega arith))
 
-    pub ends-counted : (e : Ends) → e ≡ endsAt s i → (c : Scale) → c ≡ scaleOf s → c .counted ≡ true
-        → ((c .base ≤ e .left .whole) × (e .left .whole < c .base + countLimit)) × ((c .base ≤ e .right .whole) × (e .right .whole < c .base + countLimit))
-    unfolding datumAt endsAt scaleOf
-    ends-counted e q c k t =
-        let counted : countable s ≡ true = ap (λ (v : Scale). v .counted) (sym k) ∙ t in
-        let base : c .base ≡ baseOf s = ap (λ (v : Scale). v .base) k ∙ rw counted in
+    pub ends-counted : (e : Ends) → e ≡ endsAt s i → (base : ℕ) → Counted s base
+        → ((base ≤ e .left .whole) × (e .left .whole < base + countLimit)) × ((base ≤ e .right .whole) × (e .right .whole < base + countLimit))
+    unfolding datumAt endsAt
+    ends-counted e q base c =
         let a = ok .ends in
-        let b = counted-right counted in
+        let b = counted-right (c .0) in
         let d = base-left in
         let p = split .0 in
         let r = split .1 in
-        rw (q, base) ((omega arith, omega arith), (omega arith, omega arith))
+        rw (q, c .1) ((omega arith, omega arith), (omega arith, omega arith))
 
     room : (x : ℕ) → x ≤ datumAt s i .right → keyOf s x + stepOf (scaleOf s) ≤ 2 ^ 64
     unfolding keyOf scaleOf datumAt endsAt

@@ -3,7 +3,7 @@
 // rank of the millionths among all that the state holds.
 ghost use mathlib.Core.Path.{_≡_};
 ghost use mathlib.Core.List.{_++_};
-ghost use mathlib.Core.Bool.{true};
+ghost use mathlib.Core.Bool.{true, false};
 ghost use Prim.Native.Nat.{_+_, _*_, _^_, _≤_, _<_};
 ghost use lib.Dec.{T};
 ghost use lib.ListN.{length, drop};
@@ -12,8 +12,8 @@ ghost use Rattle.ends.specs.Ends.{countOf, Split};
 ghost use Rattle.state.specs.Model.{lastWhole};
 ghost use Rattle.state.specs.Layout.{heldCount, stateSize, dataMost, entriesMost};
 ghost use Rattle.state.specs.Form.{inForm};
-ghost use Rattle.claims.specs.code.Keys.{baseOf, countLimit, countable as Keys·countable, scaleOf, below, partsMost, millionthsAt};
-ghost use Rattle.claims.specs.code.Keys.{keyBy, stepOf, downBy, upBy, keyOf};
+ghost use Rattle.claims.specs.code.Keys.{baseOf, countLimit, countable as Keys·countable, Counted, scaleOf, below, partsMost, millionthsAt};
+ghost use Rattle.claims.specs.code.Keys.{countFrom, rankKey, stepOf, downBy, upBy, keyOf};
 ghost use Rattle.claims.specs.code.Tables.{claimLeft, claimRight};
 use ends::End;
 
@@ -64,24 +64,6 @@ fn countable(s: &[u8], h: usize, limit: u64) -> bool
     true
 }
 
-// The scale of the keys of h held data.
-fn find_scale(s: &[u8], h: usize) -> Scale
-    requires { ⌜ (stateSize ≤ length (now s)) × (h ≡ heldCount (now s)) × (h ≤ dataMost) ⌝ }
-    ensures { λ r. ⌜ r ≡ scaleOf (now (s .entry)) ⌝ }
-{
-    let base = first_whole(s, h);
-    if countable(s, h, base + COUNT_LIMIT) {
-        return Scale {
-            counted: true,
-            base,
-        };
-    }
-    Scale {
-        counted: false,
-        base: 0,
-    }
-}
-
 // Reads the millionths of h held data, the left end's and the right end's of each; what stands behind them stays.
 fn get_parts(s: &[u8], h: usize, parts: &mut [u32])
     requires { ⌜ (stateSize ≤ length (now s)) × (h ≤ dataMost) × (h * 2 ≤ length (now parts)) ⌝ }
@@ -110,40 +92,96 @@ fn rank(parts: &[u32; PARTS_MOST], x: u32) -> u32
     r
 }
 
-// The key of an end.
-fn key(scale: Scale, parts: &[u32; PARTS_MOST], e: End) -> u64
-    requires { ⌜ Split e × (e .whole ≤ lastWhole) ⌝ }
-    requires { ⌜ (scale .counted ≡ true → (scale .base ≤ e .whole) × (e .whole < scale .base + countLimit)) ⌝ }
-    ensures { λ r. ⌜ r ≡ keyBy scale (now (parts .entry)) (countOf e) ⌝ }
+// The keys of a claim's ends.
+struct Keys {
+    left: u64,
+    right: u64,
+}
+
+// Of an entry, so that no instant is between them.
+fn entry_keys() -> Keys
+    ensures { λ r. ⌜ (r .left ≡ 1) × (r .right ≡ 0) ⌝ }
 {
-    if scale.counted {
-        return (e.whole - scale.base) * ends::MILLION + e.millionths;
-    }
+    Keys { left: 1, right: 0 }
+}
+
+// The count of an end from the base on.
+fn count_from(base: u64, e: End) -> u64
+    requires { ⌜ Split e × (base ≤ e .whole) × (e .whole < base + countLimit) ⌝ }
+    ensures { λ r. ⌜ r ≡ countFrom base (countOf e) ⌝ }
+{
+    (e.whole - base) * ends::MILLION + e.millionths
+}
+
+// The key of an end by its rank.
+fn rank_key(parts: &[u32; PARTS_MOST], e: End) -> u64
+    requires { ⌜ Split e × (e .whole ≤ lastWhole) ⌝ }
+    ensures { λ r. ⌜ r ≡ rankKey (now (parts .entry)) (countOf e) ⌝ }
+{
     e.whole * RANK_STEP + rank(parts, e.millionths as u32) as u64
 }
 
-// The key of the left end of claim i; 1 of an entry.
-fn left_key(s: &[u8], n: usize, i: usize, scale: Scale, parts: &[u32; PARTS_MOST]) -> u64
-    requires { ⌜ (stateSize ≤ length (now s)) × T (inForm (now s)) × (i < n + heldCount (now s)) × (scale ≡ scaleOf (now s)) ⌝ }
-    ensures { λ r. ⌜ r ≡ claimLeft (keyBy scale (now (parts .entry))) (now (s .entry)) n i ⌝ }
+// The keys of claim i by counts.
+fn counts(s: &[u8], n: usize, i: usize, base: u64) -> Keys
+    requires { ⌜ (stateSize ≤ length (now s)) × T (inForm (now s)) × (i < n + heldCount (now s)) × Counted (now s) base ⌝ }
+    ensures { λ r. ⌜ (r .left ≡ claimLeft (countFrom base) (now (s .entry)) n i) × (r .right ≡ claimRight (countFrom base) (now (s .entry)) n i) ⌝ }
 {
     if i < n {
-        return 1;
+        return entry_keys();
     }
     let ends = state::intervals::get(s, i - n);
-    key(scale, parts, ends.left)
+    let left = count_from(base, ends.left);
+    let right = count_from(base, ends.right);
+    Keys { left, right }
 }
 
-// The key of the right end of claim i; 0 of an entry.
-fn right_key(s: &[u8], n: usize, i: usize, scale: Scale, parts: &[u32; PARTS_MOST]) -> u64
-    requires { ⌜ (stateSize ≤ length (now s)) × T (inForm (now s)) × (i < n + heldCount (now s)) × (scale ≡ scaleOf (now s)) ⌝ }
-    ensures { λ r. ⌜ r ≡ claimRight (keyBy scale (now (parts .entry))) (now (s .entry)) n i ⌝ }
+// The same by ranks.
+fn ranks(s: &[u8], n: usize, i: usize, parts: &[u32; PARTS_MOST]) -> Keys
+    requires { ⌜ (stateSize ≤ length (now s)) × T (inForm (now s)) × (i < n + heldCount (now s)) ⌝ }
+    ensures { λ r. ⌜ (r .left ≡ claimLeft (rankKey (now (parts .entry))) (now (s .entry)) n i)
+        × (r .right ≡ claimRight (rankKey (now (parts .entry))) (now (s .entry)) n i) ⌝ }
 {
     if i < n {
-        return 0;
+        return entry_keys();
     }
     let ends = state::intervals::get(s, i - n);
-    key(scale, parts, ends.right)
+    let left = rank_key(parts, ends.left);
+    let right = rank_key(parts, ends.right);
+    Keys { left, right }
+}
+
+// Makes the keys of all claims by counts: of n entries, and then of the held data.
+fn put_counts(s: &[u8], n: usize, rows: usize, base: u64, lefts: &mut [u64], rights: &mut [u64])
+    requires { ⌜ (stateSize ≤ length (now s)) × T (inForm (now s)) × (n ≤ entriesMost) × (rows ≡ n + heldCount (now s)) × Counted (now s) base ⌝ }
+    requires { ⌜ (rows ≤ length (now lefts)) × (rows ≤ length (now rights)) ⌝ }
+    ensures { λ _. ⌜ now (lefts .exit) ≡ tab rows (claimLeft (keyOf (now (s .entry))) (now (s .entry)) n) ++ drop rows (now (lefts .entry)) ⌝ }
+    ensures { λ _. ⌜ now (rights .exit) ≡ tab rows (claimRight (keyOf (now (s .entry))) (now (s .entry)) n) ++ drop rows (now (rights .entry)) ⌝ }
+{
+    let mut i: usize = 0;
+    while i < rows {
+        let keys = counts(s, n, i, base);
+        lefts[i] = keys.left;
+        rights[i] = keys.right;
+        i += 1;
+    }
+}
+
+// The same by ranks.
+fn put_ranks(s: &[u8], n: usize, rows: usize, lefts: &mut [u64], rights: &mut [u64])
+    requires { ⌜ (stateSize ≤ length (now s)) × T (inForm (now s)) × (n ≤ entriesMost) × (rows ≡ n + heldCount (now s)) ⌝ }
+    requires { ⌜ (Keys·countable (now s) ≡ false) × (rows ≤ length (now lefts)) × (rows ≤ length (now rights)) ⌝ }
+    ensures { λ _. ⌜ now (lefts .exit) ≡ tab rows (claimLeft (keyOf (now (s .entry))) (now (s .entry)) n) ++ drop rows (now (lefts .entry)) ⌝ }
+    ensures { λ _. ⌜ now (rights .exit) ≡ tab rows (claimRight (keyOf (now (s .entry))) (now (s .entry)) n) ++ drop rows (now (rights .entry)) ⌝ }
+{
+    let mut parts = [0u32; PARTS_MOST];
+    get_parts(s, rows - n, &mut parts);
+    let mut i: usize = 0;
+    while i < rows {
+        let keys = ranks(s, n, i, &parts);
+        lefts[i] = keys.left;
+        rights[i] = keys.right;
+        i += 1;
+    }
 }
 
 // Makes the keys of the ends of all claims: of n entries, and then of the held data. Answers their scale.
@@ -154,17 +192,19 @@ pub fn get_ends(s: &[u8], n: usize, rows: usize, lefts: &mut [u64], rights: &mut
     ensures { λ _. ⌜ now (lefts .exit) ≡ tab rows (claimLeft (keyOf (now (s .entry))) (now (s .entry)) n) ++ drop rows (now (lefts .entry)) ⌝ }
     ensures { λ _. ⌜ now (rights .exit) ≡ tab rows (claimRight (keyOf (now (s .entry))) (now (s .entry)) n) ++ drop rows (now (rights .entry)) ⌝ }
 {
-    let scale = find_scale(s, rows - n);
-    let ranked = if scale.counted { 0 } else { rows - n };
-    let mut parts = [0u32; PARTS_MOST];
-    get_parts(s, ranked, &mut parts);
-    let mut i: usize = 0;
-    while i < rows {
-        lefts[i] = left_key(s, n, i, scale, &parts);
-        rights[i] = right_key(s, n, i, scale, &parts);
-        i += 1;
+    let base = first_whole(s, rows - n);
+    if countable(s, rows - n, base + COUNT_LIMIT) {
+        put_counts(s, n, rows, base, lefts, rights);
+        return Scale {
+            counted: true,
+            base,
+        };
     }
-    scale
+    put_ranks(s, n, rows, lefts, rights);
+    Scale {
+        counted: false,
+        base: 0,
+    }
 }
 
 // The whole microseconds that a left key tells: it rounds down.

@@ -2,7 +2,8 @@
 -- Keys of ends (document 02, W-205): an end as one number of 64 bits. Keys lie as the ends of one state do, and tell the whole microseconds on
 -- either side of the end. Where the ends lie near each other, the keys are counts of millionths. Assumes nothing: these are definitions.
 use Prim.Native.Nat.{ℕ, zero, suc, _+_, _*_, _-_, _/_, _%_, _^_, min}
-use mathlib.Core.Bool.{Bool, cond}
+use mathlib.Core.Path.{_≡_}
+use mathlib.Core.Bool.{Bool, true, cond}
 use mathlib.Core.List.{List, _++_, map}
 use lib.Dec.{ltb}
 use lib.ListN.{getD, drop}
@@ -30,6 +31,13 @@ countLimit = 2 ^ 44
 -- every held end lies within them
 unfoldable pub countable : List ℕ → Bool
 countable s = allBelow (heldCount s) (λ i. ltb (num (datumPlace i + rightIn) 8 s) (baseOf s + countLimit))
+
+-- counts do, from this base on
+abbrev pub Counted : List ℕ → ℕ → Type 0
+Counted s base = (countable s ≡ true) × (base ≡ baseOf s)
+
+abbrev pub countFrom : ℕ → ℕ → ℕ
+countFrom base x = x - base * million
 
 -- how keys are made and read; ranks are not counted from a base
 abbrev pub scaleBy : Bool → ℕ → Scale
@@ -67,7 +75,7 @@ partsOf s = tab (heldCount s * 2) (millionthsAt s) ++ drop (heldCount s * 2) (ze
 -- ---- a key
 
 abbrev pub keyBy : Scale → List ℕ → ℕ → ℕ
-keyBy scale parts x = cond (scale .counted) (x - scale .base * million) (rankKey parts x)
+keyBy scale parts x = cond (scale .counted) (countFrom (scale .base) x) (rankKey parts x)
 
 -- what a whole microsecond is in a key
 abbrev pub stepOf : Scale → ℕ
