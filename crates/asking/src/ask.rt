@@ -136,7 +136,7 @@ fn between(
     let scale = claims::keys::get_ends(s, n, rows, &mut lefts, &mut rights);
     let mut listed = [0u32; search::ROWS_MOST];
     let free = names::others(numbers::get32(s, state::OWN_AT));
-    let left = search::ends::first_end(
+    let left = search::stretches::first_end(
         &lefts,
         &rights,
         counts,
@@ -156,7 +156,7 @@ fn between(
     let mut low = [0u64; search::ROWS_MOST];
     let mut high = [0u64; search::ROWS_MOST];
     mirror(&lefts, &rights, rows, &mut low, &mut high);
-    let right = search::ends::first_end(
+    let right = search::stretches::first_end(
         &low,
         &high,
         counts,

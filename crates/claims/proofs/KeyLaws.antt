@@ -2,7 +2,7 @@
 -- The idea: counts do so by themselves, from any base that no end is before; and a rank counts the parts that lie below, so of two ends in one
 -- microsecond the later has the greater rank, since the millionths of the earlier are a part, and rank 0 is 0 millionths alone, since 0 is a part.
 -- No contract cites this file. Assumes nothing.
-use Prim.Native.Nat.{ℕ, zero, suc, _+_, _*_, _-_, _/_, _%_, _^_, _≤_, _<_, min}
+use Prim.Native.Nat.{ℕ, zero, suc, _+_, _*_, _-_, _/_, _%_, _^_, _≤_, _<_, min, max}
 use mathlib.Core.Path.{_≡_, refl, sym, ap, _∙_}
 use mathlib.Core.Bool.{Bool, true, false, cond}
 use mathlib.Core.List.{List, [], _++_}
@@ -22,7 +22,7 @@ use Rattle.ends.proofs.EndLaws.{count-whole, count-millionths}
 use Rattle.predicates.specs.Lists.{In}
 use Rattle.predicates.specs.Predicates.{holds}
 use Rattle.predicates.proofs.ListLaws.{cond-ind, true-T}
-use Rattle.predicates.proofs.IndexLaws.{below-out, getD-map, in-at}
+use Rattle.predicates.proofs.IndexLaws.{getD-map, in-at}
 use Rattle.state.specs.Model.{Datum, Store, endLimit, lastWhole}
 use Rattle.state.specs.Layout.{zeros, datumPlace, leftMillionthsIn, rightMillionthsIn, rightIn, heldCount, entryCount, datumAt, storeOf, ownAt}
 use Rattle.state.specs.Form.{inForm}
@@ -33,12 +33,12 @@ use Rattle.state.proofs.OkLaws.{OkDatum, ok-datum-out}
 use Rattle.state.proofs.StoreLaws.{column-front, length-column}
 use Rattle.search.specs.code.Search.{Rows}
 use Rattle.claims.specs.declared.keys.Scale.{Scale}
-use Rattle.claims.specs.code.Keys.{leastWhole, baseOf, countLimit, countable, scaleBy, scaleOf, below, partsMost, rankStep, rankKey, millionthsAt, partsOf}
+use Rattle.claims.specs.code.Keys.{leastWhole, baseOf, greatestWhole, topOf, countLimit, countable, scaleBy, scaleOf, below, partsMost, rankStep, rankKey, millionthsAt, partsOf}
 use Rattle.claims.specs.code.Keys.{Counted, countFrom, keyBy, stepOf, downBy, upBy, keyOf, lastKey, withEnds, mapped, keyed}
 use Rattle.claims.specs.code.Tables.{entryClaim, claimAt, claimLeft, claimRight, Loaded, Bounded}
 use Rattle.claims.proofs.TableLaws.{claim-entry, claim-datum, datum-claim}
 
--- ---- the base
+-- ---- the first and the last whole microsecond
 
 module _ (s : List ℕ) where
   least-last : (n : ℕ) → leastWhole n s ≤ lastWhole
@@ -55,6 +55,15 @@ module _ (s : List ℕ) where
       go f (yes q) = rw q (omega arith)
       go f (no q) = omega (arith, f (omega arith))
 
+  greatest-le : (n i : ℕ) → i < n → num (datumPlace i + rightIn) 8 s ≤ greatestWhole n s
+  unfolding greatestWhole
+  greatest-le zero i h = absurd (omega arith)
+  greatest-le (suc n) i h = go (λ a. greatest-le n i a) (ℕ-discrete i n)
+    where
+      go : (i < n → num (datumPlace i + rightIn) 8 s ≤ greatestWhole n s) → Dec (i ≡ n) → num (datumPlace i + rightIn) 8 s ≤ max (greatestWhole n s) (num (datumPlace n + rightIn) 8 s)
+      go f (yes q) = rw q (omega arith)
+      go f (no q) = omega (arith, f (omega arith))
+
   pub base-last : baseOf s ≤ lastWhole
   unfolding baseOf
   base-last = least-last (heldCount s)
@@ -63,10 +72,23 @@ module _ (s : List ℕ) where
   unfolding scaleOf
   scale-last scale e = rw e (cond-ind (λ (v : ℕ). v ≤ lastWhole) (countable s) (baseOf s) 0 (λ _. base-last) (λ _. omega arith))
 
-  -- the loop that looks for it
+  -- the loop that looks for both
   pub least-next : (i r x least : ℕ) → least ≡ leastWhole i s → x ≡ num (datumPlace i) 8 s → r ≡ min least x → r ≡ leastWhole (i + 1) s
   unfolding leastWhole
   least-next i r x least e f g = rw (add-one i) (omega arith)
+
+  pub greatest-next : (i r x last : ℕ) → last ≡ greatestWhole i s → x ≡ num (datumPlace i + rightIn) 8 s → r ≡ max last x → r ≡ greatestWhole (i + 1) s
+  unfolding greatestWhole
+  greatest-next i r x last e f g = rw (add-one i) (omega arith)
+
+  -- counts fit, or they do not
+  pub counts-fit : (first last : ℕ) → first ≡ baseOf s → last ≡ topOf s → last < first + countLimit → countable s ≡ true
+  unfolding countable
+  counts-fit first last e f h = lt-ltb (topOf s) (baseOf s + countLimit) (omega arith)
+
+  pub counts-pass : (first last : ℕ) → first ≡ baseOf s → last ≡ topOf s → first + countLimit ≤ last → countable s ≡ false
+  unfolding countable
+  counts-pass first last e f h = le-ltb (topOf s) (baseOf s + countLimit) (omega arith)
 
   pub scale-counted : (base : ℕ) → base ≡ baseOf s → countable s ≡ true → record { counted = true; base = base } ≡ scaleOf s
   unfolding scaleOf
@@ -300,10 +322,8 @@ module _ (s : List ℕ) (t : T (inForm s)) where
     based x l = omega (arith, base-left)
 
     counted-right : countable s ≡ true → num (datumPlace i + rightIn) 8 s < baseOf s + countLimit
-    unfolding countable
-    counted-right e =
-        ltb→lt (num (datumPlace i + rightIn) 8 s) (baseOf s + countLimit)
-        (below-out (heldCount s) (λ j. ltb (num (datumPlace j + rightIn) 8 s) (baseOf s + countLimit)) (true-T _ e) i h)
+    unfolding countable topOf
+    counted-right e = omega (arith, greatest-le s (heldCount s) i h, ltb→lt (greatestWhole (heldCount s) s) (baseOf s + countLimit) (true-T _ e))
 
     -- what a key is made of
     pub ends-stored : (e : Ends) → e ≡ endsAt s i

@@ -12,7 +12,7 @@ ghost use Rattle.ends.specs.Ends.{countOf, Split};
 ghost use Rattle.state.specs.Model.{lastWhole};
 ghost use Rattle.state.specs.Layout.{heldCount, stateSize, dataMost, entriesMost};
 ghost use Rattle.state.specs.Form.{inForm};
-ghost use Rattle.claims.specs.code.Keys.{baseOf, countLimit, countable as Keys·countable, Counted, scaleOf, below, partsMost, millionthsAt};
+ghost use Rattle.claims.specs.code.Keys.{baseOf, topOf, countLimit, countable as Keys·countable, Counted, scaleOf, below, partsMost, millionthsAt};
 ghost use Rattle.claims.specs.code.Keys.{countFrom, rankKey, stepOf, downBy, upBy, keyOf};
 ghost use Rattle.claims.specs.code.Tables.{claimLeft, claimRight};
 use ends::End;
@@ -34,34 +34,27 @@ pub struct Scale {
     pub base: u64,
 }
 
-// The least whole microsecond of the left ends of h held data, so that clocks may count theirs from long ago.
-fn first_whole(s: &[u8], h: usize) -> u64
-    requires { ⌜ (stateSize ≤ length (now s)) × (h ≡ heldCount (now s)) × (h ≤ dataMost) ⌝ }
-    ensures { λ r. ⌜ (r ≡ baseOf (now (s .entry))) × (r ≤ lastWhole) ⌝ }
-{
-    let mut least = state::LAST_WHOLE;
-    let mut i: usize = 0;
-    while i < h {
-        let left = numbers::get64(s, state::DATA_AT + i * state::DATUM_SIZE);
-        least = numbers::lesser(least, left);
-        i += 1;
-    }
-    least
+// From the least whole microsecond of the held data's left ends to the greatest of their right ends.
+struct Reach {
+    first: u64,
+    last: u64,
 }
 
-// Whether all h held data end before the limit, so that their counts of millionths fit 64 bits.
-fn countable(s: &[u8], h: usize, limit: u64) -> bool
-    requires { ⌜ (stateSize ≤ length (now s)) × (h ≡ heldCount (now s)) × (h ≤ dataMost) × (limit ≡ baseOf (now s) + countLimit) ⌝ }
-    ensures { λ r. ⌜ r ≡ Keys·countable (now (s .entry)) ⌝ }
+// How far h held data reach. Counts start at the first microsecond, since clocks may count theirs from long ago.
+fn reach_of(s: &[u8], h: usize) -> Reach
+    requires { ⌜ (stateSize ≤ length (now s)) × (h ≡ heldCount (now s)) × (h ≤ dataMost) ⌝ }
+    ensures { λ r. ⌜ (r .first ≡ baseOf (now (s .entry))) × (r .last ≡ topOf (now (s .entry))) × (r .first ≤ lastWhole) ⌝ }
 {
+    let mut first = state::LAST_WHOLE;
+    let mut last: u64 = 0;
     let mut i: usize = 0;
     while i < h {
-        if limit <= numbers::get64(s, state::DATA_AT + i * state::DATUM_SIZE + state::RIGHT_IN) {
-            return false;
-        }
+        let at = state::DATA_AT + i * state::DATUM_SIZE;
+        first = numbers::lesser(first, numbers::get64(s, at));
+        last = numbers::greater(last, numbers::get64(s, at + state::RIGHT_IN));
         i += 1;
     }
-    true
+    Reach { first, last }
 }
 
 // Reads the millionths of h held data, the left end's and the right end's of each; what stands behind them stays.
@@ -192,12 +185,12 @@ pub fn get_ends(s: &[u8], n: usize, rows: usize, lefts: &mut [u64], rights: &mut
     ensures { λ _. ⌜ now (lefts .exit) ≡ tab rows (claimLeft (keyOf (now (s .entry))) (now (s .entry)) n) ++ drop rows (now (lefts .entry)) ⌝ }
     ensures { λ _. ⌜ now (rights .exit) ≡ tab rows (claimRight (keyOf (now (s .entry))) (now (s .entry)) n) ++ drop rows (now (rights .entry)) ⌝ }
 {
-    let base = first_whole(s, rows - n);
-    if countable(s, rows - n, base + COUNT_LIMIT) {
-        put_counts(s, n, rows, base, lefts, rights);
+    let held = reach_of(s, rows - n);
+    if held.last < held.first + COUNT_LIMIT {
+        put_counts(s, n, rows, held.first, lefts, rights);
         return Scale {
             counted: true,
-            base,
+            base: held.first,
         };
     }
     put_ranks(s, n, rows, lefts, rights);

@@ -45,12 +45,12 @@ fn least_set(
     let mut best: u32 = names::NO_SET;
     let mut floor: u64 = 0;
     loop {
-        let from = super::ends::next_end(lefts, n, rows, floor);
+        let from = super::stretches::next_end(lefts, n, rows, floor);
         if from == super::NO_END {
             return best;
         }
-        let x = super::ends::stretch_end(lefts, rights, n, rows, from);
-        let m = super::ends::list_outside(order, rows, lefts, rights, x, listed);
+        let x = super::stretches::stretch_end(lefts, rights, n, rows, from);
+        let m = super::stretches::list_outside(order, rows, lefts, rights, x, listed);
         best = super::search::predicate_step(
             listed,
             counts,
@@ -89,7 +89,7 @@ pub fn least_within(
     ensures { λ r. ⌜ (let t : Rows = rowsOf (now (counts .entry)) (now (masks .entry)) (now (several .entry)) (now (singles .entry)) in
         LeastSet n rows (now (lefts .entry)) (now (rights .entry)) t (now (order .entry)) limit free r) ⌝ }
 {
-    let known = super::ends::list_entries(order, rows, n, listed);
+    let known = super::stretches::list_entries(order, rows, n, listed);
     let some = super::search::predicate_step(
         listed,
         counts,

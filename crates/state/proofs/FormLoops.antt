@@ -59,6 +59,65 @@ run-done s from words i v t h k q =
     let e : i ≡ words = omega arith in
     sym (and-true (eqb v 0)) ∙ rw (e, slice-empty (from + words * 4) s) at q
 
+-- ---- zeros in blocks
+
+zero-here : (n a e : ℕ) (s : List ℕ) → e ≡ a + n → e ≤ length s → isZero a e s ≡ eqb (num a n s) 0
+unfolding isZero
+zero-here n a e s q l = zero-num n a e s (omega arith) l ∙ rw (← q, slice-empty e s) (and-true (eqb (num a n s) 0))
+
+zero-join : (n a b e : ℕ) (s : List ℕ) → b ≡ a + n → b ≤ e → e ≤ length s → isZero a e s ≡ isZero a b s && isZero b e s
+zero-join n a b e s q h l = zero-num n a e s (omega arith) l ∙ rw (← q, zero-here n a b s q (omega arith)) refl
+
+-- eight bytes
+pub zero-wide : (s : List ℕ) (a x : ℕ) → a + 8 ≤ length s → x ≡ num a 8 s → eqb x 0 ≡ isZero a (a + 8) s
+zero-wide s a x l e = rw e (sym (zero-here 8 a (a + 8) s refl l))
+
+-- four pieces of n bytes
+pub zero-four : (s : List ℕ) (n at x y z e a b c d : ℕ) → x ≡ at + n → y ≡ x + n → z ≡ y + n → e ≡ z + n → e ≤ length s
+    → eqb a 0 ≡ isZero at (at + n) s → eqb b 0 ≡ isZero x (x + n) s → eqb c 0 ≡ isZero y (y + n) s → eqb d 0 ≡ isZero z (z + n) s
+    → eqb (bitOr a (bitOr b (bitOr c d))) 0 ≡ isZero at e s
+zero-four s n at x y z e a b c d p q r o l f g h k =
+    rw (or-zero a (bitOr b (bitOr c d)), or-zero b (bitOr c d), or-zero c d, f, g, h, k, ← p, ← q, ← r, ← o)
+    (sym
+    (zero-join n at x e s p (omega arith) l
+    ∙ rw (zero-join n x y e s q (omega arith) l, zero-join n y z e s r (omega arith) l) refl))
+
+and-swap : (a l b : Bool) → (a && l) && b ≡ (a && b) && l
+and-swap true true true = refl
+and-swap true true false = refl
+and-swap true false true = refl
+and-swap true false false = refl
+and-swap false l b = refl
+
+and-overlap : (a m e : Bool) → (a && m) && (m && e) ≡ a && (m && e)
+and-overlap true true e = refl
+and-overlap true false e = refl
+and-overlap false m e = refl
+
+-- the last block is read first
+pub block-begin : (s : List ℕ) (from last end v : ℕ) → eqb v 0 ≡ isZero last end s → eqb v 0 ≡ isZero from from s && isZero last end s
+unfolding isZero
+block-begin s from last end v e = rw (slice-empty from s) e
+
+-- a turn over the others
+pub block-turn : (s : List ℕ) (from at last end v b : ℕ) → from ≤ at → at + 128 ≤ length s
+    → eqb v 0 ≡ isZero from at s && isZero last end s → eqb b 0 ≡ isZero at (at + 128) s
+    → eqb (bitOr v b) 0 ≡ isZero from (at + 128) s && isZero last end s
+block-turn s from at last end v b h l e f =
+    let place : at ≡ from + (at - from) = omega arith in
+    rw (or-zero v b, e, f, zero-join (at - from) from at (at + 128) s place (omega arith) l)
+    (and-swap (isZero from at s) (isZero last end s) (isZero at (at + 128) s))
+
+pub block-done : (s : List ℕ) (from at last end v : ℕ) → from ≤ last → last ≤ at → at ≤ end → end ≤ length s
+    → eqb v 0 ≡ isZero from at s && isZero last end s → eqb v 0 ≡ isZero from end s
+block-done s from at last end v h k m l e =
+    let begin : last ≡ from + (last - from) = omega arith in
+    let middle : at ≡ last + (at - last) = omega arith in
+    let front = zero-join (last - from) from last at s begin k (omega arith) in
+    let whole = zero-join (last - from) from last end s begin (omega arith) l in
+    let back = zero-join (at - last) last at end s middle m l in
+    rw (e, front, whole, back) (and-overlap (isZero from last s) (isZero last at s) (isZero at end s))
+
 -- ---- places: a test that is carried along
 
 pub below-turn : (f : ℕ → Bool) (i : ℕ) (a b : Bool) → a ≡ allBelow i f → b ≡ f i → a && b ≡ allBelow (i + 1) f

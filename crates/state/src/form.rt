@@ -15,8 +15,30 @@ const HELD_MOST: u32 = super::DATA_MOST as u32;
 
 const KNOWN_MOST: u32 = super::ENTRIES_MOST as u32;
 
-// Whether the bytes of s from `from` on are zero, four for each word.
-fn is_zero(s: &[u8], from: usize, words: usize) -> bool
+// Bytes are tested for zero in blocks, so many words at a time.
+const BLOCK_WORDS: usize = 32;
+
+const BLOCK_SIZE: usize = BLOCK_WORDS * 4;
+
+// The numbers of 32 bytes or-ed together: zero where each byte is.
+fn wide_bits(s: &[u8], at: usize) -> u64
+    requires { ⌜ at + 32 ≤ length (now s) ⌝ }
+    ensures { λ r. ⌜ eqb r 0 ≡ isZero at (at + 32) (now (s .entry)) ⌝ }
+{
+    numbers::get64(s, at)
+        | (numbers::get64(s, at + 8) | (numbers::get64(s, at + 16) | numbers::get64(s, at + 24)))
+}
+
+// Those of a block.
+fn block_bits(s: &[u8], at: usize) -> u64
+    requires { ⌜ at + 128 ≤ length (now s) ⌝ }
+    ensures { λ r. ⌜ eqb r 0 ≡ isZero at (at + 128) (now (s .entry)) ⌝ }
+{
+    wide_bits(s, at) | (wide_bits(s, at + 32) | (wide_bits(s, at + 64) | wide_bits(s, at + 96)))
+}
+
+// Whether the bytes of s from `from` on are zero, four for each word, word by word.
+fn words_zero(s: &[u8], from: usize, words: usize) -> bool
     requires { ⌜ from + words * 4 ≤ length (now s) ⌝ }
     ensures { λ r. ⌜ r ≡ isZero from (from + words * 4) (now (s .entry)) ⌝ }
 {
@@ -25,6 +47,24 @@ fn is_zero(s: &[u8], from: usize, words: usize) -> bool
     while i < words {
         v = v | numbers::get32(s, from + i * 4);
         i += 1;
+    }
+    v == 0
+}
+
+// The same by blocks, if there is one. The last block ends where the words do: bytes that two blocks have are read twice, and none is left over.
+fn is_zero(s: &[u8], from: usize, words: usize) -> bool
+    requires { ⌜ from + words * 4 ≤ length (now s) ⌝ }
+    ensures { λ r. ⌜ r ≡ isZero from (from + words * 4) (now (s .entry)) ⌝ }
+{
+    if words < BLOCK_WORDS {
+        return words_zero(s, from, words);
+    }
+    let last = from + (words - BLOCK_WORDS) * 4;
+    let mut v = block_bits(s, last);
+    let mut at = from;
+    while at < last {
+        v = v | block_bits(s, at);
+        at += BLOCK_SIZE;
     }
     v == 0
 }

@@ -1,20 +1,19 @@
 -- Definitions that serve the code alone: no statement of document 01 cites this file.
 -- Keys of ends (document 02, W-205): an end as one number of 64 bits. Keys lie as the ends of one state do, and tell the whole microseconds on
 -- either side of the end. Where the ends lie near each other, the keys are counts of millionths. Assumes nothing: these are definitions.
-use Prim.Native.Nat.{ℕ, zero, suc, _+_, _*_, _-_, _/_, _%_, _^_, min}
+use Prim.Native.Nat.{ℕ, zero, suc, _+_, _*_, _-_, _/_, _%_, _^_, min, max}
 use mathlib.Core.Path.{_≡_}
 use mathlib.Core.Bool.{Bool, true, cond}
 use mathlib.Core.List.{List, _++_, map}
 use lib.Dec.{ltb}
 use lib.ListN.{getD, drop}
 use Rattle.numbers.specs.Numbers.{num, tab}
-use Rattle.predicates.specs.Lists.{allBelow}
 use Rattle.ends.specs.Ends.{million}
 use Rattle.state.specs.Model.{Datum, datum, Store, State, lastWhole}
 use Rattle.state.specs.Layout.{zeros, datumPlace, rightIn, leftMillionthsIn, heldCount, headOf, storeOf}
 use Rattle.claims.specs.declared.keys.Scale.{Scale}
 
--- ---- where counts fit: from the first whole microsecond that a held end has, since clocks may count theirs from long ago
+-- ---- where counts fit: from the first whole microsecond that a held end has, since clocks may count theirs from long ago, to the last one
 
 -- the least whole microsecond of the first n left ends; the last of all where n is 0
 unfoldable pub leastWhole : ℕ → List ℕ → ℕ
@@ -24,13 +23,21 @@ leastWhole (suc n) s = min (leastWhole n s) (num (datumPlace n) 8 s)
 unfoldable pub baseOf : List ℕ → ℕ
 baseOf s = leastWhole (heldCount s) s
 
+-- the greatest whole microsecond of the first n right ends; 0 where n is 0
+unfoldable pub greatestWhole : ℕ → List ℕ → ℕ
+greatestWhole zero s = 0
+greatestWhole (suc n) s = max (greatestWhole n s) (num (datumPlace n + rightIn) 8 s)
+
+unfoldable pub topOf : List ℕ → ℕ
+topOf s = greatestWhole (heldCount s) s
+
 -- fewer whole microseconds have a count of millionths within 64 bits
 abbrev pub countLimit : ℕ
 countLimit = 2 ^ 44
 
 -- every held end lies within them
 unfoldable pub countable : List ℕ → Bool
-countable s = allBelow (heldCount s) (λ i. ltb (num (datumPlace i + rightIn) 8 s) (baseOf s + countLimit))
+countable s = ltb (topOf s) (baseOf s + countLimit)
 
 -- counts do, from this base on
 abbrev pub Counted : List ℕ → ℕ → Type 0

@@ -1,4 +1,4 @@
--- `search::ends::first_stretch` meets its contract: the stretches are tried from the least end on, and the terms of the first predicate one after
+-- `search::stretches::first_stretch` meets its contract: the stretches are tried from the least end on, and the terms of the first predicate one after
 -- the other. Invariants: no end below the floor is explained; what comes of the terms still to try comes of all that the end needs. Measures: the
 -- instants from the floor on; the terms still to try.
 use Prim.Native.Nat.{_-_, _≤_, _<_}
@@ -14,8 +14,8 @@ use Rattle.search.proofs.SearchSteps.{trying-none, trying-skip, trying-
 use Rattle.search.proofs.EndSteps.{listed-row, listed-rows, listed-needs, trying-begin, trying-next, none-needed}
 use Rattle.search.proofs.StretchLaws.{stretches-none, stretches-found, stretches-next, stretches-room}
 use borrow.Author.Needs.{needs}
-use Rattle.search.proofs.ends.first_stretch.Statement.{statement}
-use Rattle.search.proofs.ends.first_stretch.Tie as tie
+use Rattle.search.proofs.stretches.first_stretch.Statement.{statement}
+use Rattle.search.proofs.stretches.first_stretch.Tie as tie
 
 abbrev Inv-loop : tie.InvT-loop
 Inv-loop lefts rights counts masks several singles order listed n rows limit free floor from x m at₀ end rest₀ at rest =

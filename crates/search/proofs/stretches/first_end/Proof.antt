@@ -1,10 +1,10 @@
--- `search::ends::first_end` meets its contract: the first stretch that is explained, and the first end in it.
+-- `search::stretches::first_end` meets its contract: the first stretch that is explained, and the first end in it.
 use mathlib.Core.Path.{_∙_}
 use native.Mathlib.Omega.{arith}
 use Rattle.search.proofs.StretchLaws.{no-first}
 use borrow.Author.Needs.{needs}
-use Rattle.search.proofs.ends.first_end.Statement.{statement}
-use Rattle.search.proofs.ends.first_end.Tie as tie
+use Rattle.search.proofs.stretches.first_end.Statement.{statement}
+use Rattle.search.proofs.stretches.first_end.Tie as tie
 
 returns : tie.Need-returns
 returns c =

@@ -1,4 +1,4 @@
--- `search::ends::list_entries` meets its contract: the rows below n are stored one behind the other.
+-- `search::stretches::list_entries` meets its contract: the rows below n are stored one behind the other.
 -- Invariant: those of the first i places of the order stand at the front. Measure: the places still to look at.
 use Prim.Native.Nat.{_-_, _≤_, _<_}
 use mathlib.Core.Path.{_≡_}
@@ -9,8 +9,8 @@ use lib.Dec.{ltb}
 use lib.ListN.{length}
 use Rattle.search.proofs.EndSteps.{Listing, listing-none, listing-take, listing-pass}
 use borrow.Author.Needs.{needs}
-use Rattle.search.proofs.ends.list_entries.Statement.{statement}
-use Rattle.search.proofs.ends.list_entries.Tie as tie
+use Rattle.search.proofs.stretches.list_entries.Statement.{statement}
+use Rattle.search.proofs.stretches.list_entries.Tie as tie
 
 abbrev Inv-loop : tie.InvT-loop
 Inv-loop order rows n listed₀ m₀ i₀ listed m i = (i ≤ rows) × Listing (λ k. ltb k n) order i listed₀ listed m

@@ -1,4 +1,4 @@
--- `search::ends::first_in_stretch` meets its contract: each set that is found leads to an earlier end, until the one before it in the stretch has
+-- `search::stretches::first_in_stretch` meets its contract: each set that is found leads to an earlier end, until the one before it in the stretch has
 -- no set. Invariant: the set explains the end, which is an end of the stretch or an earlier one. Measure: the end.
 use Prim.Native.Nat.{_≤_}
 use mathlib.Core.Path.{_≡_, refl, _∙_}
@@ -10,8 +10,8 @@ use Rattle.search.specs.code.Search.{rowsOf, Fits}
 use Rattle.search.specs.code.LeftEnds.{IsEnd, needs as LeftEnds·needs}
 use Rattle.search.proofs.EndSteps.{listed-rows, listed-needs}
 use Rattle.search.proofs.StretchLaws.{back-le, back-end, back-explains, back-done, back-stop, last-is-end, last-lt}
-use Rattle.search.proofs.ends.first_in_stretch.Statement.{statement}
-use Rattle.search.proofs.ends.first_in_stretch.Tie as tie
+use Rattle.search.proofs.stretches.first_in_stretch.Statement.{statement}
+use Rattle.search.proofs.stretches.first_in_stretch.Tie as tie
 
 abbrev Inv-loop : tie.InvT-loop
 Inv-loop lefts rights counts masks several singles order listed₀ n rows limit free from found by set₀ end₀ listed set end =

@@ -1,4 +1,4 @@
--- `search::ends::latest` meets its contract: the latest so far is kept.
+-- `search::stretches::latest` meets its contract: the latest so far is kept.
 -- Invariant: it is the latest of rows n to i. Measure: the rows still to look at.
 use Prim.Native.Nat.{_-_, _≤_, _<_}
 use mathlib.Core.Path.{_≡_}
@@ -12,8 +12,8 @@ use Rattle.search.specs.code.Search.{rowsOf}
 use Rattle.search.specs.code.LeftEnds.{Latest}
 use Rattle.search.proofs.EndSteps.{latest-none, latest-take, latest-pass}
 use borrow.Author.Needs.{needs}
-use Rattle.search.proofs.ends.latest.Statement.{statement}
-use Rattle.search.proofs.ends.latest.Tie as tie
+use Rattle.search.proofs.stretches.latest.Statement.{statement}
+use Rattle.search.proofs.stretches.latest.Tie as tie
 
 abbrev Inv-loop : tie.InvT-loop
 Inv-loop lefts counts masks several singles n rows set last₀ i₀ last i = (n ≤ i) × (i ≤ rows) × Latest n i lefts (rowsOf counts masks several singles) set last

@@ -1,9 +1,9 @@
--- `search::ends::stretch_end` meets its contract: no right end from x on is before the least of them, and so before a left end that is not beyond it.
+-- `search::stretches::stretch_end` meets its contract: no right end from x on is before the least of them, and so before a left end that is not beyond it.
 use native.Mathlib.Omega.{arith}
 use Rattle.search.proofs.StretchLaws.{stretch-in, stretch-at, stretch-last}
 use borrow.Author.Needs.{needs}
-use Rattle.search.proofs.ends.stretch_end.Statement.{statement}
-use Rattle.search.proofs.ends.stretch_end.Tie as tie
+use Rattle.search.proofs.stretches.stretch_end.Statement.{statement}
+use Rattle.search.proofs.stretches.stretch_end.Tie as tie
 
 returns : tie.Need-returns
 returns c =

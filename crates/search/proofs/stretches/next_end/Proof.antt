@@ -1,4 +1,4 @@
--- `search::ends::next_end` meets its contract: the least so far is kept.
+-- `search::stretches::next_end` meets its contract: the least so far is kept.
 -- Invariant: it is the least of the ends in places `from` to i. Measure: the places still to look at.
 use Prim.Native.Nat.{_-_, _≤_}
 use mathlib.Core.Path.{_≡_}
@@ -8,8 +8,8 @@ use mathlib.Core.Logic.{⊎-elim}
 use Rattle.search.specs.code.LeftEnds.{Next}
 use Rattle.search.proofs.EndSteps.{next-none, next-take, next-pass}
 use borrow.Author.Needs.{needs}
-use Rattle.search.proofs.ends.next_end.Statement.{statement}
-use Rattle.search.proofs.ends.next_end.Tie as tie
+use Rattle.search.proofs.stretches.next_end.Statement.{statement}
+use Rattle.search.proofs.stretches.next_end.Tie as tie
 
 abbrev Inv-loop : tie.InvT-loop
 Inv-loop ends from to floor least₀ i₀ least i = (from ≤ i) × (i ≤ to) × Next ends from i floor least

@@ -1,4 +1,4 @@
--- `search::ends::list_outside` meets its contract: the rows that lack the instant are stored one behind the other.
+-- `search::stretches::list_outside` meets its contract: the rows that lack the instant are stored one behind the other.
 -- Invariant: those of the first i places of the order stand at the front. Measure: the places still to look at.
 use Prim.Native.Nat.{_-_, _≤_, _<_}
 use mathlib.Core.Path.{_≡_, sym, _∙_}
@@ -8,8 +8,8 @@ use mathlib.Core.Logic.{⊎-elim}
 use Rattle.search.specs.code.LeftEnds.{outside}
 use Rattle.search.proofs.EndSteps.{outside-test, Listing, listing-none, listing-take, listing-pass}
 use borrow.Author.Needs.{needs}
-use Rattle.search.proofs.ends.list_outside.Statement.{statement}
-use Rattle.search.proofs.ends.list_outside.Tie as tie
+use Rattle.search.proofs.stretches.list_outside.Statement.{statement}
+use Rattle.search.proofs.stretches.list_outside.Tie as tie
 
 abbrev Inv-loop : tie.InvT-loop
 Inv-loop order rows lefts rights x listed₀ m₀ i₀ listed m i = (i ≤ rows) × Listing (outside lefts rights x) order i listed₀ listed m

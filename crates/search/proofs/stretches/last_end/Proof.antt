@@ -1,4 +1,4 @@
--- `search::ends::last_end` meets its contract: the greatest so far is kept.
+-- `search::stretches::last_end` meets its contract: the greatest so far is kept.
 -- Invariant: it is the greatest of the ends in places `from` to i. Measure: the places still to look at.
 use Prim.Native.Nat.{_-_, _≤_}
 use mathlib.Core.Path.{_≡_}
@@ -8,8 +8,8 @@ use mathlib.Core.Logic.{⊎-elim}
 use Rattle.search.specs.code.LeftEnds.{Last}
 use Rattle.search.proofs.EndSteps.{last-none, last-take, last-pass}
 use borrow.Author.Needs.{needs}
-use Rattle.search.proofs.ends.last_end.Statement.{statement}
-use Rattle.search.proofs.ends.last_end.Tie as tie
+use Rattle.search.proofs.stretches.last_end.Statement.{statement}
+use Rattle.search.proofs.stretches.last_end.Tie as tie
 
 abbrev Inv-loop : tie.InvT-loop
 Inv-loop ends from to floor roof last₀ i₀ last i = (from ≤ i) × (i ≤ to) × Last ends from i floor roof last
