@@ -81,10 +81,10 @@ extern "C" {
  *  states and on states made and climbed for depth. Measured and not proved, so leave some room. Not counted is what the loader takes if it
  *  looks memcpy or memset up at the first call (link with -z now, or statically, and it does not). */
 #define MONITOR_STACK_SET_UP 64
-#define MONITOR_STACK_AGE 256
+#define MONITOR_STACK_AGE 320
 #define MONITOR_STACK_RECEIVE 9344
 #define MONITOR_STACK_RECEIVE_WITH_READINGS 9408
-#define MONITOR_STACK_WRITE 576
+#define MONITOR_STACK_WRITE 640
 #define MONITOR_STACK_ASK 7552
 #define MONITOR_STACK_FEWEST 6144
 #define MONITOR_STACK_MESSAGE_READ 384
