@@ -17,7 +17,7 @@ use Rattle.state.specs.Model.{Datum, Store, lastWhole}
 use Rattle.state.specs.Layout.{storeOf, stateOf}
 use Rattle.state.specs.Form.{inForm}
 use Rattle.claims.specs.declared.keys.Scale.{Scale}
-use Rattle.claims.specs.code.Keys.{scaleOf, stepOf, downBy, upBy, keyOf, withEnds, mapped, keyed, keyedState}
+use Rattle.claims.specs.code.Keys.{scaleOf, stepOf, downBy, upBy, keyOf, mapEnds, mapped, keyed, keyedState}
 use Rattle.claims.proofs.KeyLaws.{Keyed, scale-last, key-less, key-down, key-up, held-keyed}
 use Rattle.asking.specs.declared.Answer.{Answer}
 use Rattle.asking.specs.declared.Answer.the-variants.{Contradicted, Open, Between}
@@ -36,12 +36,12 @@ mappedAnswer f (Between l r) = Between (f l) (f r)
 
 -- a test of the predicates passes over the ends
 keep-mapped : (f : ℕ → ℕ) (g : List ℕ → Bool) (ds : List Datum)
-    → keep (λ (d : Datum). g (d .terms)) (map (withEnds f) ds) ≡ map (withEnds f) (keep (λ (d : Datum). g (d .terms)) ds)
+    → keep (λ (d : Datum). g (d .terms)) (map (mapEnds f) ds) ≡ map (mapEnds f) (keep (λ (d : Datum). g (d .terms)) ds)
 keep-mapped f g [] = refl
 keep-mapped f g (d ∷ ds) = go (g (d .terms)) _ _ (keep-mapped f g ds)
   where
-    go : (b : Bool) (xs ys : List Datum) → xs ≡ map (withEnds f) ys → cond b (withEnds f d ∷ xs) xs ≡ map (withEnds f) (cond b (d ∷ ys) ys)
-    go true xs ys e = ap (λ (es : List Datum). withEnds f d ∷ es) e
+    go : (b : Bool) (xs ys : List Datum) → xs ≡ map (mapEnds f) ys → cond b (mapEnds f d ∷ xs) xs ≡ map (mapEnds f) (cond b (d ∷ ys) ys)
+    go true xs ys e = ap (λ (es : List Datum). mapEnds f d ∷ es) e
     go false xs ys e = e
 
 -- ---- a function that rises on the ends P
@@ -92,7 +92,7 @@ module _ (f : ℕ → ℕ) (P : ℕ → Type 0) (rises : (x y : ℕ) → P x →
       go true = (refl, (p, q))
       go false = (refl, tt)
 
-  map-cut : (d : Datum) → P (d .left) → P (d .right) → (b a : Answer) → Follows b a → Follows (cut (withEnds f d) b) (cut d a)
+  map-cut : (d : Datum) → P (d .left) → P (d .right) → (b a : Answer) → Follows b a → Follows (cut (mapEnds f d) b) (cut d a)
   unfolding cut
   map-cut d p q b Contradicted w = rw (w .0) (refl, tt)
   map-cut d p q b Open w = rw (w .0) (map-interval (d .left) (d .right) p q)
@@ -104,11 +104,11 @@ module _ (f : ℕ → ℕ) (P : ℕ → Type 0) (rises : (x y : ℕ) → P x →
   abbrev EndsAmong : List Datum → Type 0
   EndsAmong ds = (d : Datum) → In d ds → P (d .left) × P (d .right)
 
-  map-common : (ds : List Datum) → EndsAmong ds → Follows (common (map (withEnds f) ds)) (common ds)
+  map-common : (ds : List Datum) → EndsAmong ds → Follows (common (map (mapEnds f) ds)) (common ds)
   unfolding common
   map-common [] h = (refl, tt)
   map-common (d ∷ ds) h =
-      let e = h d (inl refl) in map-cut d (e .0) (e .1) (common (map (withEnds f) ds)) (common ds) (map-common ds (λ c m. h c (inr m)))
+      let e = h d (inl refl) in map-cut d (e .0) (e .1) (common (map (mapEnds f) ds)) (common ds) (map-common ds (λ c m. h c (inr m)))
 
   map-either : (b c a d : Answer) → Follows b a → Follows c d → Follows (either b c) (either a d)
   unfolding either
@@ -221,6 +221,6 @@ module _ (s : List ℕ) (t : T (inForm s)) where
   unfolding everything keyed mapped
   keyed-everything = ap (λ (ps : List (List ℕ)). storeOf s .entries ++ ps) (terms (storeOf s .held))
     where
-      terms : (ds : List Datum) → termsOf (map (withEnds key) ds) ≡ termsOf ds
+      terms : (ds : List Datum) → termsOf (map (mapEnds key) ds) ≡ termsOf ds
       terms [] = refl
       terms (d ∷ ds) = ap (λ (ps : List (List ℕ)). d .terms ∷ ps) (terms ds)

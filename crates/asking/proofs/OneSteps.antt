@@ -35,14 +35,14 @@ use Rattle.state.proofs.StateLaws.{length-held, length-entries, form-ok}
 use Rattle.state.proofs.StoreLaws.{column-front}
 use Rattle.search.specs.code.LeftEnds.{noEnd}
 use Rattle.claims.specs.declared.keys.Scale.{Scale}
-use Rattle.claims.specs.code.Keys.{scaleOf, stepOf, downBy, upBy, keyOf, withEnds, mapped, keyed, keyedState}
+use Rattle.claims.specs.code.Keys.{scaleOf, stepOf, downBy, upBy, keyOf, mapEnds, mapped, keyed, keyedState}
 use Rattle.claims.specs.code.Tables.{entryClaim, claimAt, claimLeft, claimRight}
 use Rattle.claims.specs.code.Degrees.{deciding}
 use Rattle.claims.proofs.TableLaws.{datum-claim}
 use Rattle.claims.proofs.KeyLaws.{key-low, held-keyed, mapped-entry}
 use Rattle.asking.specs.Asking.{greatestLeft, leastRight, active, exact, answer}
 use Rattle.asking.specs.declared.Answer.the-variants.{Contradicted, Open, Between}
-use Rattle.asking.specs.code.One.{masksOf, commonNames, allNames, Kept, OneOf, Lacking, AtMostOne, Hull, LeastLeaving, FewestOne}
+use Rattle.asking.specs.code.One.{masksOf, commonNames, allNames, InArrays, OneOf, Lacking, AtMostOne, Hull, LeastLeaving, FewestOne}
 use Rattle.asking.specs.Instants.{Within, InAll, Allowed, Counts}
 use Rattle.asking.proofs.PlainLaws.{each-bare, form-bare, all-active}
 use Rattle.asking.proofs.InstantLaws.{within-none, inall-in, inall-out}
@@ -79,7 +79,7 @@ abbrev pub Spanning : List Datum → ℕ → ℕ → ℕ → ℕ → Type 0
 Spanning ds u i left right =
     (greatestLeft left (active u (drop i ds)) ≡ greatestLeft 0 (active u ds)) × (leastRight right (active u (drop i ds)) ≡ leastRight noEnd (active u ds))
 
-module _ (ds : List Datum) {lefts rights masks : List ℕ} (kept : Kept ds lefts rights masks) where
+module _ (ds : List Datum) {lefts rights masks : List ℕ} (kept : InArrays ds lefts rights masks) where
   pub mask-count : length masks ≡ length ds
   unfolding masksOf
   mask-count = ap length (kept .masks-are) ∙ length-map ds (λ (d : Datum). singles (d .terms))
@@ -128,7 +128,7 @@ module _ (ds : List Datum) {lefts rights masks : List ℕ} (kept : Kept ds lefts
 abbrev pub NoneOf : List Datum → ℕ → Type 0
 NoneOf ds names = (v : ℕ) → OneOf names v → (x : ℤ) → InAll v ds x → ⊥
 
-module _ (held : List Datum) {lefts rights masks : List ℕ} (kept : Kept held lefts rights masks) (names rest : ℕ) (within : T (subset rest names)) where
+module _ (held : List Datum) {lefts rights masks : List ℕ} (kept : InArrays held lefts rights masks) (names rest : ℕ) (within : T (subset rest names)) where
   module _ (some : 0 < rest) (c : ℕ) (least : c ≡ leastName rest) (left right : ℕ) (a : left ≡ greatestLeft 0 (active c held))
       (b : right ≡ leastRight noEnd (active c held)) where
     pub over-turn : Lacking held names → (next : ℕ) → next ≡ minus rest c → (plain : Bool) (l₀ r₀ l r : ℕ) → Hull held (AtMostOne plain (minus names rest)) l₀ r₀
@@ -161,7 +161,7 @@ module _ (held : List Datum) {lefts rights masks : List ℕ} (kept : Kept held l
 
 -- ---- what all names leave
 
-module _ (held : List Datum) {lefts rights masks : List ℕ} (kept : Kept held lefts rights masks) where
+module _ (held : List Datum) {lefts rights masks : List ℕ} (kept : InArrays held lefts rights masks) where
   pub begun-none : Hull held (AtMostOne false 0) noEnd 0
   begun-none =
       record {
@@ -235,7 +235,7 @@ module _ (s : List ℕ) (form : T (inForm s)) where
   keyed-lasts : (d : Datum) → In d (keyed s .held) → d .right < noEnd
   unfolding keyed mapped
   keyed-lasts d m =
-      let w = map-out (withEnds (keyOf s)) (storeOf s .held) d m in
+      let w = map-out (mapEnds (keyOf s)) (storeOf s .held) d m in
       rw (w .2) (omega (arith, key-low s form (keyOf s (w .0 .right)) (held-keyed s form (w .0) (w .1) .1 .1)))
 
   deciding-keyed : (own n : ℕ) → n ≤ length (storeOf s .entries) → deciding (keyed s) own n ≡ deciding (storeOf s) own n
@@ -246,15 +246,15 @@ module _ (s : List ℕ) (form : T (inForm s)) where
       (ap (λ (d : Datum). singles (d .terms)) (mapped-entry (keyOf s) (storeOf s) n (omega arith)))
 
   -- datum i
-  keyed-at : (i : ℕ) → i < heldCount s → getD (keyed s .held) i (entryClaim []) ≡ withEnds (keyOf s) (datumAt s i)
+  keyed-at : (i : ℕ) → i < heldCount s → getD (keyed s .held) i (entryClaim []) ≡ mapEnds (keyOf s) (datumAt s i)
   unfolding keyed mapped storeOf
   keyed-at i h =
-      getD-map (withEnds (keyOf s)) (tab (heldCount s) (datumAt s)) (entryClaim []) (entryClaim []) i (rw length-tab h)
-      ∙ ap (withEnds (keyOf s)) (getD-tab (heldCount s) i (datumAt s) (entryClaim []) h)
+      getD-map (mapEnds (keyOf s)) (tab (heldCount s) (datumAt s)) (entryClaim []) (entryClaim []) i (rw length-tab h)
+      ∙ ap (mapEnds (keyOf s)) (getD-tab (heldCount s) i (datumAt s) (entryClaim []) h)
 
   keyed-count : length (keyed s .held) ≡ heldCount s
   unfolding keyed mapped
-  keyed-count = length-map (storeOf s .held) (withEnds (keyOf s)) ∙ length-held s
+  keyed-count = length-map (storeOf s .held) (mapEnds (keyOf s)) ∙ length-held s
 
   -- the masks that are read from the bytes
   pub masks-read : (n h : ℕ) (rest l : List ℕ) → n ≡ entryCount s → h ≡ heldCount s
@@ -272,7 +272,7 @@ module _ (s : List ℕ) (form : T (inForm s)) where
 
   -- the keys that are made of the bytes
   pub kept-in : (h : ℕ) (l₀ r₀ l r masks : List ℕ) → h ≡ heldCount s → l ≡ tab h (claimLeft (keyOf s) s 0) ++ drop h l₀
-      → r ≡ tab h (claimRight (keyOf s) s 0) ++ drop h r₀ → masks ≡ masksOf (keyed s .held) → Kept (keyed s .held) l r masks
+      → r ≡ tab h (claimRight (keyOf s) s 0) ++ drop h r₀ → masks ≡ masksOf (keyed s .held) → InArrays (keyed s .held) l r masks
   unfolding claimLeft claimRight masksOf keyedState
   kept-in h l₀ r₀ l r masks b e f m =
       record {
@@ -471,7 +471,7 @@ module _ (s : List ℕ) (form : T (inForm s)) (n names : ℕ) (a : n ≡ entryCo
     -- what the calls leave of the data, and what all names leave then
     pub one-hull : (z : r ≡ 0) (h : ℕ) (l₀ r₀ lefts rights : List ℕ) → h ≡ heldCount s → lefts ≡ tab h (claimLeft (keyOf s) s 0) ++ drop h l₀
         → rights ≡ tab h (claimRight (keyOf s) s 0) ++ drop h r₀ → (left right : ℕ)
-        → ((es : List Datum) → Kept es lefts rights masks → Lacking es names → Hull es (AtMostOne (eqb n 0) names) left right)
+        → ((es : List Datum) → InArrays es lefts rights masks → Lacking es names → Hull es (AtMostOne (eqb n 0) names) left right)
         → Hull ds (AtMostOne (eqb n 0) names) left right
     one-hull z h l₀ r₀ lefts rights k p q left right f = f ds (kept-in s form h l₀ r₀ lefts rights masks k p q m) (one-lacking z)
 

@@ -12,7 +12,7 @@ ghost use Rattle.state.specs.Form.{inForm};
 ghost use Rattle.state.specs.Model.{Datum};
 ghost use Rattle.search.specs.code.LeftEnds.{noEnd};
 ghost use Rattle.asking.specs.Asking.{active, greatestLeft, leastRight, answer};
-ghost use Rattle.asking.specs.code.One.{commonNames, allNames, Kept, Lacking, AtMostOne, Hull, LeastLeaving, FewestOne};
+ghost use Rattle.asking.specs.code.One.{commonNames, allNames, InArrays, Lacking, AtMostOne, Hull, LeastLeaving, FewestOne};
 use super::Answer;
 
 // From one key to another, in order or not.
@@ -51,7 +51,7 @@ fn all_names(masks: &[u32]) -> u32
 // right end.
 fn span(lefts: &[u64], rights: &[u64], masks: &[u32], set: u32) -> Overlap
     requires { ⌜ (length (now masks) ≤ length (now lefts)) × (length (now masks) ≤ length (now rights)) × (ones set ≤ 1) ⌝ }
-    ensures { λ r. ⌜ ((ds : List Datum) → Kept ds (now (lefts .entry)) (now (rights .entry)) (now (masks .entry))
+    ensures { λ r. ⌜ ((ds : List Datum) → InArrays ds (now (lefts .entry)) (now (rights .entry)) (now (masks .entry))
         → (r .left ≡ greatestLeft 0 (active set ds)) × (r .right ≡ leastRight noEnd (active set ds))) ⌝ }
 {
     let mut left: u64 = 0;
@@ -84,7 +84,7 @@ fn widened(a: Overlap, b: Overlap) -> Overlap
 // What was begun, widened by what each of the names leaves.
 fn over_names(lefts: &[u64], rights: &[u64], masks: &[u32], names: u32, begun: Overlap) -> Overlap
     requires { ⌜ (length (now masks) ≤ length (now lefts)) × (length (now masks) ≤ length (now rights)) ⌝ }
-    ensures { λ r. ⌜ ((ds : List Datum) → Kept ds (now (lefts .entry)) (now (rights .entry)) (now (masks .entry)) → Lacking ds names
+    ensures { λ r. ⌜ ((ds : List Datum) → InArrays ds (now (lefts .entry)) (now (rights .entry)) (now (masks .entry)) → Lacking ds names
         → (plain : Bool) → Hull ds (AtMostOne plain 0) (begun .left) (begun .right) → Hull ds (AtMostOne plain names) (r .left) (r .right)) ⌝ }
 {
     let mut widest = begun;
@@ -101,7 +101,7 @@ fn over_names(lefts: &[u64], rights: &[u64], masks: &[u32], names: u32, begun: O
 // what the empty set leaves.
 fn widest(lefts: &[u64], rights: &[u64], masks: &[u32], names: u32, plain: bool) -> Overlap
     requires { ⌜ (length (now masks) ≤ length (now lefts)) × (length (now masks) ≤ length (now rights)) × (0 < length (now masks)) ⌝ }
-    ensures { λ r. ⌜ ((ds : List Datum) → Kept ds (now (lefts .entry)) (now (rights .entry)) (now (masks .entry)) → Lacking ds names
+    ensures { λ r. ⌜ ((ds : List Datum) → InArrays ds (now (lefts .entry)) (now (rights .entry)) (now (masks .entry)) → Lacking ds names
         → Hull ds (AtMostOne plain names) (r .left) (r .right)) ⌝ }
 {
     let some = all_names(masks);
@@ -144,7 +144,7 @@ pub(crate) fn ask_one(s: &[u8]) -> Answer
 // The least of the names that leaves any instant, as a set; 2^29 where there is none.
 fn least_leaving(lefts: &[u64], rights: &[u64], masks: &[u32], names: u32) -> u32
     requires { ⌜ (length (now masks) ≤ length (now lefts)) × (length (now masks) ≤ length (now rights)) ⌝ }
-    ensures { λ r. ⌜ ((ds : List Datum) → Kept ds (now (lefts .entry)) (now (rights .entry)) (now (masks .entry)) → LeastLeaving ds names r) ⌝ }
+    ensures { λ r. ⌜ ((ds : List Datum) → InArrays ds (now (lefts .entry)) (now (rights .entry)) (now (masks .entry)) → LeastLeaving ds names r) ⌝ }
 {
     let mut rest = names;
     while rest != 0 {

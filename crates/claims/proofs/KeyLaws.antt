@@ -34,7 +34,7 @@ use Rattle.state.proofs.StoreLaws.{column-front, length-column}
 use Rattle.search.specs.code.Search.{Rows}
 use Rattle.claims.specs.declared.keys.Scale.{Scale}
 use Rattle.claims.specs.code.Keys.{leastWhole, baseOf, greatestWhole, topOf, countLimit, countable, scaleBy, scaleOf, below, partsMost, rankStep, rankKey, millionthsAt, partsOf}
-use Rattle.claims.specs.code.Keys.{Counted, countFrom, keyBy, stepOf, downBy, upBy, keyOf, lastKey, withEnds, mapped, keyed}
+use Rattle.claims.specs.code.Keys.{Counted, countFrom, keyBy, stepOf, downBy, upBy, keyOf, lastKey, mapEnds, mapped, keyed}
 use Rattle.claims.specs.code.Tables.{entryClaim, claimAt, claimLeft, claimRight, Loaded, Bounded}
 use Rattle.claims.proofs.TableLaws.{claim-entry, claim-datum, datum-claim}
 
@@ -381,10 +381,10 @@ module _ (f : ℕ → ℕ) (k : Store) where
   unfolding mapped
   mapped-entry i h = claim-entry (mapped f k) i h ∙ sym (claim-entry k i h)
 
-  mapped-datum : (j : ℕ) → j < length (k .held) → claimAt (mapped f k) (n + j) ≡ withEnds f (claimAt k (n + j))
+  mapped-datum : (j : ℕ) → j < length (k .held) → claimAt (mapped f k) (n + j) ≡ mapEnds f (claimAt k (n + j))
   unfolding mapped
   mapped-datum j h =
-      claim-datum (mapped f k) j ∙ getD-map (withEnds f) (k .held) (entryClaim []) (entryClaim []) j h ∙ ap (withEnds f) (sym (claim-datum k j))
+      claim-datum (mapped f k) j ∙ getD-map (mapEnds f) (k .held) (entryClaim []) (entryClaim []) j h ∙ ap (mapEnds f) (sym (claim-datum k j))
 
   mapped-terms : (i : ℕ) → i < n + length (k .held) → claimAt (mapped f k) i .terms ≡ claimAt k i .terms
   mapped-terms i h = go (decLt i n)
@@ -400,7 +400,7 @@ module _ (f : ℕ → ℕ) (k : Store) where
   mapped-loaded {m} w =
       record {
         entries-are = w .entries-are;
-        rows-are = w .rows-are ∙ ap (λ (h : ℕ). m + h) (sym (length-map (k .held) (withEnds f)));
+        rows-are = w .rows-are ∙ ap (λ (h : ℕ). m + h) (sym (length-map (k .held) (mapEnds f)));
         means = λ i h s. w .means i h s ∙ ap (holds s) (sym (mapped-terms i (omega (arith, w .rows-are, w .entries-are))));
         parted = w .parted;
       }
@@ -435,7 +435,7 @@ module _ (s : List ℕ) (t : T (inForm s)) (n rows : ℕ) (a : n ≡ entryCount 
           let place : length (storeOf s .entries) + j ≡ i = omega (arith, length-entries s) in
           let count : entryCount s + j ≡ i = omega arith in
           let datum : claimAt (storeOf s) i ≡ datumAt s j = rw count at (datum-claim s j held) in
-          let claim : claimAt (mapped f (storeOf s)) i ≡ withEnds f (datumAt s j) =
+          let claim : claimAt (mapped f (storeOf s)) i ≡ mapEnds f (datumAt s j) =
           rw (place, datum) at (mapped-datum f (storeOf s) j (omega (arith, length-held s))) in
           let small = datum-keyed s t j held in
           record { left = rw (later, claim); right = rw (later, claim); left-low = rw later (key-low s t _ (small .0 .1)); right-low = rw later (key-low s t _ (small .1 .1)) }

@@ -12,8 +12,8 @@ ghost use Rattle.ends.specs.Ends.{countOf, Split};
 ghost use Rattle.state.specs.Model.{lastWhole};
 ghost use Rattle.state.specs.Layout.{heldCount, stateSize, dataMost, entriesMost};
 ghost use Rattle.state.specs.Form.{inForm};
-ghost use Rattle.claims.specs.code.Keys.{baseOf, topOf, countLimit, countable as Keys·countable, Counted, scaleOf, below, partsMost, millionthsAt};
-ghost use Rattle.claims.specs.code.Keys.{countFrom, rankKey, stepOf, downBy, upBy, keyOf};
+ghost use Rattle.claims.specs.code.Keys.{baseOf, topOf, countLimit, countable as Keys·countable, Counted, scaleOf, below, partsMost};
+ghost use Rattle.claims.specs.code.Keys.{millionthsAt, countFrom, rankKey, stepOf, downBy, upBy, keyOf};
 ghost use Rattle.claims.specs.code.Tables.{claimLeft, claimRight};
 use ends::End;
 

@@ -36,7 +36,10 @@ fn forget(state: &mut [u8], risen: u32)
 // Stores the epochs that names bring: where some have risen, what is saved of those clocks goes.
 fn store_epochs(state: &mut [u8], own: u32, names: &[u32], risen: u32)
     requires { ⌜ (stateSize ≤ length (now state)) × T (inForm (now state)) × Named (now names) ⌝ }
-    ensures { λ _. ⌜ (let st : State = record { head = heardHead own (now (names .entry)) risen (headOf (now (state .entry))); store = storeOf (now (state .entry)) } in
+    ensures { λ _. ⌜ (let st : State = record {
+      head = heardHead own (now (names .entry)) risen (headOf (now (state .entry)));
+      store = storeOf (now (state .entry));
+    } in
         now (state .exit) ≡ put 0 (stateBytes st) (now (state .entry))) ⌝ }
 {
     forget(state, risen);

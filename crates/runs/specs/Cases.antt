@@ -311,26 +311,26 @@ pub record LentComes (c : Lent) (rest : List ℕ) : Type 0 where
   pub comes : Comes (bytesRun (stateBytes (c .state) ++ rest) (c .requests)) (c .question)
 
 -- a monitor 5 without drift that holds these data
-abbrev pub holds : List Datum → List Request → Question → Lent
-holds ds qs q = record { state = record { head = setUp (steady 5) .head; store = record { held = ds; entries = [] } }; requests = qs; question = q }
+abbrev pub lentHolding : List Datum → List Request → Question → Lent
+lentHolding ds qs q = record { state = record { head = setUp (steady 5) .head; store = record { held = ds; entries = [] } }; requests = qs; question = q }
 
 -- document 02, W-205: ends that only their millionths tell apart
 unfoldable pub fractions : List Lent
 fractions =
     -- [5.2,5.4] under 1 and [5.5,5.6] under 2 lie within one microsecond and have no instant in common
-    holds (datum 5_200_000 5_400_000 (2 ^ 1 ∷ []) ∷ datum 5_500_000 5_600_000 (2 ^ 2 ∷ []) ∷ []) [] (asking 0 Contradicted)
-    ∷ holds (datum 5_200_000 5_400_000 (2 ^ 1 ∷ []) ∷ datum 5_500_000 5_600_000 (2 ^ 2 ∷ []) ∷ []) [] (asking 1 (Between 5 6))
+    lentHolding (datum 5_200_000 5_400_000 (2 ^ 1 ∷ []) ∷ datum 5_500_000 5_600_000 (2 ^ 2 ∷ []) ∷ []) [] (asking 0 Contradicted)
+    ∷ lentHolding (datum 5_200_000 5_400_000 (2 ^ 1 ∷ []) ∷ datum 5_500_000 5_600_000 (2 ^ 2 ∷ []) ∷ []) [] (asking 1 (Between 5 6))
     -- [5.2,5.4] and [5.3,5.6] have
-    ∷ holds (datum 5_200_000 5_400_000 (2 ^ 1 ∷ []) ∷ datum 5_300_000 5_600_000 (2 ^ 2 ∷ []) ∷ []) [] (asking 0 (Between 5 6))
+    ∷ lentHolding (datum 5_200_000 5_400_000 (2 ^ 1 ∷ []) ∷ datum 5_300_000 5_600_000 (2 ^ 2 ∷ []) ∷ []) [] (asking 0 (Between 5 6))
     -- an answer without millionths does not round
-    ∷ holds (datum 5_200_000 7_000_000 (2 ^ 1 ∷ []) ∷ datum 6_000_000 9_100_000 (2 ^ 2 ∷ []) ∷ []) [] (asking 0 (Between 6 7))
+    ∷ lentHolding (datum 5_200_000 7_000_000 (2 ^ 1 ∷ []) ∷ datum 6_000_000 9_100_000 (2 ^ 2 ∷ []) ∷ []) [] (asking 0 (Between 6 7))
     -- rule 15: [5.2,5.9] and [5,6] under 1 give [5.2,5.9]
-    ∷ holds (datum 5_200_000 5_900_000 (2 ^ 1 ∷ []) ∷ []) (hear 1 5 6 [] ∷ []) (holding (datum 5_200_000 5_900_000 (2 ^ 1 ∷ []) ∷ []))
+    ∷ lentHolding (datum 5_200_000 5_900_000 (2 ^ 1 ∷ []) ∷ []) (hear 1 5 6 [] ∷ []) (holding (datum 5_200_000 5_900_000 (2 ^ 1 ∷ []) ∷ []))
     -- rule 14: a new [5,9] under 1 does not lie within the held [5.2,9] under 1+2, so both stay
-    ∷ holds (datum 5_200_000 9_000_000 (2 ^ 1 ∷ 2 ^ 2 ∷ []) ∷ []) (hear 1 5 9 [] ∷ [])
+    ∷ lentHolding (datum 5_200_000 9_000_000 (2 ^ 1 ∷ 2 ^ 2 ∷ []) ∷ []) (hear 1 5 9 [] ∷ [])
     (holding (datum 5_200_000 9_000_000 (2 ^ 1 ∷ 2 ^ 2 ∷ []) ∷ whole 5 9 (2 ^ 1 ∷ []) ∷ []))
     -- but within a held [5,9.1] it does, and that goes
-    ∷ holds (datum 5_000_000 9_100_000 (2 ^ 1 ∷ 2 ^ 2 ∷ []) ∷ []) (hear 1 5 9 [] ∷ []) (holding (whole 5 9 (2 ^ 1 ∷ []) ∷ []))
+    ∷ lentHolding (datum 5_000_000 9_100_000 (2 ^ 1 ∷ 2 ^ 2 ∷ []) ∷ []) (hear 1 5 9 [] ∷ []) (holding (whole 5 9 (2 ^ 1 ∷ []) ∷ []))
     ∷ []
 
 -- each row holds, whatever stands behind the state

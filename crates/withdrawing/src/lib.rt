@@ -1,5 +1,5 @@
-// Withdrawing names in a state in form (document 02, W-204): they count as failed in all that it holds and knows. Each row is read once, put in normal
-// form where it has one of the names, and left out where it has become true; then all are written.
+// Withdrawing names in a state in form (document 02, W-204): they count as failed in all that it holds and knows. Each row is read once, put in
+// normal form where it has one of the names, and left out where it has become true; then all are written.
 // Every function here is proved, and the crate assumes nothing of its own.
 ghost use mathlib.Core.Path.{_≡_};
 ghost use mathlib.Core.List.{[], _∷_, _++_};

@@ -40,7 +40,7 @@ allNames names (m ∷ ms) = allNames (union names m) ms
 -- ---- data in arrays
 
 -- these are the ends of the data and their masks; no predicate has the empty term, and every right end is one
-pub record Kept (ds : List Datum) (lefts rights masks : List ℕ) : Type 0 where
+pub record InArrays (ds : List Datum) (lefts rights masks : List ℕ) : Type 0 where
   pub masks-are : masks ≡ masksOf ds
   pub left-is : (i : ℕ) → i < length masks → getD lefts i 0 ≡ getD ds i (entryClaim []) .left
   pub right-is : (i : ℕ) → i < length masks → getD rights i 0 ≡ getD ds i (entryClaim []) .right

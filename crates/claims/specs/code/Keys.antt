@@ -106,11 +106,11 @@ lastKey = lastWhole * rankStep
 -- ---- a state with keys for ends
 
 -- the datum with f of its ends
-abbrev pub withEnds : (ℕ → ℕ) → Datum → Datum
-withEnds f d = datum (f (d .left)) (f (d .right)) (d .terms)
+abbrev pub mapEnds : (ℕ → ℕ) → Datum → Datum
+mapEnds f d = datum (f (d .left)) (f (d .right)) (d .terms)
 
 unfoldable pub mapped : (ℕ → ℕ) → Store → Store
-mapped f k = record { held = map (withEnds f) (k .held); entries = k .entries }
+mapped f k = record { held = map (mapEnds f) (k .held); entries = k .entries }
 
 unfoldable pub keyed : List ℕ → Store
 keyed s = mapped (keyOf s) (storeOf s)

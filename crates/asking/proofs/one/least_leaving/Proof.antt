@@ -8,7 +8,7 @@ use Rattle.numbers.proofs.NumberLaws.{above-zero}
 use Rattle.names.specs.Sets.{subset, minus}
 use Rattle.names.proofs.SetLaws.{subset-refl}
 use Rattle.state.specs.Model.{Datum}
-use Rattle.asking.specs.code.One.{Kept}
+use Rattle.asking.specs.code.One.{InArrays}
 use Rattle.asking.proofs.OneLaws.{one-none, walk-start, walk-name, walk-less, walk-within}
 use Rattle.asking.proofs.OneSteps.{NoneOf, least-found, least-next, least-none}
 use borrow.Author.Needs.{needs}
@@ -17,7 +17,7 @@ use Rattle.asking.proofs.one.least_leaving.Tie as tie
 
 abbrev Inv-loop : tie.InvT-loop
 Inv-loop lefts rights masks names rest₀ rest =
-    T (subset rest names) × ((ds : List Datum) → Kept ds lefts rights masks → NoneOf ds (minus names rest))
+    T (subset rest names) × ((ds : List Datum) → InArrays ds lefts rights masks → NoneOf ds (minus names rest))
 
 abbrev μ-loop : tie.MeasureT-loop
 μ-loop lefts rights masks names rest₀ rest = rest

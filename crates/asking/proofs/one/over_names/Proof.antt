@@ -9,7 +9,7 @@ use Rattle.numbers.proofs.NumberLaws.{above-zero}
 use Rattle.names.specs.Sets.{subset, minus}
 use Rattle.names.proofs.SetLaws.{subset-refl}
 use Rattle.state.specs.Model.{Datum}
-use Rattle.asking.specs.code.One.{Kept, Lacking, AtMostOne, Hull}
+use Rattle.asking.specs.code.One.{InArrays, Lacking, AtMostOne, Hull}
 use Rattle.asking.proofs.OneLaws.{walk-start, walk-end, walk-name, walk-less, walk-within}
 use Rattle.asking.proofs.OneSteps.{over-turn}
 use borrow.Author.Needs.{needs}
@@ -19,7 +19,7 @@ use Rattle.asking.proofs.one.over_names.Tie as tie
 abbrev Inv-loop : tie.InvT-loop
 Inv-loop lefts rights masks names widest₀ rest₀ widest rest =
     T (subset rest names)
-    × ((ds : List Datum) → Kept ds lefts rights masks → Lacking ds names → (plain : Bool) → Hull ds (AtMostOne plain 0) (widest₀ .left) (widest₀ .right)
+    × ((ds : List Datum) → InArrays ds lefts rights masks → Lacking ds names → (plain : Bool) → Hull ds (AtMostOne plain 0) (widest₀ .left) (widest₀ .right)
     → Hull ds (AtMostOne plain (minus names rest)) (widest .left) (widest .right))
 
 abbrev μ-loop : tie.MeasureT-loop

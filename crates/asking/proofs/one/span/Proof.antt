@@ -6,7 +6,7 @@ use mathlib.Core.Logic.{⊎-elim}
 use mathlib.Core.List.{List}
 use lib.ListN.{length}
 use Rattle.state.specs.Model.{Datum}
-use Rattle.asking.specs.code.One.{Kept}
+use Rattle.asking.specs.code.One.{InArrays}
 use Rattle.asking.proofs.OneSteps.{Spanning, span-take, span-pass, span-done}
 use borrow.Author.Needs.{needs}
 use Rattle.asking.proofs.one.span.Statement.{statement}
@@ -14,7 +14,7 @@ use Rattle.asking.proofs.one.span.Tie as tie
 
 abbrev Inv-loop : tie.InvT-loop
 Inv-loop lefts rights masks set left₀ right₀ i₀ left right i =
-    (i ≤ length masks) × ((ds : List Datum) → Kept ds lefts rights masks → Spanning ds set i left right)
+    (i ≤ length masks) × ((ds : List Datum) → InArrays ds lefts rights masks → Spanning ds set i left right)
 
 abbrev μ-loop : tie.MeasureT-loop
 μ-loop lefts rights masks set left₀ right₀ i₀ left right i = length masks - i
