@@ -3,7 +3,8 @@ use Prim.Native.Nat.{suc, _≤_}
 use mathlib.Core.Path.{_≡_, refl, sym, ap, subst, _∙_}
 use mathlib.Core.Logic.{_⊎_, inl, inr}
 use mathlib.Core.Bool.{Bool, true, false, _&&_, _||_, not, cond, or-assoc}
-use mathlib.Core.List.{List, [], _∷_, _++_, map}
+use mathlib.Core.List.{List, [], _∷_, _++_, map, nil≢cons, head-eq-of-cons-eq, tail-eq-of-cons-eq}
+use mathlib.Core.List.{List·Permᴰ, List·Permᴰ·nil, List·Permᴰ·cons, List·Permᴰ·swap, List·Permᴰ·trans}
 use native.Mathlib.Nat.{le-refl}
 use native.Mathlib.Omega.{arith}
 use lib.Dec.{T}
@@ -133,6 +134,12 @@ module _ {A : Type 0} where
       first rest t (inl e) = (inl e, subst (λ y. T (f y)) (sym e) t)
       first rest t (inr h) = later rest h
 
+  pub keep-passed : (f : A → Bool) (x : A) (l : List A) → T (f x) → keep f (x ∷ l) ≡ x ∷ keep f l
+  keep-passed f x l t = ap (λ (b : Bool). cond b (x ∷ keep f l) (keep f l)) (T-true (f x) t)
+
+  pub keep-failed : (f : A → Bool) (x : A) (l : List A) → T (not (f x)) → keep f (x ∷ l) ≡ keep f l
+  keep-failed f x l t = ap (λ (b : Bool). cond b (x ∷ keep f l) (keep f l)) (T-false (f x) t)
+
   pub all-keep : (f g : A → Bool) (l : List A) → T (all f l) → T (all f (keep g l))
   all-keep f g l h = all-in f (keep g l) (λ a m. all-out f l h a (keep-out g l a m .0))
 
@@ -141,6 +148,18 @@ module _ {A : Type 0} where
   length-keep f (x ∷ l) =
       let h = length-keep f l in
       cond-ind (λ m. length m ≤ suc (length l)) (f x) (x ∷ keep f l) (keep f l) (λ _. omega arith) (λ _. omega arith)
+
+-- ---- the same elements in another order
+
+module _ {A : Type 0} where
+  pub perm-in : {l m : List A} → List·Permᴰ l m → (a : A) → In a l → In a m
+  perm-in List·Permᴰ·nil a h = h
+  perm-in (List·Permᴰ·cons e d) a (inl p) = inl (p ∙ e)
+  perm-in (List·Permᴰ·cons e d) a (inr h) = inr (perm-in d a h)
+  perm-in (List·Permᴰ·swap e₁ e₂) a (inl p) = inr (inl (p ∙ e₁))
+  perm-in (List·Permᴰ·swap e₁ e₂) a (inr (inl p)) = inl (p ∙ e₂)
+  perm-in (List·Permᴰ·swap e₁ e₂) a (inr (inr h)) = inr (inr h)
+  perm-in (List·Permᴰ·trans d₁ d₂) a h = perm-in d₂ a (perm-in d₁ a h)
 
 module _ {A B : Type 0} (f : A → B) where
   pub map-in : (l : List A) (a : A) → In a l → In (f a) (map f l)
@@ -163,6 +182,27 @@ module _ {A : Type 0} where
       go : (b : Bool) → keep f (xs ++ ys) ≡ keep f xs ++ keep f ys → cond b (x ∷ keep f (xs ++ ys)) (keep f (xs ++ ys)) ≡ cond b (x ∷ keep f xs) (keep f xs) ++ keep f ys
       go true e = ap (λ (l : List A). x ∷ l) e
       go false e = e
+
+  -- x between ls and rs does not pass
+  pub keep-without : (f : A → Bool) (ls : List A) (x : A) (rs : List A) → T (not (f x)) → keep f (ls ++ (x ∷ rs)) ≡ keep f (ls ++ rs)
+  keep-without f ls x rs t =
+      keep-append f ls (x ∷ rs) ∙ ap (λ (l : List A). keep f ls ++ l) (keep-failed f x rs t) ∙ sym (keep-append f ls rs)
+
+  -- x is the first of l that passes, and the others that do are rest
+  abbrev pub FirstKept : (A → Bool) → List A → A → List A → Type 0
+  FirstKept f l x rest = (ls : List A) × (rs : List A) × (l ≡ ls ++ (x ∷ rs)) × (keep f ls ≡ []) × (keep f rs ≡ rest)
+
+  pub first-kept : (f : A → Bool) (l : List A) (x : A) (rest : List A) → keep f l ≡ x ∷ rest → FirstKept f l x rest
+  first-kept f [] x rest e = absurd (nil≢cons e)
+  first-kept f (y ∷ l) x rest e = go (split (f y)) (first-kept f l x rest)
+    where
+      go : T (f y) ⊎ T (not (f y)) → (keep f l ≡ x ∷ rest → FirstKept f l x rest) → FirstKept f (y ∷ l) x rest
+      go (inl t) found =
+          let same : y ∷ keep f l ≡ x ∷ rest = sym (keep-passed f y l t) ∙ e in
+          ([], l, ap (λ (z : A). z ∷ l) (head-eq-of-cons-eq same), refl, tail-eq-of-cons-eq same)
+      go (inr t) found =
+          let (ls, rs, cut, before, behind) = found (sym (keep-failed f y l t) ∙ e) in
+          (y ∷ ls, rs, ap (λ (m : List A). y ∷ m) cut, keep-failed f y ls t ∙ before, behind)
 
   pub any-append : (f : A → Bool) (xs ys : List A) → any f (xs ++ ys) ≡ any f xs || any f ys
   any-append f [] ys = refl

@@ -27,11 +27,11 @@ use Rattle.runs.proofs.Answers.{answer-in, answer-fits, gives-tells, fe
 -- ---- asking and the fewest failures are taken
 
 module _ (s : List ℕ) (long : stateSize ≤ length s) (form : T (inForm s)) (out : List ℕ) where
-  ask-taken : (limit : ℕ) → limit ≤ limitMost → answerSize ≤ length out → askNumber s limit out ≡ 0
+  pub ask-taken : (limit : ℕ) → limit ≤ limitMost → answerSize ≤ length out → askNumber s limit out ≡ 0
   unfolding askNumber
   ask-taken limit l h = lent-next s _ long form ∙ rw (le-ltb limitMost limit l, le-ltb (length out) answerSize h)
 
-  fewest-taken : fewestSize ≤ length out → fewestNumber s out ≡ 0
+  pub fewest-taken : fewestSize ≤ length out → fewestNumber s out ≡ 0
   unfolding fewestNumber
   fewest-taken h = lent-next s _ long form ∙ rw (le-ltb (length out) fewestSize h)
 

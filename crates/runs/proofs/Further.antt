@@ -27,11 +27,11 @@ use Rattle.runs.proofs.Demand3.{demand3}
 
 -- ---- the book of the taken calls
 
-written : Book → List Request → Book
+unfoldable pub written : Book → List Request → Book
 written b [] = b
 written b (q ∷ qs) = written (enteredRequest b q) qs
 
-book-written : (ps : List Step) (b : Book) → bookOf b ps ≡ written b (takenOf ps)
+pub book-written : (ps : List Step) (b : Book) → bookOf b ps ≡ written b (takenOf ps)
 unfolding bookOf written takenOf noted
 book-written [] b = refl
 book-written (p ∷ ps) b = book-written ps (noted (p .number) b (p .request)) ∙ go (p .number) (p .request) (takenOf ps)
@@ -43,9 +43,17 @@ book-written (p ∷ ps) b = book-written ps (noted (p .number) b (p .request)) �
 -- ---- one book lets through no more than another
 
 -- c has the head of b, and its paths end only where those of b do, whatever predicates are true
-record Less (c b : Book) : Type 0 where
-  head : c .head ≡ b .head
-  ends : (v : Line → Bool) (x : ℤ) → EndsOn v (c .lines) x → EndsOn v (b .lines) x
+pub record Less (c b : Book) : Type 0 where
+  pub head : c .head ≡ b .head
+  pub ends : (v : Line → Bool) (x : ℤ) → EndsOn v (c .lines) x → EndsOn v (b .lines) x
+
+pub less-refl : (b : Book) → Less b b
+less-refl b = record { head = refl; ends = λ v x p. p }
+
+-- so for each set of names, which are current in both
+pub less-sees : (c b : Book) → Less c b → (s : ℕ) (x : ℤ) → EndsOn (sees (c .head .epochs) s) (c .lines) x
+    → EndsOn (sees (b .head .epochs) s) (b .lines) x
+less-sees c b l s x p = subst (λ (h : Head). EndsOn (sees (h .epochs) s) (b .lines) x) (l .head) (l .ends (sees (c .head .epochs) s) x p)
 
 -- the same call in both
 less-call : (c b : Book) (q : Call) → Less c b → Less (entered c q) (entered b q)
@@ -73,7 +81,7 @@ less-receipt c b g e q l =
     }
 
 module _ (c b : Book) (l : Less c b) where
-  less-both : (q : Request) → Less (enteredRequest c q) (enteredRequest b q)
+  pub less-both : (q : Request) → Less (enteredRequest c q) (enteredRequest b q)
   unfolding enteredRequest enteredDelivery
   less-both (ageing reading) = less-call c b (age reading) l
   less-both (receipt g) = go (delivered g)
@@ -106,7 +114,7 @@ books-less : (P Q : Run) → P .setup ≡ Q .setup → Further (opened (Q .setup
 unfolding book
 books-less P Q e f =
     let b = opened (P .setup) in
-    let alike : Less (opened (Q .setup)) b = subst (λ (u : Setup). Less (opened u) b) e record { head = refl; ends = λ v x p. p } in
+    let alike : Less (opened (Q .setup)) b = subst (λ (u : Setup). Less (opened u) b) e (less-refl b) in
     rw (book-written (stepsOf P) b, book-written (stepsOf Q) (opened (Q .setup)))
     (less-written (takenOf (stepsOf Q)) (takenOf (stepsOf P)) (opened (Q .setup)) b alike f)
 
@@ -115,7 +123,7 @@ unfolding Demand3·more
 demand3·more P Q e f limitP limitQ le x (s, a, p) =
     let l = books-less P Q e f in
     let allowed : Allowed limitP (book P .head .own) s = record { names = a .names; few = le-trans (a .few) le; others = rw (l .head) at (a .others) } in
-    (s, allowed, subst (λ (h : Head). EndsOn (sees (h .epochs) s) (book P .lines) x) (l .head) (l .ends (sees (book Q .head .epochs) s) x p))
+    (s, allowed, less-sees (book Q) (book P) l s x p)
 
 -- ---- the whole demand
 

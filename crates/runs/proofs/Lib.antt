@@ -1,5 +1,5 @@
--- Demand 1, ageing in pieces and demand 3 with what they rest on, lowest first: what a receipt, a violation and an ageing mean for one set, what a run keeps, the
--- answers; then runs by the states that their bytes hold, the table of cases and an example.
+-- Demand 1, ageing in pieces and demand 3 with what they rest on, lowest first: what a receipt, a violation and an ageing mean for one set, what a run
+-- keeps, the answers; then receipts in any order; then runs by the states that their bytes hold, the table of cases and an example.
 pub mod Demand1
 pub mod SameBytes
 pub mod AgedOnce
@@ -13,6 +13,8 @@ pub mod Runs
 pub mod Answers
 pub mod Demand3
 pub mod Further
+pub mod Swaps
+pub mod Orders
 pub mod ByNames
 pub mod DecodedRuns
 pub mod WorkedCases

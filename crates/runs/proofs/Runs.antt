@@ -105,7 +105,7 @@ module _ (s : List ℕ) (b : Book) (so : Sound s b) where
 
 -- ---- a run
 
-run-sound : (qs : List Request) (s : List ℕ) (b : Book) → Sound s b → Sound (bytesRun s qs) (bookOf b (steps s qs))
+pub run-sound : (qs : List Request) (s : List ℕ) (b : Book) → Sound s b → Sound (bytesRun s qs) (bookOf b (steps s qs))
 unfolding bytesRun bookOf steps
 run-sound [] s b so = so
 run-sound (q ∷ qs) s b so = run-sound qs (bytesAfter s q) (noted (requestNumber s q) b q) (step-sound s b so q)

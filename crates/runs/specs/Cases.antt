@@ -291,6 +291,17 @@ cases =
     -- three ageings are one
     ∷ given (named 5) (hear 1 0 10 [] ∷ ageing 1_000_001 ∷ ageing 2_000_002 ∷ ageing 3_000_003 ∷ [])
     (holding (datum (3_000_003 * 999_900) (10 * million + 3_000_003 * 1_000_100) (2 ^ 1 ∷ []) ∷ []))
+    -- document 02, W-206. Two receipts in either order: what is held stands in another order, and the answer is the same
+    ∷ given (named 5) (hear 1 0 10 [] ∷ hear 2 5 20 [] ∷ []) (holding (whole 0 10 (2 ^ 1 ∷ []) ∷ whole 5 20 (2 ^ 2 ∷ []) ∷ []))
+    ∷ given (named 5) (hear 2 5 20 [] ∷ hear 1 0 10 [] ∷ []) (holding (whole 5 20 (2 ^ 2 ∷ []) ∷ whole 0 10 (2 ^ 1 ∷ []) ∷ []))
+    ∷ given (named 5) (hear 1 0 10 [] ∷ hear 2 5 20 [] ∷ []) (asking 0 (Between 5 10))
+    ∷ given (named 5) (hear 2 5 20 [] ∷ hear 1 0 10 [] ∷ []) (asking 0 (Between 5 10))
+    -- the readings of one sender have to keep their order: these are quiet, and in the other order the later one violates the test
+    ∷ given (steady 5) (one 0 0 0 ∷ one 10 10 0 ∷ []) (asking 0 (Between 0 10))
+    ∷ given (steady 5) (one 10 10 0 ∷ one 0 0 0 ∷ []) (asking 0 Contradicted)
+    -- those of an older name need not, since they are not heeded
+    ∷ given (steady 5) (mended 0 10 ∷ one 0 0 0 ∷ one 10 10 0 ∷ []) (asking 0 (Between 0 10))
+    ∷ given (steady 5) (mended 0 10 ∷ one 10 10 0 ∷ one 0 0 0 ∷ []) (asking 0 (Between 0 10))
     ∷ []
 
 -- "The cases marked P are proved together, as one table with a common statement": each row holds of the exported calls, in every buffer that has room
