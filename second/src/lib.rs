@@ -4,12 +4,14 @@
 //! A module for each section of document 01, `clocks` and `epochs` for what document 02 adds, and
 //! others to compare with: `engine` calls the archive, `calls` and `lent` lend the same bytes to
 //! both programs, `random` and `samples` make the seeded inputs, `timing` takes times. `book` has
-//! what demand 3 says of a whole run, without any state; `every_set` has asking as the paper words
-//! it, which `asking` is a fast form of, and `ranks` has ends by their order alone.
+//! what demand 3 says of a whole run, without any state, and `booked` runs that are made beside it;
+//! `every_set` has asking as the paper words it, which `asking` is a fast form of, and `ranks` has
+//! ends by their order alone.
 
 pub mod ageing;
 pub mod asking;
 pub mod book;
+pub mod booked;
 pub mod branches;
 pub mod calls;
 pub mod claims;

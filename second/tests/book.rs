@@ -3,137 +3,60 @@
 //! receipts bring clock readings, of which the book keeps every sender's whole history; names are
 //! mended, and the book keeps them with their epochs.
 
-use second::asking::{answer_bytes, fewest_bytes, ANSWER_BYTES, FEWEST_BYTES, GREATEST_LIMIT};
+use second::asking::{answer_bytes, fewest_bytes, GREATEST_LIMIT};
 use second::book::{self, Book, Ended, Line};
+use second::booked::Run;
 use second::branches::{Branch, Branches, Counts};
 use second::calls::Call;
 use second::clocks::{Readings, Saved, Triple, GREATEST_CLOCK};
-use second::epochs::{Name, GREATEST_EPOCH};
+use second::epochs::Name;
 use second::every_set::counting;
 use second::instants::{joined, split, Instant, Instants, Interval};
-use second::lent::Lent;
 use second::message::Message;
 use second::predicates::{Predicate, Term, ALL_NAMES, GREATEST_NAME, NAMES};
 use second::random::Random;
 use second::samples::runs::{has_slept, World};
 use second::samples::{self, report};
-use second::state::{State, GREATEST_DRIFT, STATE_BYTES};
+use second::state::{State, GREATEST_DRIFT};
 use std::collections::BTreeSet;
 use std::ops::RangeInclusive;
 
 const LIMITS: RangeInclusive<u32> = 0..=GREATEST_LIMIT;
 
-// ---- a run and its book
+// ---- a run against its book
 
-/// A run of both programs. Its book sees the calls and their numbers, and no state.
-struct Run {
-    seed: u64,
-    random: Random,
-    state: Lent,
-    book: Book,
-    /// The calls that were taken after setting up.
-    taken: Vec<Call>,
-    /// Of the last call.
-    branches: Branches,
+/// Compares the answers, the fewest failures and the instants of each set with what the book says
+/// is possible; and what is known and saved of each name with what the book has heard.
+fn agrees(run: &mut Run, tally: &mut Tally) {
+    let ended = run.book.ended();
+    let by_set = ended.by_set();
+    for limit in LIMITS {
+        let (possible, answer) = (by_set.possible(limit), run.answer(limit));
+        assert_eq!(answer, answer_bytes(possible), "limit {limit}: {possible:?}: {}", run.case());
+        tally.count(limit, possible);
+    }
+    let fewest = by_set.fewest();
+    assert_eq!(run.fewest(), fewest_bytes(fewest.map(mask)), "{fewest:?}: {}", run.case());
+    tally.fewest[fewest.map_or(OVER, |set| set.len())] += 1;
+    let state = run.state();
+    assert_eq!(state.epochs, *run.book.known(), "{}", run.case());
+    for (name, clock) in (0..).zip(state.clocks) {
+        assert_eq!(clock, run.book.saved(name), "name {name}: {}", run.case());
+    }
+    for (reached, set) in by_set.iter() {
+        assert_eq!(counting(mask(set), &state), reached, "set {set:?}: {}", run.case());
+    }
+    agrees_for_large_sets(run, &state, &ended);
 }
 
-impl Run {
-    /// A run that was just set up.
-    fn new(seed: u64, mut random: Random, world: &World) -> Run {
-        let bytes = random.bytes(STATE_BYTES);
-        let state = Lent::new(&bytes, &mut random);
-        // Setting up enters its numbers, whatever is here before.
-        let book = Book::new(GREATEST_NAME, GREATEST_DRIFT, 0, GREATEST_EPOCH);
-        let branches = Branches::default();
-        let mut run = Run { seed, random, state, book, taken: vec![], branches };
-        assert_eq!(run.call(&world.set_up()), 0, "seed {seed}");
-        run.taken.clear();
-        run
-    }
-
-    fn call(&mut self, call: &Call) -> u32 {
-        let (number, _) = self.both(call, 0);
-        self.book.enter(call, number);
-        if number == 0 {
-            self.taken.push(call.clone());
-        }
-        number
-    }
-
-    /// A call by both programs with an output of so many bytes: its number and the output.
-    fn both(&mut self, call: &Call, len: usize) -> (u32, Vec<u8>) {
-        let mut out = Lent::new(&vec![0; len], &mut self.random);
-        self.branches = Branches::default();
-        let number = call.both(&mut self.state, &mut out, &mut self.branches);
-        let number = number.unwrap_or_else(|fault| {
-            let state = State::of(self.state.bytes());
-            panic!("seed {}: {fault}: {call:?} in {state:?}", self.seed)
-        });
-        (number, out.bytes().to_vec())
-    }
-
-    /// The state, to draw a call from or to compare with the book.
-    fn state(&self) -> State {
-        State::of(self.state.bytes()).expect("a state in form")
-    }
-
-    /// What both programs answer.
-    fn answer(&mut self, limit: u32) -> Vec<u8> {
-        let (number, answer) = self.both(&Call::Ask { limit: limit.into() }, ANSWER_BYTES);
-        assert_eq!(number, 0, "seed {}", self.seed);
-        answer
-    }
-
-    /// The count and the mask that both programs give.
-    fn fewest(&mut self) -> Vec<u8> {
-        let (number, fewest) = self.both(&Call::Fewest, FEWEST_BYTES);
-        assert_eq!(number, 0, "seed {}", self.seed);
-        fewest
-    }
-
-    /// Compares the answers, the fewest failures and the instants of each set with what the book
-    /// says is possible; and what is known and saved of each name with what the book has heard.
-    fn agrees(&mut self, tally: &mut Tally) {
-        let ended = self.book.ended();
-        let by_set = ended.by_set();
-        for limit in LIMITS {
-            let (possible, answer) = (by_set.possible(limit), self.answer(limit));
-            assert_eq!(
-                answer,
-                answer_bytes(possible),
-                "limit {limit}: {possible:?}: {}",
-                self.case()
-            );
-            tally.count(limit, possible);
-        }
-        let fewest = by_set.fewest();
-        assert_eq!(self.fewest(), fewest_bytes(fewest.map(mask)), "{fewest:?}: {}", self.case());
-        tally.fewest[fewest.map_or(OVER, |set| set.len())] += 1;
-        let state = self.state();
-        assert_eq!(state.epochs, *self.book.known(), "{}", self.case());
-        for (name, clock) in (0..).zip(state.clocks) {
-            assert_eq!(clock, self.book.saved(name), "name {name}: {}", self.case());
-        }
-        for (reached, set) in by_set.iter() {
-            assert_eq!(counting(mask(set), &state), reached, "set {set:?}: {}", self.case());
-        }
-        self.agrees_for_large_sets(&state, &ended);
-    }
-
-    /// Sets past every limit count too: a withdrawn name adds to them from then on.
-    fn agrees_for_large_sets(&mut self, state: &State, ended: &Ended) {
-        for _ in 0..4 {
-            let s = self.random.bits() as Term & ALL_NAMES & !(1 << state.own);
-            let names = (0..NAMES).filter(|n| s >> n & 1 != 0);
-            let set: Vec<Name> = names.map(|n| Name::at(self.book.known(), n)).collect();
-            let reached = ended.reached(&set);
-            assert_eq!(counting(s, state), reached, "set {set:?}: {}", self.case());
-        }
-    }
-
-    /// The seed and the calls, for a fault.
-    fn case(&self) -> String {
-        format!("seed {}: {:?}", self.seed, self.taken)
+/// Sets past every limit count too: a withdrawn name adds to them from then on.
+fn agrees_for_large_sets(run: &mut Run, state: &State, ended: &Ended) {
+    for _ in 0..4 {
+        let s = run.random.bits() as Term & ALL_NAMES & !(1 << state.own);
+        let names = (0..NAMES).filter(|n| s >> n & 1 != 0);
+        let set: Vec<Name> = names.map(|n| Name::at(run.book.known(), n)).collect();
+        let reached = ended.reached(&set);
+        assert_eq!(counting(s, state), reached, "set {set:?}: {}", run.case());
     }
 }
 
@@ -616,10 +539,10 @@ fn book_of_a_run_gives_the_answers() {
             refused += u64::from(number != 0);
             slept += u64::from(number == 0 && has_slept(&step));
             if run.random.once_in(times) {
-                run.agrees(&mut tally);
+                agrees(&mut run, &mut tally);
             }
         }
-        run.agrees(&mut tally);
+        agrees(&mut run, &mut tally);
     }
     report(&format!(
         "20,000 runs, {steps} steps of which {refused} were refused, {slept} receipts after a sleep\n"
@@ -787,10 +710,10 @@ fn book_of_a_run_with_mended_names_gives_the_answers() {
             let met = step.heard().into_iter().chain(step.left()).chain(step.undone());
             met.for_each(|(what, met)| mended.count(what, met));
             if run.random.once_in(times) {
-                run.agrees(&mut tally);
+                agrees(&mut run, &mut tally);
             }
         }
-        run.agrees(&mut tally);
+        agrees(&mut run, &mut tally);
     }
     tally.check("20,000 runs with mended names", 1_000);
     mended.check("20,000 runs with mended names", 200);
