@@ -37,16 +37,16 @@ use Rattle.runs.proofs.Swaps.{plain-moved, Batch, swap-less}
 
 -- ---- books that let through the same
 
-abbrev Same : Book → Book → Type 0
-Same b c = Less b c × Less c b
+abbrev SamePaths : Book → Book → Type 0
+SamePaths b c = Less b c × Less c b
 
-same-refl : (b : Book) → Same b b
+same-refl : (b : Book) → SamePaths b b
 same-refl b = (less-refl b, less-refl b)
 
 less-trans : (b c d : Book) → Less b c → Less c d → Less b d
 less-trans b c d l k = record { head = l .head ∙ k .head; ends = λ v x p. k .ends v x (l .ends v x p) }
 
-same-trans : (b c d : Book) → Same b c → Same c d → Same b d
+same-trans : (b c d : Book) → SamePaths b c → SamePaths c d → SamePaths b d
 same-trans b c d s t = (less-trans b c d (s .0) (t .0), less-trans d c b (t .1) (s .1))
 
 less-all : (qs : List Request) (b c : Book) → Less b c → Less (written b qs) (written c qs)
@@ -55,7 +55,7 @@ less-all [] b c l = l
 less-all (q ∷ qs) b c l = less-all qs (enteredRequest b q) (enteredRequest c q) (less-both b c l q)
 
 -- the same requests behind both
-same-all : (qs : List Request) (b c : Book) → Same b c → Same (written b qs) (written c qs)
+same-all : (qs : List Request) (b c : Book) → SamePaths b c → SamePaths (written b qs) (written c qs)
 same-all qs b c s = (less-all qs b c (s .0), less-all qs c b (s .1))
 
 written-append : (xs ys : List Request) (b : Book) → written b (xs ++ ys) ≡ written (written b xs) ys
@@ -82,8 +82,8 @@ module _ (h : Head) where
   Plain (receipt g) = Quiet h (delivered g)
 
   -- no sender of whom both carry readings
-  abbrev Apart : Request → Request → Type 0
-  Apart x y = (n : ℕ) → T (carries h n x) → T (carries h n y) → ⊥
+  abbrev Unrelated : Request → Request → Type 0
+  Unrelated x y = (n : ℕ) → T (carries h n x) → T (carries h n y) → ⊥
 
   batch-next : (b : Book) → Batch h b → (q : Request) → Plain q → Batch h (enteredRequest b q)
   unfolding enteredRequest enteredDelivery entered
@@ -99,7 +99,7 @@ module _ (h : Head) where
   batch-written [] b k ps = k
   batch-written (q ∷ qs) b k ps = batch-written qs (enteredRequest b q) (batch-next b k q (ps q (inl refl))) (λ x m. ps x (inr m))
 
-  swap-request : (b : Book) → Batch h b → (x y : Request) → Plain x → Plain y → Apart x y
+  swap-request : (b : Book) → Batch h b → (x y : Request) → Plain x → Plain y → Unrelated x y
       → Less (enteredRequest (enteredRequest b x) y) (enteredRequest (enteredRequest b y) x)
   unfolding enteredRequest enteredDelivery
   swap-request b k (ageing reading) y p q a = absurd p
@@ -112,19 +112,19 @@ module _ (h : Head) where
       go (brings d) (refused number) p q a = less-refl (enteredDelivery b (brings d))
       go (brings d) (brings e) p q a = swap-less h b k d e p q a
 
-  swap-same : (b : Book) → Batch h b → (x y : Request) → Plain x → Plain y → Apart x y
-      → Same (enteredRequest (enteredRequest b x) y) (enteredRequest (enteredRequest b y) x)
+  swap-same : (b : Book) → Batch h b → (x y : Request) → Plain x → Plain y → Unrelated x y
+      → SamePaths (enteredRequest (enteredRequest b x) y) (enteredRequest (enteredRequest b y) x)
   swap-same b k x y p q a = (swap-request b k x y p q a, swap-request b k y x q p (λ n s t. a n t s))
 
-  -- x to the front, past requests that it is apart from
-  front : (ls rs : List Request) (x : Request) (b : Book) → Batch h b → Each Plain ls → Plain x → Each (Apart x) ls
-      → Same (written b (ls ++ (x ∷ rs))) (written b (x ∷ (ls ++ rs)))
+  -- x to the front, past requests that are unrelated to it
+  to-front : (ls rs : List Request) (x : Request) (b : Book) → Batch h b → Each Plain ls → Plain x → Each (Unrelated x) ls
+      → SamePaths (written b (ls ++ (x ∷ rs))) (written b (x ∷ (ls ++ rs)))
   unfolding written
-  front [] rs x b k ps p a = same-refl (written b (x ∷ rs))
-  front (y ∷ ls) rs x b k ps p a =
+  to-front [] rs x b k ps p a = same-refl (written b (x ∷ rs))
+  to-front (y ∷ ls) rs x b k ps p a =
       let py = ps y (inl refl) in
       same-trans (written b (y ∷ (ls ++ (x ∷ rs)))) (written b (y ∷ (x ∷ (ls ++ rs)))) (written b (x ∷ (y ∷ (ls ++ rs))))
-      (front ls rs x (enteredRequest b y) (batch-next b k y py) (λ q m. ps q (inr m)) p (λ q m. a q (inr m)))
+      (to-front ls rs x (enteredRequest b y) (batch-next b k y py) (λ q m. ps q (inr m)) p (λ q m. a q (inr m)))
       (same-all (ls ++ rs) (enteredRequest (enteredRequest b y) x) (enteredRequest (enteredRequest b x) y)
       (swap-same b k y x py p (λ n s t. a y (inl refl) n t s)))
 
@@ -172,9 +172,9 @@ module _ (h : Head) where
           sym (eqb→eq (d .sender) n (both-l (eqb (d .sender) n) (isGiven (heeded h d)) s))
           ∙ eqb→eq (d .sender) m (both-l (eqb (d .sender) m) (isGiven (heeded h d)) t)
 
-  -- a request that carries readings of n is apart from those that do not
-  apart-kept : (x : Request) (n : ℕ) → T (carries h n x) → (ls : List Request) → keep (carries h n) ls ≡ [] → Each (Apart x) ls
-  apart-kept x n t ls e q m k s u =
+  -- a request that carries readings of n is unrelated to those that do not
+  unrelated-kept : (x : Request) (n : ℕ) → T (carries h n x) → (ls : List Request) → keep (carries h n) ls ≡ [] → Each (Unrelated x) ls
+  unrelated-kept x n t ls e q m k s u =
       subst (λ (qs : List Request). In q qs) e (keep-in (carries h n) ls q m (subst (λ (i : ℕ). T (carries h i q)) (carries-one x k n s t) u))
 
   -- where no sender has any, no request has
@@ -203,26 +203,26 @@ module _ (h : Head) where
 
     -- it goes in front, and then the others follow
     timed-next : (b : Book) → Batch h b → Each Plain (ls ++ (x ∷ rs))
-        → Same (written (enteredRequest b x) (ls ++ rs)) (written (enteredRequest b x) (keep isTimed xs ++ keep isUntimed (ls ++ rs)))
-        → Same (written b (ls ++ (x ∷ rs))) (written b (keep isTimed (x ∷ xs) ++ keep isUntimed (ls ++ (x ∷ rs))))
+        → SamePaths (written (enteredRequest b x) (ls ++ rs)) (written (enteredRequest b x) (keep isTimed xs ++ keep isUntimed (ls ++ rs)))
+        → SamePaths (written b (ls ++ (x ∷ rs))) (written b (keep isTimed (x ∷ xs) ++ keep isUntimed (ls ++ (x ∷ rs))))
     unfolding written
     timed-next b k ps rest =
         let t = carries-timed x n c in
         rw (keep-passed isTimed x xs t, keep-without isUntimed ls x rs (not-T (isUntimed x) (λ u. T-not (isTimed x) u t)))
         (same-trans (written b (ls ++ (x ∷ rs))) (written b (x ∷ (ls ++ rs))) (written b (x ∷ (keep isTimed xs ++ keep isUntimed (ls ++ rs))))
-        (front ls rs x b k (λ q m. ps q (in-l q ls (x ∷ rs) m)) (ps x (in-r x ls (x ∷ rs) (inl refl))) (apart-kept x n c ls before)) rest)
+        (to-front ls rs x b k (λ q m. ps q (in-l q ls (x ∷ rs) m)) (ps x (in-r x ls (x ∷ rs) (inl refl))) (unrelated-kept x n c ls before)) rest)
 
   -- ys, which has of each sender what xs has: those of xs with readings, then its own without
   timed-first : (xs ys : List Request) (b : Book) → Batch h b → Each Plain ys → ReadingsKept h xs ys
-      → Same (written b ys) (written b (keep isTimed xs ++ keep isUntimed ys))
+      → SamePaths (written b ys) (written b (keep isTimed xs ++ keep isUntimed ys))
   timed-first [] ys b k ps e =
-      subst (λ (zs : List Request). Same (written b ys) (written b zs)) (sym (none-timed ys (λ n. sym (e n)))) (same-refl (written b ys))
+      subst (λ (zs : List Request). SamePaths (written b ys) (written b zs)) (sym (none-timed ys (λ n. sym (e n)))) (same-refl (written b ys))
   timed-first (x ∷ xs) ys b k ps e = go (split (isTimed x)) (timed-first xs)
     where
       go : T (isTimed x) ⊎ T (isUntimed x)
           → ((zs : List Request) (c : Book) → Batch h c → Each Plain zs → ReadingsKept h xs zs
-          → Same (written c zs) (written c (keep isTimed xs ++ keep isUntimed zs)))
-          → Same (written b ys) (written b (keep isTimed (x ∷ xs) ++ keep isUntimed ys))
+          → SamePaths (written c zs) (written c (keep isTimed xs ++ keep isUntimed zs)))
+          → SamePaths (written b ys) (written b (keep isTimed (x ∷ xs) ++ keep isUntimed ys))
       go (inr t) rest =
           rw (keep-failed isTimed x xs t)
           (rest ys b k ps (λ n. sym (keep-failed (carries h n) x xs (untimed-carries x t n)) ∙ e n))
@@ -231,11 +231,11 @@ module _ (h : Head) where
           found n c (first-kept (carries h n) ys x (keep (carries h n) xs) (sym (e n) ∙ keep-passed (carries h n) x xs c))
         where
           found : (n : ℕ) → T (carries h n x) → FirstKept (carries h n) ys x (keep (carries h n) xs)
-              → Same (written b ys) (written b (keep isTimed (x ∷ xs) ++ keep isUntimed ys))
+              → SamePaths (written b ys) (written b (keep isTimed (x ∷ xs) ++ keep isUntimed ys))
           found n c (ls, rs, cut, before, behind) =
               let plain : Each Plain (ls ++ (x ∷ rs)) = subst (λ (zs : List Request). Each Plain zs) cut ps in
               let kept : ReadingsKept h (x ∷ xs) (ls ++ (x ∷ rs)) = subst (λ (zs : List Request). ReadingsKept h (x ∷ xs) zs) cut e in
-              subst (λ (zs : List Request). Same (written b zs) (written b (keep isTimed (x ∷ xs) ++ keep isUntimed zs))) (sym cut)
+              subst (λ (zs : List Request). SamePaths (written b zs) (written b (keep isTimed (x ∷ xs) ++ keep isUntimed zs))) (sym cut)
               (timed-next x xs ls rs n c before behind b k plain
               (rest (ls ++ rs) (enteredRequest b x) (batch-next b k x (plain x (in-r x ls (x ∷ rs) (inl refl))))
               (each-others Plain ls x rs plain) (others-kept x xs ls rs n c before behind kept)))
@@ -259,11 +259,11 @@ module _ (h : Head) where
     batch-passing : Batch h b → (q : Request) → Plain q → Batch h (passing q)
     batch-passing k q p = cond-ind (λ (c : Book). Batch h c) (isUntimed q) (enteredRequest b q) b (λ _. batch-next b k q p) (λ _. k)
 
-  passing-swap : (b : Book) → Batch h b → (x y : Request) → Plain x → Plain y → Same (passing (passing b x) y) (passing (passing b y) x)
+  passing-swap : (b : Book) → Batch h b → (x y : Request) → Plain x → Plain y → SamePaths (passing (passing b x) y) (passing (passing b y) x)
   passing-swap b k x y p q = go (isUntimed x) (isUntimed y) (λ t. swap-same b k x y p q (λ n s u. T-not (carries h n x) (untimed-carries x t n) s))
     where
-      go : (s t : Bool) → (T s → Same (enteredRequest (enteredRequest b x) y) (enteredRequest (enteredRequest b y) x))
-          → Same (cond t (enteredRequest (cond s (enteredRequest b x) b) y) (cond s (enteredRequest b x) b))
+      go : (s t : Bool) → (T s → SamePaths (enteredRequest (enteredRequest b x) y) (enteredRequest (enteredRequest b y) x))
+          → SamePaths (cond t (enteredRequest (cond s (enteredRequest b x) b) y) (cond s (enteredRequest b x) b))
           (cond s (enteredRequest (cond t (enteredRequest b y) b) x) (cond t (enteredRequest b y) b))
       go true true f = f tt
       go true false f = same-refl (enteredRequest b x)
@@ -271,7 +271,7 @@ module _ (h : Head) where
       go false false f = same-refl b
 
   untimed-same : {xs ys : List Request} → List·Permᴰ xs ys → (b : Book) → Batch h b → Each Plain xs
-      → Same (written b (keep isUntimed xs)) (written b (keep isUntimed ys))
+      → SamePaths (written b (keep isUntimed xs)) (written b (keep isUntimed ys))
   untimed-same List·Permᴰ·nil b k ps = same-refl (written b [])
   untimed-same (List·Permᴰ·cons {a = x} {b = y} {l₁ = xs} {l₂ = ys} e d) b k ps =
       rw (written-passing b x xs, written-passing b y ys, ← e)
@@ -294,14 +294,14 @@ module _ (h : Head) where
   -- ---- any two orders
 
   order-same : (xs ys : List Request) (b : Book) → Batch h b → Reordered xs ys → Each Plain xs → ReadingsKept h xs ys
-      → Same (written b xs) (written b ys)
+      → SamePaths (written b xs) (written b ys)
   order-same xs ys b k d ps e =
       let ts = keep isTimed xs in
       let sortedX = written b (ts ++ keep isUntimed xs) in
       let sortedY = written b (ts ++ keep isUntimed ys) in
-      let first : Same (written b xs) sortedX = timed-first xs xs b k ps (λ n. refl) in
-      let last : Same (written b ys) sortedY = timed-first xs ys b k (each-perm Plain d ps) e in
-      let between : Same sortedX sortedY =
+      let first : SamePaths (written b xs) sortedX = timed-first xs xs b k ps (λ n. refl) in
+      let last : SamePaths (written b ys) sortedY = timed-first xs ys b k (each-perm Plain d ps) e in
+      let between : SamePaths sortedX sortedY =
       rw (written-append ts (keep isUntimed xs) b, written-append ts (keep isUntimed ys) b)
       (untimed-same d (written b ts) (batch-written ts b k (λ q m. ps q (keep-out isTimed xs q m .0))) ps) in
       same-trans (written b xs) sortedX (written b ys) first (same-trans sortedX sortedY (written b ys) between (last .1, last .0))
@@ -324,7 +324,7 @@ module _ (s u : List ℕ) (b c : Book) (ss : Sound s b) (su : Sound u c) (l : Le
   unfolding stateOf
   less-works f (a, (x, p)) = (less-allowed 4 f a, (x, less-fine f x p))
 
-module _ (s u : List ℕ) (b c : Book) (ss : Sound s b) (su : Sound u c) (e : Same b c) where
+module _ (s u : List ℕ) (b c : Book) (ss : Sound s b) (su : Sound u c) (e : SamePaths b c) where
   same-answer : (limit : ℕ) → answer limit (stateOf s) ≡ answer limit (stateOf u)
   unfolding answer
   same-answer limit =
@@ -344,11 +344,11 @@ module _ (s u : List ℕ) (b c : Book) (ss : Sound s b) (su : Sound u c) (e : Sa
   unfolding askOutput askedBytes fewestOutput fewestBytes after
   same-answers =
       record {
-        asked = λ limit le out room.
+        answers = λ limit le out room.
             let first = ask-taken s (ss .long) (ss .form) out limit le room in
             let second = ask-taken u (su .long) (su .form) out limit le room in
             (first, second, rw (first, second, same-answer limit));
-        explained = λ out room.
+        failures = λ out room.
             let first = fewest-taken s (ss .long) (ss .form) out room in
             let second = fewest-taken u (su .long) (su .form) out room in
             (first, second, rw (first, second, same-fewest));
@@ -377,12 +377,12 @@ module _ (r : Run) where
       (run-sound qs (stateAfter r) (book r) (reached r))
 
   module _ (xs ys : List Request) (batch : OneBatch (book r .head) xs ys) where
-    books-same : Same (written (book r) xs) (written (book r) ys)
+    books-same : SamePaths (written (book r) xs) (written (book r) ys)
     books-same =
         let h = book r .head in
         order-same h xs ys (book r) (h .clocks, refl) (batch .order) (plain-each h xs (batch .still) (batch .quiet)) (batch .kept)
 
-    books-same-later : (more : List Request) → Same (written (book r) (xs ++ more)) (written (book r) (ys ++ more))
+    books-same-later : (more : List Request) → SamePaths (written (book r) (xs ++ more)) (written (book r) (ys ++ more))
     books-same-later more =
         rw (written-append xs more (book r), written-append ys more (book r)) (same-all more (written (book r) xs) (written (book r) ys) books-same)
 

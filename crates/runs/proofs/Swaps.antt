@@ -60,29 +60,29 @@ lines-still h g =
 -- ---- the triples of different senders
 
 -- readings of i and of j that are not both given, or i and j are not one
-abbrev ApartAt : ℕ → Readings → ℕ → Readings → Type 0
-ApartAt i r j u = (n : ℕ) → T (eqb i n && isGiven r) → T (eqb j n && isGiven u) → ⊥
+abbrev UnrelatedAt : ℕ → Readings → ℕ → Readings → Type 0
+UnrelatedAt i r j u = (n : ℕ) → T (eqb i n && isGiven r) → T (eqb j n && isGiven u) → ⊥
 
-apart-senders : (i j : ℕ) → ((n : ℕ) → T (eqb i n && true) → T (eqb j n && true) → ⊥) → j ≡ i → ⊥
-apart-senders i j a e =
+other-senders : (i j : ℕ) → ((n : ℕ) → T (eqb i n && true) → T (eqb j n && true) → ⊥) → j ≡ i → ⊥
+other-senders i j a e =
     let same : T (eqb j j && true) = both (eqb j j) true (eqb-refl j) tt in a j (subst (λ (n : ℕ). T (eqb n j && true)) e same) same
 
 -- what is saved of j is what it was
-watched-other : (i : ℕ) (r : Readings) (j drift : ℕ) (u : Readings) (cs : List Saved) → ApartAt i r j u
+watched-other : (i : ℕ) (r : Readings) (j drift : ℕ) (u : Readings) (cs : List Saved) → UnrelatedAt i r j u
     → violatedBy drift (getD (watched r i cs) j nothing) u ≡ violatedBy drift (getD cs j nothing) u
 unfolding watched violatedBy
 watched-other i Without j drift u cs a = refl
 watched-other i (With t d) j drift Without cs a = refl
 watched-other i (With t d) j drift (With u e) cs a =
-    ap (λ (c : Saved). violatedBy drift c (With u e)) (getD-set-other cs i j (saving (getD cs i nothing) t) nothing (apart-senders i j a))
+    ap (λ (c : Saved). violatedBy drift c (With u e)) (getD-set-other cs i j (saving (getD cs i nothing) t) nothing (other-senders i j a))
 
-watched-swap : (i : ℕ) (r : Readings) (j : ℕ) (u : Readings) (cs : List Saved) → ApartAt i r j u
+watched-swap : (i : ℕ) (r : Readings) (j : ℕ) (u : Readings) (cs : List Saved) → UnrelatedAt i r j u
     → watched u j (watched r i cs) ≡ watched r i (watched u j cs)
 unfolding watched
 watched-swap i Without j u cs a = refl
 watched-swap i (With t d) j Without cs a = refl
 watched-swap i (With t d) j (With u e) cs a =
-    let other : j ≡ i → ⊥ = apart-senders i j a in
+    let other : j ≡ i → ⊥ = other-senders i j a in
     let new : Saved = saving (getD cs i nothing) t in
     ap (λ (c : Saved). set (set cs i new) j (saving c u)) (getD-set-other cs i j new nothing other)
     ∙ set-comm cs i j new (saving (getD cs j nothing) u) (λ q. other (sym q))
@@ -107,7 +107,7 @@ module _ (h : Head) where
   plain-lines g q cs = rw (quiet-hearing (withClocks h cs) g q)
 
   module _ (f g : Delivery) (qf : NotAbove (spokenBy h f) (h .epochs)) (qg : NotAbove (spokenBy h g) (h .epochs))
-      (a : ApartAt (f .sender) (heeded h f) (g .sender) (heeded h g)) (cs : List Saved) where
+      (a : UnrelatedAt (f .sender) (heeded h f) (g .sender) (heeded h g)) (cs : List Saved) where
     -- the second enters what it would enter first
     lines-other : linesOf (moved (withClocks h cs) (receive f)) (receive g) ≡ linesOf (withClocks h cs) (receive g)
     lines-other =
@@ -127,7 +127,7 @@ module _ (h : Head) where
   Batch b = (cs : List Saved) × (b .head ≡ withClocks h cs)
 
   pub swap-less : (b : Book) → Batch b → (f g : Delivery) → NotAbove (spokenBy h f) (h .epochs) → NotAbove (spokenBy h g) (h .epochs)
-      → ApartAt (f .sender) (heeded h f) (g .sender) (heeded h g)
+      → UnrelatedAt (f .sender) (heeded h f) (g .sender) (heeded h g)
       → Less (entered (entered b (receive f)) (receive g)) (entered (entered b (receive g)) (receive f))
   unfolding entered
   swap-less b (cs, e) f g qf qg a =
@@ -141,5 +141,5 @@ module _ (h : Head) where
             (lines-still (withClocks h cs) f) (lines-still (withClocks h cs) g) (rw (e, lines-other f g qf qg a cs) at p));
       }
     where
-      back : ApartAt (g .sender) (heeded h g) (f .sender) (heeded h f)
+      back : UnrelatedAt (g .sender) (heeded h g) (f .sender) (heeded h f)
       back n s t = a n t s

@@ -64,9 +64,9 @@ ReadingsKept h xs ys = (n : ℕ) → keep (carries h n) xs ≡ keep (carries h n
 -- "the same answer for each limit and the same fewest failures", as C sees them: on either state both calls are taken, in every output with room, and
 -- leave the same bytes in it
 pub record SameAnswers (s u : List ℕ) : Type 0 where
-  pub asked : (limit : ℕ) → limit ≤ limitMost → (out : List ℕ) → answerSize ≤ length out
+  pub answers : (limit : ℕ) → limit ≤ limitMost → (out : List ℕ) → answerSize ≤ length out
       → (askNumber s limit out ≡ 0) × (askNumber u limit out ≡ 0) × (askOutput s limit out ≡ askOutput u limit out)
-  pub explained : (out : List ℕ) → fewestSize ≤ length out
+  pub failures : (out : List ℕ) → fewestSize ≤ length out
       → (fewestNumber s out ≡ 0) × (fewestNumber u out ≡ 0) × (fewestOutput s out ≡ fewestOutput u out)
 
 -- ---- the statements
