@@ -140,6 +140,11 @@ module _ {A : Type 0} where
   pub keep-failed : (f : A → Bool) (x : A) (l : List A) → T (not (f x)) → keep f (x ∷ l) ≡ keep f l
   keep-failed f x l t = ap (λ (b : Bool). cond b (x ∷ keep f l) (keep f l)) (T-false (f x) t)
 
+  pub keep-none : (f : A → Bool) (l : List A) → T (all (λ x. not (f x)) l) → keep f l ≡ []
+  keep-none f [] t = refl
+  keep-none f (x ∷ l) t =
+      let rest = all (λ y. not (f y)) l in keep-failed f x l (both-l (not (f x)) rest t) ∙ keep-none f l (both-r (not (f x)) rest t)
+
   pub all-keep : (f g : A → Bool) (l : List A) → T (all f l) → T (all f (keep g l))
   all-keep f g l h = all-in f (keep g l) (λ a m. all-out f l h a (keep-out g l a m .0))
 

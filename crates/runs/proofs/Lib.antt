@@ -1,5 +1,5 @@
 -- Demand 1, ageing in pieces and demand 3 with what they rest on, lowest first: what a receipt, a violation and an ageing mean for one set, what a run
--- keeps, the answers; then receipts in any order; then runs by the states that their bytes hold, the table of cases and an example.
+-- keeps, the answers; then receipts in any order; then runs by the states that their bytes hold, the table of cases and the examples.
 pub mod Demand1
 pub mod SameBytes
 pub mod AgedOnce
@@ -19,3 +19,4 @@ pub mod ByNames
 pub mod DecodedRuns
 pub mod WorkedCases
 pub mod Example
+pub mod OrderExample

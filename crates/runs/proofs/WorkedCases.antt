@@ -46,7 +46,7 @@ use Rattle.monitor.specs.Calls.{ageNumber}
 use Rattle.monitor.specs.Ask.{limitMost, limitFails, limitRefusal, askNumber}
 use Rattle.runs.specs.Book.{Step}
 use Rattle.runs.specs.Runs.{bytesRun, stateAfter}
-use Rattle.runs.specs.Cases.{Question, asking, refusing, holding, knowing, saving, dating, forming, advancing, returning, Case, Comes, runOf, CaseComes, cases, EachCase, Lent, LentComes, fractions, EachLent}
+use Rattle.runs.specs.Cases.{Question, asking, refusing, holding, knowing, saving, dating, forming, advancing, returning, Case, Comes, runOf, CaseComes, orderCases, cases, EachCase, Lent, LentComes, fractions, EachLent}
 use Rattle.runs.proofs.DecodedRuns.{numberOn, doneBy, next, stepsFrom, stateFrom, set-up-taken, number-on, steps-run, state-run, form-run, long-run, run-steps, run-state}
 use Rattle.runs.proofs.Runs.{reached}
 use Rattle.runs.proofs.Demand3.{ask-answers}
@@ -115,7 +115,7 @@ unfolding subset union has holds implies isTrue isNormal struck insert rising mi
     begun setUp moved made done setUpRefusal passesEnd ageRefusal tooMany receiptRefusal
     delivered deliveredAs deliveredNumber deliveredState
     cut common active leaves setsOf sets either leftBy exact answer
-    numberOn doneBy next stepsFrom stateFrom sameDatum sameTriple sameSaved sameAnswer meets passes cases
+    numberOn doneBy next stepsFrom stateFrom sameDatum sameTriple sameSaved sameAnswer meets passes cases orderCases
 each-passes = tt
 
 -- ---- what a test tells

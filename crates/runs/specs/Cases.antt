@@ -2,7 +2,7 @@
 -- when it holds of the exported calls' numbers and bytes, and the rows. Assumes nothing: these are definitions.
 use Prim.Native.Nat.{ℕ, _+_, _*_, _-_, _^_, _≤_}
 use mathlib.Core.Path.{_≡_}
-use mathlib.Core.List.{List, [], _∷_, _++_}
+use mathlib.Core.List.{List, [], _∷_, _++_, reverse}
 use lib.Dec.{T, eqb}
 use lib.ListN.{length, getD, replicate}
 use Rattle.numbers.specs.Numbers.{bytesOf}
@@ -160,11 +160,40 @@ listingSecond = listingAged ++ (get 0 0 (536870914 ∷ 2 ∷ 1073741824 ∷ 1076
 abbrev pub eightTerms : List ℕ
 eightTerms = 2 ^ 6 ∷ 2 ^ 7 ∷ 2 ^ 8 ∷ 2 ^ 9 ∷ 2 ^ 10 ∷ 2 ^ 11 ∷ 2 ^ 12 ∷ 2 ^ 13 ∷ []
 
+-- document 02, W-206. Receipts after sender 1 was mended: one of sender 2 comes twice, and again with readings; those of the older name of 1 are not
+-- heeded. And the same the other way round
+abbrev pub oneOrder : List Request
+oneOrder =
+    hear 2 0 20 [] ∷ hear 2 0 20 [] ∷ tick 2 3 20 [] (triple 0 0 0) 0 ∷ one 0 0 0 ∷ one 10 10 0 ∷ tick 3 0 9 [] (triple 5 5 0) 0 ∷ []
+
+abbrev pub otherOrder : List Request
+otherOrder = reverse oneOrder
+
+-- what is held after either
+abbrev pub heldOne : List Datum
+heldOne = whole 0 10 (2 ^ 1 ∷ []) ∷ whole 3 20 (2 ^ 2 ∷ []) ∷ whole 0 9 (2 ^ 3 ∷ []) ∷ []
+
+abbrev pub heldOther : List Datum
+heldOther = whole 0 10 (2 ^ 1 ∷ []) ∷ whole 0 9 (2 ^ 3 ∷ []) ∷ whole 3 20 (2 ^ 2 ∷ []) ∷ []
+
+unfoldable pub orderCases : List Case
+orderCases =
+    given (steady 5) (mended 0 10 ∷ oneOrder) (holding heldOne)
+    ∷ given (steady 5) (mended 0 10 ∷ otherOrder) (holding heldOther)
+    ∷ given (steady 5) (mended 0 10 ∷ oneOrder) (asking 0 (Between 3 9))
+    ∷ given (steady 5) (mended 0 10 ∷ otherOrder) (asking 0 (Between 3 9))
+    -- the readings of one sender have to keep their order: these are quiet, and in the other order the later one violates the test
+    ∷ given (steady 5) (one 0 0 0 ∷ one 10 10 0 ∷ []) (asking 0 (Between 0 10))
+    ∷ given (steady 5) (one 10 10 0 ∷ one 0 0 0 ∷ []) (asking 0 Contradicted)
+    ∷ []
+
 -- "name n being the bit of value 2^n": the predicate 1+3 is `2 ^ 1 ∷ 2 ^ 3 ∷ []`. "Under 1" is sender 1 without terms, "under 1+3" with the term {3}
 unfoldable pub cases : List Case
 cases =
+    -- those of W-206, which the example in `specs.Example` needs by themselves, and then all others
+    orderCases
     -- "no data: open for limits 0 and 4. Limit 5: 22."
-    given (named 5) [] (asking 0 Open)
+    ++ given (named 5) [] (asking 0 Open)
     ∷ given (named 5) [] (asking 4 Open)
     ∷ given (named 5) [] (refusing 5 22)
     -- "[0,10] under 1 and [20,30] under 2, limit 1: 0 to 30."
@@ -291,17 +320,6 @@ cases =
     -- three ageings are one
     ∷ given (named 5) (hear 1 0 10 [] ∷ ageing 1_000_001 ∷ ageing 2_000_002 ∷ ageing 3_000_003 ∷ [])
     (holding (datum (3_000_003 * 999_900) (10 * million + 3_000_003 * 1_000_100) (2 ^ 1 ∷ []) ∷ []))
-    -- document 02, W-206. Two receipts in either order: what is held stands in another order, and the answer is the same
-    ∷ given (named 5) (hear 1 0 10 [] ∷ hear 2 5 20 [] ∷ []) (holding (whole 0 10 (2 ^ 1 ∷ []) ∷ whole 5 20 (2 ^ 2 ∷ []) ∷ []))
-    ∷ given (named 5) (hear 2 5 20 [] ∷ hear 1 0 10 [] ∷ []) (holding (whole 5 20 (2 ^ 2 ∷ []) ∷ whole 0 10 (2 ^ 1 ∷ []) ∷ []))
-    ∷ given (named 5) (hear 1 0 10 [] ∷ hear 2 5 20 [] ∷ []) (asking 0 (Between 5 10))
-    ∷ given (named 5) (hear 2 5 20 [] ∷ hear 1 0 10 [] ∷ []) (asking 0 (Between 5 10))
-    -- the readings of one sender have to keep their order: these are quiet, and in the other order the later one violates the test
-    ∷ given (steady 5) (one 0 0 0 ∷ one 10 10 0 ∷ []) (asking 0 (Between 0 10))
-    ∷ given (steady 5) (one 10 10 0 ∷ one 0 0 0 ∷ []) (asking 0 Contradicted)
-    -- those of an older name need not, since they are not heeded
-    ∷ given (steady 5) (mended 0 10 ∷ one 0 0 0 ∷ one 10 10 0 ∷ []) (asking 0 (Between 0 10))
-    ∷ given (steady 5) (mended 0 10 ∷ one 10 10 0 ∷ one 0 0 0 ∷ []) (asking 0 (Between 0 10))
     ∷ []
 
 -- "The cases marked P are proved together, as one table with a common statement": each row holds of the exported calls, in every buffer that has room

@@ -1,4 +1,5 @@
--- A run with refused steps among taken ones: what comes of each step, and what the book has. Assumes nothing: these are definitions.
+-- A run with refused steps among taken ones: what comes of each step, and what the book has; and a run after which receipts come in two orders.
+-- Assumes nothing: these are definitions.
 use Prim.Native.Nat.{ℕ, _+_, _*_, _^_, _≤_}
 use mathlib.Core.Path.{_≡_}
 use mathlib.Core.List.{List, [], _∷_, map}
@@ -8,12 +9,13 @@ use Rattle.epochs.specs.Epochs.{epochsMost, name}
 use Rattle.clocks.specs.Worked.{triple}
 use Rattle.ends.specs.Ends.{million}
 use Rattle.state.specs.Model.{datum}
-use Rattle.state.specs.Layout.{stateSize}
+use Rattle.state.specs.Layout.{stateSize, storeOf}
 use Rattle.engine.specs.Calls.{Setup}
 use Rattle.monitor.specs.Calls.{setUpNumber}
 use Rattle.runs.specs.Book.{Request, ageing, Step, Line, advanced, heard, blames}
-use Rattle.runs.specs.Runs.{Run, stepsOf, book}
-use Rattle.runs.specs.Cases.{get, said, hear, hearNamed, tick, whole, eightTerms}
+use Rattle.runs.specs.Runs.{bytesRun, Run, stateAfter, stepsOf, book}
+use Rattle.runs.specs.Orders.{NoneRefused, OneBatch}
+use Rattle.runs.specs.Cases.{steady, get, said, hear, hearNamed, mended, tick, whole, eightTerms, oneOrder, otherOrder, heldOne, heldOther}
 
 -- monitor 5, drift 100, reading 1,000,000, epoch 3
 abbrev pub exampleSetup : Setup
@@ -80,3 +82,21 @@ Example =
     → (begins : setUpNumber buffer exampleSetup ≡ 0)
     × (map (λ (p : Step). p .number) (stepsOf (exampleRun buffer begins)) ≡ exampleNumbers)
     × (book (exampleRun buffer begins) .lines ≡ exampleLines)
+
+-- ---- receipts in two orders (document 02, W-206)
+
+-- sender 1 was mended
+abbrev pub mendedRun : (buffer : List ℕ) → setUpNumber buffer (steady 5) ≡ 0 → Run
+mendedRun buffer begins = record { buffer = buffer; setup = steady 5; taken = begins; requests = mended 0 10 ∷ [] }
+
+-- the premises of `AnyOrder` hold of two orders after it, all are taken in either, and what is held then is not the same
+pub record OrdersCome (buffer : List ℕ) : Type 0 where
+  pub begins : setUpNumber buffer (steady 5) ≡ 0
+  pub batch : OneBatch (book (mendedRun buffer begins) .head) oneOrder otherOrder
+  pub takenOne : NoneRefused (stateAfter (mendedRun buffer begins)) oneOrder
+  pub takenOther : NoneRefused (stateAfter (mendedRun buffer begins)) otherOrder
+  pub holdsOne : storeOf (bytesRun (stateAfter (mendedRun buffer begins)) oneOrder) .held ≡ heldOne
+  pub holdsOther : storeOf (bytesRun (stateAfter (mendedRun buffer begins)) otherOrder) .held ≡ heldOther
+
+unfoldable pub OrderExample : Type 0
+OrderExample = (buffer : List ℕ) → stateSize ≤ length buffer → OrdersCome buffer
