@@ -1,5 +1,5 @@
 -- Receipts in two orders of which the premises of `AnyOrder` hold: receipts of one sender change places with each other and with one of it that has
--- readings, and so do readings of an older name. What comes of the bytes is in the table of cases; the premises are computed, over the states that the
+-- readings, and so do readings of an older name. What comes of the bytes is in the table of cases; the premises are computed on the states that the
 -- bytes hold (`proofs.DecodedRuns`). Assumes nothing.
 use Prim.Native.Nat.{ℕ, zero, suc, _≤_}
 use mathlib.Core.Path.{_≡_, refl, sym, ap, subst, _∙_}
@@ -136,7 +136,9 @@ order-example buffer room =
     let head = ap (λ (ps : List Step). bookOf (opened (steady 5)) ps .head) (run-steps r) ∙ computed .head in
     record {
       begins = one .begins;
-      batch = subst (λ (h : Head). OneBatch h oneOrder otherOrder) (sym head) record { order = order; still = tt; quiet = computed .quiet; kept = kept };
+      batch =
+          subst (λ (h : Head). OneBatch h oneOrder otherOrder) (sym head)
+          record { order = order; still = tt; quiet = computed .quiet; kept = kept };
       takenOne = none-refused (mended 0 10 ∷ oneOrder) (begin r) (one .taken) .1;
       takenOther = none-refused (mended 0 10 ∷ otherOrder) (begin r) (other .taken) .1;
       holdsOne = one .comes;

@@ -374,7 +374,8 @@ module _ (r : Run) where
   -- the book after a run and more that are taken
   more-sound : (qs : List Request) → NoneRefused (stateAfter r) qs → Sound (bytesRun (stateAfter r) qs) (written (book r) qs)
   more-sound qs n =
-      subst (Sound (bytesRun (stateAfter r) qs)) (book-written (steps (stateAfter r) qs) (book r) ∙ ap (written (book r)) (taken-all qs (stateAfter r) n))
+      subst (Sound (bytesRun (stateAfter r) qs))
+      (book-written (steps (stateAfter r) qs) (book r) ∙ ap (written (book r)) (taken-all qs (stateAfter r) n))
       (run-sound qs (stateAfter r) (book r) (reached r))
 
   module _ (xs ys : List Request) (batch : OneBatch (book r .head) xs ys) where
@@ -395,5 +396,6 @@ any-order r xs ys batch takenX takenY =
 pub any-order·later : AnyOrder·later
 unfolding AnyOrder·later
 any-order·later r xs ys more batch takenX takenY =
-    same-answers _ _ (written (book r) (xs ++ more)) (written (book r) (ys ++ more)) (more-sound r (xs ++ more) takenX) (more-sound r (ys ++ more) takenY)
+    same-answers _ _ (written (book r) (xs ++ more)) (written (book r) (ys ++ more))
+    (more-sound r (xs ++ more) takenX) (more-sound r (ys ++ more) takenY)
     (books-same-later r xs ys batch more)
