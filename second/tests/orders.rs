@@ -134,7 +134,7 @@ struct Batch {
     /// The epochs that are known after the run.
     known: Epochs,
     receipts: Vec<Call>,
-    /// Taken after them, while they are the same in every order: an ageing and some steps.
+    /// What comes after them in every order: an ageing and two steps.
     more: Vec<Call>,
 }
 
@@ -310,31 +310,40 @@ fn compare(batch: &mut Batch, tally: &mut Tally) {
         let (breaks, made) = (batch.breaks_readings(&order), batch.made(&order));
         tally.count("left out for readings", breaks);
         tally.count("left out for a refusal", !breaks && made.is_none());
-        let Some(made) = made else {
-            continue;
-        };
-        let Some((known, known_later)) = &first else {
-            first = (!breaks).then(|| (made, batch.later()));
-            continue;
-        };
-        if breaks {
-            tally.count("other answers for readings left out", made.answers != known.answers);
-            continue;
-        }
-        let case = || format!("{order:?}: {}", batch.run.case());
-        assert_eq!(made.answers, known.answers, "{}", case());
-        assert_eq!(made.by_set, known.by_set, "{}", case());
-        tally.count("orders compared", true);
-        tally.count("bytes differ", made.bytes != known.bytes);
-        for (met, (what, _)) in made.inside.into_iter().zip(INSIDE) {
-            tally.count(what, met);
-        }
-        tally.count("an older name's readings changed round", batch.turns_older_readings(&order));
-        if let (Some(known), Some(later)) = (known_later, batch.later()) {
-            assert_eq!(later, *known, "later: {order:?}: {}", batch.run.case());
-            tally.count("compared after more steps", true);
+        match (made, &first) {
+            (Some(made), None) => first = (!breaks).then(|| (made, batch.later())),
+            (Some(made), Some((known, _))) if breaks => {
+                tally.count("other answers for readings left out", made.answers != known.answers);
+            }
+            (Some(made), Some((known, later))) => {
+                alike(batch, &order, &made, known);
+                count(batch, &order, &made, known, tally);
+                let both = (later, batch.later());
+                tally.count("compared after more steps", both.0.is_some() && both.1.is_some());
+                if let (Some(known), Some(later)) = both {
+                    assert_eq!(later, *known, "later: {order:?}: {}", batch.run.case());
+                }
+            }
+            (None, _) => {}
         }
     }
+}
+
+/// Both orders give the same, by the programs and by their books.
+fn alike(batch: &Batch, order: &[usize], made: &Made, known: &Made) {
+    let case = || format!("{order:?}: {}", batch.run.case());
+    assert_eq!(made.answers, known.answers, "{}", case());
+    assert_eq!(made.by_set, known.by_set, "{}", case());
+}
+
+/// Counts what the order has met.
+fn count(batch: &Batch, order: &[usize], made: &Made, known: &Made, tally: &mut Tally) {
+    tally.count("orders compared", true);
+    tally.count("bytes differ", made.bytes != known.bytes);
+    for (met, (what, _)) in made.inside.into_iter().zip(INSIDE) {
+        tally.count(what, met);
+    }
+    tally.count("an older name's readings changed round", batch.turns_older_readings(order));
 }
 
 /// Tries the batches after the histories of these seeds.

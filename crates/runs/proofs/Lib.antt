@@ -19,4 +19,4 @@ pub mod ByNames
 pub mod DecodedRuns
 pub mod WorkedCases
 pub mod Example
-pub mod OrderExample
+pub mod WorkedOrders
