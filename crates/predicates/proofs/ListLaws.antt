@@ -140,10 +140,18 @@ module _ {A : Type 0} where
   pub keep-failed : (f : A → Bool) (x : A) (l : List A) → T (not (f x)) → keep f (x ∷ l) ≡ keep f l
   keep-failed f x l t = ap (λ (b : Bool). cond b (x ∷ keep f l) (keep f l)) (T-false (f x) t)
 
+  pub keep-all : (f : A → Bool) (l : List A) → T (all f l) → keep f l ≡ l
+  keep-all f [] t = refl
+  keep-all f (x ∷ l) t =
+      keep-passed f x l (both-l (f x) (all f l) t) ∙ ap (λ (m : List A). x ∷ m) (keep-all f l (both-r (f x) (all f l) t))
+
   pub keep-none : (f : A → Bool) (l : List A) → T (all (λ x. not (f x)) l) → keep f l ≡ []
   keep-none f [] t = refl
   keep-none f (x ∷ l) t =
       let rest = all (λ y. not (f y)) l in keep-failed f x l (both-l (not (f x)) rest t) ∙ keep-none f l (both-r (not (f x)) rest t)
+
+  pub keep-none-out : (f : A → Bool) (l : List A) → keep f l ≡ [] → (a : A) → In a l → T (f a) → ⊥
+  keep-none-out f l e a h t = subst (λ (m : List A). In a m) e (keep-in f l a h t)
 
   pub all-keep : (f g : A → Bool) (l : List A) → T (all f l) → T (all f (keep g l))
   all-keep f g l h = all-in f (keep g l) (λ a m. all-out f l h a (keep-out g l a m .0))

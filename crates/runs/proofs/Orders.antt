@@ -7,13 +7,13 @@ use Prim.Native.Nat.{ℕ}
 use mathlib.Core.Path.{_≡_, refl, sym, ap, subst, _∙_}
 use mathlib.Core.Logic.{_⊎_, inl, inr, ⊎-elim}
 use mathlib.Core.Bool.{Bool, true, false, not, cond}
-use mathlib.Core.List.{List, [], _∷_, _++_, cons≢nil}
+use mathlib.Core.List.{List, [], _∷_, _++_}
 use mathlib.Core.List.{List·Permᴰ, List·Permᴰ·nil, List·Permᴰ·cons, List·Permᴰ·swap, List·Permᴰ·trans, Permᴰ·symm}
 use lib.Dec.{T, T-not, not-T, eqb, eqb→eq, eqb-refl}
 use lib.IntN.{ℤ}
 use Rattle.predicates.specs.Lists.{keep, In}
-use Rattle.predicates.proofs.ListLaws.{both, both-l, both-r, split, cond-ind, in-l, in-r, in-cases, perm-in}
-use Rattle.predicates.proofs.ListLaws.{keep-in, keep-out, keep-passed, keep-failed, keep-append, keep-without, FirstKept, first-kept}
+use Rattle.predicates.proofs.ListLaws.{both, both-l, both-r, split, cond-ind, in-l, in-r, in-cases, all-in, perm-in}
+use Rattle.predicates.proofs.ListLaws.{keep-out, keep-passed, keep-failed, keep-all, keep-none-out, keep-append, keep-without, FirstKept, first-kept}
 use Rattle.clocks.specs.Clocks.{watched}
 use Rattle.state.specs.Model.{Head}
 use Rattle.state.specs.Layout.{headOf, storeOf, stateOf}
@@ -176,19 +176,13 @@ module _ (h : Head) where
   -- a request that carries readings of n is unrelated to those that do not
   unrelated-kept : (x : Request) (n : ℕ) → T (carries h n x) → (ls : List Request) → keep (carries h n) ls ≡ [] → Each (Unrelated x) ls
   unrelated-kept x n t ls e q m k s u =
-      subst (λ (qs : List Request). In q qs) e (keep-in (carries h n) ls q m (subst (λ (i : ℕ). T (carries h i q)) (carries-one x k n s t) u))
+      keep-none-out (carries h n) ls e q m (subst (λ (i : ℕ). T (carries h i q)) (carries-one x k n s t) u)
 
   -- where no sender has any, no request has
   none-timed : (ys : List Request) → ((n : ℕ) → keep (carries h n) ys ≡ []) → keep isUntimed ys ≡ ys
-  none-timed [] e = refl
-  none-timed (y ∷ ys) e = go (split (isTimed y)) (none-timed ys)
-    where
-      go : T (isTimed y) ⊎ T (isUntimed y) → (((n : ℕ) → keep (carries h n) ys ≡ []) → keep isUntimed ys ≡ ys)
-          → keep isUntimed (y ∷ ys) ≡ y ∷ ys
-      go (inl t) rest = let c = timed-carries y t in absurd (cons≢nil (sym (keep-passed (carries h (c .0)) y ys (c .1)) ∙ e (c .0)))
-      go (inr t) rest =
-          keep-passed isUntimed y ys t
-          ∙ ap (λ (zs : List Request). y ∷ zs) (rest (λ n. sym (keep-failed (carries h n) y ys (untimed-carries y t n)) ∙ e n))
+  none-timed ys e =
+      keep-all isUntimed ys
+      (all-in isUntimed ys (λ q m. not-T (isTimed q) (λ t. let c = timed-carries q t in keep-none-out (carries h (c .0)) ys (e (c .0)) q m (c .1))))
 
   -- x, the first of a list, stands between ls and rs in another, the first there with readings of its sender
   module _ (x : Request) (xs ls rs : List Request) (n : ℕ) (c : T (carries h n x)) (before : keep (carries h n) ls ≡ [])

@@ -41,6 +41,7 @@ abbrev pub NoneRefused : List ℕ → List Request → Type 0
 NoneRefused s [] = Unit {0}
 NoneRefused s (q ∷ qs) = (requestNumber s q ≡ 0) × NoneRefused (bytesAfter s q) qs
 
+-- there are readings
 abbrev pub isGiven : Readings → Bool
 isGiven Without = false
 isGiven (With t drift) = true
@@ -51,6 +52,7 @@ abbrev pub timed : Head → ℕ → Delivered → Bool
 timed h n (refused number) = false
 timed h n (brings d) = eqb (d .sender) n && isGiven (heeded h d)
 
+-- the request is such a receipt: "of one sender", and it carries "clock readings"
 abbrev pub carries : Head → ℕ → Request → Bool
 carries h n (ageing reading) = false
 carries h n (receipt g) = timed h n (delivered g)

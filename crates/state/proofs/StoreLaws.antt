@@ -17,7 +17,7 @@ use lib.Seq.{take-append-le, drop-at, drop-drop, getD-append-add, getD-drop}
 use Rattle.numbers.specs.Numbers.{num, bytes, put, tab, Bytes}
 use Rattle.numbers.proofs.NumberLaws.{length-bytes, num-put-apart, length-put, put-then, put-front, length-tab, getD-tab, tab-next}
 use Rattle.predicates.specs.Lists.{all, keep}
-use Rattle.predicates.proofs.ListLaws.{all-keep, both-l, both-r}
+use Rattle.predicates.proofs.ListLaws.{all-keep, both-l, both-r, keep-all}
 use Rattle.state.specs.Layout.{stateSize, heldAt, knownAt, dataAt, dataMost, datumSize, datumTerms, entriesAt, entriesMost, entrySize, entryTerms, dataBytes, entriesBytes, datumPlace, entryPlace, heldCount, entryCount, zeros, joined, datumBytes, entryBytes, masksAt, rowAt, datumAt, entryAt, storeOf, ownAt, rowIn}
 use Rattle.state.specs.Form.{isZero, dataFit, entriesFit, inForm, datumOk, termsFit}
 use Rattle.state.proofs.LayoutLaws.{all-tab, At, num-drop, length-joined, at-joined, length-datum, length-entry}
@@ -467,14 +467,6 @@ columns-fresh n a b j k e f g h =
     }
 
 -- ---- a state in form
-
-module _ {A : Type 0} where
-  pub keep-all : (f : A → Bool) (xs : List A) → T (all f xs) → keep f xs ≡ xs
-  keep-all f [] t = refl
-  keep-all f (x ∷ xs) t = rw (true-of (f x) (both-l (f x) (all f xs) t), keep-all f xs (both-r (f x) (all f xs) t))
-    where
-      true-of : (b : Bool) → T b → b ≡ true
-      true-of true t = refl
 
 -- the places that are not in use are zero
 module _ (s : List ℕ) (t : T (inForm s)) where

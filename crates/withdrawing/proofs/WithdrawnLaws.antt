@@ -11,7 +11,7 @@ use Rattle.numbers.specs.Numbers.{num, tab}
 use Rattle.numbers.proofs.NumberLaws.{tab-suc, map-tab}
 use Rattle.predicates.specs.Lists.{all, keep, padded}
 use Rattle.predicates.specs.Predicates.{isTrue}
-use Rattle.predicates.proofs.ListLaws.{true-T, keep-append, all-keep}
+use Rattle.predicates.proofs.ListLaws.{true-T, keep-all, keep-append, all-keep}
 use Rattle.predicates.proofs.SumLaws.{padded-front}
 use Rattle.epochs.specs.Epochs.{withdraw}
 use Rattle.epochs.proofs.WithdrawLaws.{withdraw-some}
@@ -24,7 +24,6 @@ use Rattle.state.proofs.LayoutLaws.{all-tab}
 use Rattle.state.proofs.FormLaws.{datum-row}
 use Rattle.state.proofs.RowLaws.{has-some}
 use Rattle.state.proofs.StateLaws.{form-datum, form-entry}
-use Rattle.state.proofs.StoreLaws.{keep-all}
 use Rattle.state.proofs.SeenLaws.{row-some, row-true}
 use Rattle.entries.specs.Entries.{withdrawnEntries}
 use Rattle.steps.specs.Withdrawn.{withdrawnDatum, withdrawnData}
