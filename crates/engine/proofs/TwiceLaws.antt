@@ -1,11 +1,13 @@
--- Ageing in two calls, none refused, is ageing in one (document 02, W-205): advances are exact, so they add up. Assumes nothing.
+-- Ageing in two calls is ageing in one, and the other way round (document 02, W-205): advances are exact, so they add up, and an earlier reading brings
+-- no end further than a later one. Assumes nothing.
 use Prim.Native.Nat.{ℕ, _+_, _*_, _-_, _≤_, _<_}
 use mathlib.Core.Path.{_≡_, refl, sym, ap, ap₂, subst, _∙_}
-use mathlib.Core.Bool.{Bool, true, false, not}
+use mathlib.Core.Bool.{Bool, true, false, not, _||_}
 use mathlib.Core.List.{List, [], _∷_, map}
-use native.Mathlib.Nat.{add-assoc, add-mul}
+use native.Mathlib.Nat.{add-assoc, add-mul, mul-le-mul-right}
 use native.Mathlib.Omega.{arith}
-use lib.Dec.{T, not-T, leb, ltb, ltb→lt, nltb→le}
+use lib.Dec.{T, not-T, leb, ltb, leb→le, nleb→lt, ltb→lt, nltb→le}
+use Rattle.predicates.proofs.ListLaws.{neither}
 use Rattle.predicates.specs.Lists.{any}
 use Rattle.ends.specs.Ends.{million}
 use Rattle.state.specs.Model.{Datum, State, endLimit, readingLimit}
@@ -81,4 +83,44 @@ age-once st t u a b =
         fits = subst (λ (z : State). T (not (any (λ (d : Datum). leb endLimit (d .right)) (z .store .held)))) same (q .fits);
       },
       same,
+    )
+
+-- ---- the other way round
+
+none-of : (a b : Bool) → T (not a) → T (not b) → T (not (a || b))
+none-of true b s t = absurd s
+none-of false b s t = t
+
+-- right ends that stay below the last one when they gain more do so when they gain less
+fits-less : (a b c e : ℕ) → b ≤ e → (ds : List Datum) → T (not (any (λ d. leb endLimit (d .right)) (map (widened c e) ds)))
+    → T (not (any (λ d. leb endLimit (d .right)) (map (widened a b) ds)))
+unfolding widened
+fits-less a b c e h [] t = tt
+fits-less a b c e h (d ∷ ds) t =
+    let first = leb endLimit (d .right + e) in
+    let rest = any (λ d. leb endLimit (d .right)) (map (widened c e) ds) in
+    let both = neither first rest t in
+    let low : d .right + e < endLimit = nleb→lt endLimit (d .right + e) (both .0) in
+    none-of (leb endLimit (d .right + b)) (any (λ d. leb endLimit (d .right)) (map (widened a b) ds))
+    (not-T (leb endLimit (d .right + b)) (λ z. let l = leb→le endLimit (d .right + b) z in omega arith))
+    (fits-less a b c e h ds (both .1))
+
+-- a reading between: both calls are taken
+pub age-parted : (st : State) (t u : ℕ) → st .head .reading ≤ t → t ≤ u → ageRefusal st u ≡ 0
+    → (ageRefusal st t ≡ 0) × (ageRefusal (done st (age t)) u ≡ 0)
+unfolding done made moved aged fast greatestAdvance
+age-parted st t u low high e =
+    let p = age-passed st u e in
+    let passed : t - st .head .reading ≤ u - st .head .reading = omega arith in
+    let less : fast (st .head) t ≤ fast (st .head) u = mul-le-mul-right (million + st .head .drift) passed in (
+      passed-age st t record {
+        early = not-T (leb readingLimit t) (λ c. let l = leb→le readingLimit t c in let k = nleb→lt readingLimit u (p .early) in omega arith);
+        later = not-T (ltb t (st .head .reading)) (λ c. let l = ltb→lt t (st .head .reading) c in omega arith);
+        fits = fits-less (slow (st .head) t) (fast (st .head) t) (slow (st .head) u) (fast (st .head) u) less (st .store .held) (p .fits);
+      },
+      passed-age (done st (age t)) u record {
+        early = p .early;
+        later = not-T (ltb u t) (λ c. let l = ltb→lt u t c in omega arith);
+        fits = subst (λ (z : State). T (not (any (λ (d : Datum). leb endLimit (d .right)) (z .store .held)))) (sym (age-twice st t u low high)) (p .fits);
+      },
     )

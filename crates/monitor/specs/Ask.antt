@@ -1,11 +1,12 @@
 -- Asking and the fewest failures, over bytes (document 01, "Asking", "State bytes" and "Who can cause which refusal"): the number that the call
 -- returns and the lent output afterwards. Assumes nothing: these are definitions.
-use Prim.Native.Nat.{ℕ}
+use Prim.Native.Nat.{ℕ, _*_}
+use mathlib.Core.Path.{_≡_}
 use mathlib.Core.Bool.{Bool, cond}
 use mathlib.Core.List.{List}
-use lib.ListN.{length}
+use lib.ListN.{length, take}
 use lib.Dec.{ltb, eqb}
-use Rattle.numbers.specs.Numbers.{num, bytes}
+use Rattle.numbers.specs.Numbers.{num, bytes, tab}
 use Rattle.state.specs.Layout.{stateOf, joined}
 use Rattle.state.specs.Refusal.{refuse, lent, after}
 use Rattle.asking.specs.declared.Answer.{Answer}
@@ -29,6 +30,15 @@ fewestSize = 16
 -- "8 bytes a number"
 unfoldable pub wide : List ℕ → List ℕ
 wide numbers = joined (bytes 8) numbers
+
+-- the other way round: the first n numbers that C reads in an output
+unfoldable pub wideIn : ℕ → List ℕ → List ℕ
+wideIn n out = tab n (λ i. num (i * 8) 8 out)
+
+-- these numbers stand at the front of an output: C reads them there, and the bytes are those of no others
+pub record Shows (out numbers : List ℕ) : Type 0 where
+  pub read : wideIn (length numbers) out ≡ numbers
+  pub front : take (length numbers * 8) out ≡ wide numbers
 
 -- ---- asking: "asking writes 24 bytes (0 contradicted, 1 open, 2 between; left; right, both 0 unless between)"
 

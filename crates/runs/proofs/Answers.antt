@@ -1,4 +1,4 @@
--- What C reads in the bytes that asking and the fewest failures write is the answer, and what an answer tells of the instants.
+-- The bytes that asking and the fewest failures write are those of the answer, as C reads them, and what an answer tells of the instants.
 -- The idea: each number stands in 8 bytes of its own, and fits them. An end of an answer is an instant that counts; it lies in an active datum's
 -- interval, whose ends are at most 2^58 - 1, since without an active datum all instants would count and no end would be the last. A set of the fewest
 -- failures has names from 0 to 28, at most 4 of them. Assumes nothing.
@@ -12,9 +12,8 @@ use native.Mathlib.Omega.{arith}
 use lib.Dec.{T, ltb, ltb→lt, lt→ltb}
 use lib.ListN.{length, getD, drop}
 use lib.IntN.{ℤ, pos, negsuc}
-use borrow.Author.Tests.{ne-eqb}
 use Rattle.numbers.specs.Numbers.{num, bytes, put}
-use Rattle.numbers.proofs.NumberLaws.{length-bytes, put-front}
+use Rattle.numbers.proofs.NumberLaws.{length-bytes, put-front, take-put, tab-ext}
 use Rattle.predicates.specs.Lists.{all, In}
 use Rattle.predicates.proofs.ListLaws.{both, all-out}
 use Rattle.state.specs.Model.{Datum, State, endLimit}
@@ -33,28 +32,41 @@ use Rattle.ends.specs.Ends.{down, up}
 use Rattle.asking.specs.Asking.{rounded, answerNumbers}
 use Rattle.asking.specs.Fewest.{Works, FewestOf, fewestNumbers}
 use Rattle.asking.proofs.AnswerLaws.{gives-one}
-use Rattle.monitor.specs.Ask.{wide}
-use Rattle.monitor.specs.Ask.{answerIn, fewestIn}
+use Rattle.monitor.specs.Ask.{answerSize, fewestSize, wide, wideIn, Shows}
 use Rattle.runs.specs.Runs.{AtLeast, AtMost, Least, Greatest, Tells}
 use Rattle.asking.proofs.InstantLaws.{Active}
 use Rattle.runs.proofs.ReceiptMeaning.{inall-each, active-cases}
 
 -- ---- numbers of 8 bytes
 
-abbrev Small : ℕ → Bool
+abbrev pub Small : ℕ → Bool
 Small x = ltb x (256 ^ 8)
+
+sized : (x : ℕ) → T (Small x) → length (bytes 8 x) ≡ 8
+sized x _ = length-bytes 8 x
+
+length-wide : (ns : List ℕ) → T (all Small ns) → length (wide ns) ≡ length ns * 8
+unfolding wide
+length-wide ns t = length-joined (bytes 8) Small 8 sized ns t
 
 -- number i of those in front
 wide-num : (ns out : List ℕ) → T (all Small ns) → length ns * 8 ≤ length out → (i : ℕ) → i < length ns
     → num (i * 8) 8 (put 0 (wide ns) out) ≡ getD ns i 0
 unfolding wide
 wide-num ns out t h i k =
-    let sized : (x : ℕ) → T (Small x) → length (bytes 8 x) ≡ 8 = λ x _. length-bytes 8 x in
     let vs = joined (bytes 8) ns in
-    let long : length vs ≡ length ns * 8 = length-joined (bytes 8) Small 8 sized ns t in
-    let front : At 0 vs (put 0 vs out) = (drop (length ns * 8) out, put-front (length ns * 8) vs out long h) in
+    let front : At 0 vs (put 0 vs out) = (drop (length ns * 8) out, put-front (length ns * 8) vs out (length-wide ns t) h) in
     num-at 8 (i * 8) (getD ns i 0) (put 0 vs out) (ltb→lt _ (256 ^ 8) (all-getD Small ns i 0 t k))
     (rw zero-add at (at-joined (bytes 8) Small 8 sized 0 0 i ns (put 0 vs out) t k front))
+
+-- so they are what the output shows
+pub shown : (ns out : List ℕ) → T (all Small ns) → length ns * 8 ≤ length out → Shows (put 0 (wide ns) out) ns
+unfolding wideIn
+shown ns out t h =
+    record {
+      read = tab-ext 0 (length ns) _ ns refl (λ i k. wide-num ns out t h i k);
+      front = take-put (length ns * 8) (wide ns) out (length-wide ns t) h;
+    }
 
 -- ---- the answer in the output
 
@@ -64,15 +76,13 @@ Fits Contradicted = Unit {0}
 Fits Open = Unit {0}
 Fits (Between l r) = (l < 2 ^ 58) × (r < 2 ^ 58)
 
-pub answer-in : (a : Answer) (out : List ℕ) → Fits a → 24 ≤ length out → answerIn (put 0 (wide (answerNumbers a)) out) ≡ a
-unfolding answerIn answerNumbers
-answer-in Contradicted out f h = rw (wide-num (0 ∷ 0 ∷ 0 ∷ []) out tt h 0 (omega arith))
-answer-in Open out f h = rw (wide-num (1 ∷ 0 ∷ 0 ∷ []) out tt h 0 (omega arith))
-answer-in (Between l r) out f h =
-    let ns : List ℕ = 2 ∷ l ∷ r ∷ [] in
-    let small : T (all Small ns) =
-    both (Small l) (Small r && true) (lt→ltb l (256 ^ 8) (omega arith)) (both (Small r) true (lt→ltb r (256 ^ 8) (omega arith)) tt) in
-    rw (wide-num ns out small h 0 (omega arith), wide-num ns out small h 1 (omega arith), wide-num ns out small h 2 (omega arith))
+pub answer-shown : (a : Answer) (out : List ℕ) → Fits a → answerSize ≤ length out → Shows (put 0 (wide (answerNumbers a)) out) (answerNumbers a)
+unfolding answerNumbers
+answer-shown Contradicted out f h = shown (0 ∷ 0 ∷ 0 ∷ []) out tt h
+answer-shown Open out f h = shown (1 ∷ 0 ∷ 0 ∷ []) out tt h
+answer-shown (Between l r) out f h =
+    shown (2 ∷ l ∷ r ∷ []) out
+    (both (Small l) (Small r && true) (lt→ltb l (256 ^ 8) (omega arith)) (both (Small r) true (lt→ltb r (256 ^ 8) (omega arith)) tt)) h
 
 -- the rounded ends of an answer over a right state
 pub answer-fits : (limit : ℕ) (st : State) → T (stateOk st) → (a : Answer) → Gives (Counts limit st) a → Fits (rounded a)
@@ -137,16 +147,15 @@ gives-tells P a g =
 
 -- ---- the fewest failures
 
-pub fewest-in : (st : State) (a : Fewest) (out : List ℕ) → FewestOf (Works st) a → 16 ≤ length out → fewestIn (put 0 (wide (fewestNumbers a)) out) ≡ a
-unfolding fewestIn fewestNumbers
-fewest-in st Over out f h = rw (wide-num (5 ∷ 0 ∷ []) out tt h 0 (omega arith))
-fewest-in st (Few n m) out f h =
+pub fewest-shown : (st : State) (a : Fewest) (out : List ℕ) → FewestOf (Works st) a → fewestSize ≤ length out
+    → Shows (put 0 (wide (fewestNumbers a)) out) (fewestNumbers a)
+unfolding fewestNumbers
+fewest-shown st Over out f h = shown (5 ∷ 0 ∷ []) out tt h
+fewest-shown st (Few n m) out f h =
     let a = f .0 .0 in
     let few : n ≤ 4 = omega (arith, a .few, f .1) in
-    let ns = n ∷ m ∷ [] in
-    let small : T (all Small ns) =
-    both (Small n) (Small m && true) (lt→ltb n (256 ^ 8) (omega arith)) (both (Small m) true (lt→ltb m (256 ^ 8) (omega (arith, a .names))) tt) in
-    rw (wide-num ns out small h 0 (omega arith), wide-num ns out small h 1 (omega arith), ne-eqb n 5 (λ e. omega arith))
+    shown (n ∷ m ∷ []) out
+    (both (Small n) (Small m && true) (lt→ltb n (256 ^ 8) (omega arith)) (both (Small m) true (lt→ltb m (256 ^ 8) (omega (arith, a .names))) tt)) h
 
 -- the fewest of the same sets
 pub fewest-same : {U W : ℕ → Type 0} → ((s : ℕ) → U s ↔ W s) → (a : Fewest) → FewestOf U a → FewestOf W a

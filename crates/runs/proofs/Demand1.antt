@@ -164,7 +164,7 @@ unfolding returned tests readNumber layoutSize answered readingBytes bytes first
 read-number m out = read-first m (λ r. answered r (readingBytes r) out) (outputTests 32 out) (λ n. refl) (λ s l r n e. refl)
 
 -- what is written of a message that is read
-rewritten-size : {s l r n : ℕ} (m : List ℕ) → readBytes m ≡ Message s l r n
+pub rewritten-size : {s l r n : ℕ} (m : List ℕ) → readBytes m ≡ Message s l r n
     → length (rewrittenBytes m) ≡ endsFormSize (epochCount (wordsOf m)) (countOf (getD (wordsOf m) 0 0))
 rewritten-size {s} {l} {r} {n} m e =
     let words = words-in-taken m e in
@@ -184,7 +184,7 @@ rewrite-number m out =
     ap (λ (k : ℕ). refuse (ltb (length out) k) 24 0)
     (ap (λ (x : Reading). length (bytesOf (rewrittenAs x (wordsOf m)))) (sym e) ∙ rewritten-size m e))
 
-written-size : (s : List ℕ) (position : ℕ)
+pub written-size : (s : List ℕ) (position : ℕ)
     → length (writtenBytes s position) ≡ endsFormSize (namesWritten s position) (length (datumAt s position .terms))
 unfolding writtenWords
 written-size s position =

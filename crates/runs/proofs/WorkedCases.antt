@@ -2,7 +2,7 @@
 -- The idea: each row is tested on the states that its bytes hold (`proofs.DecodedRuns`), with numbers that are written out, so the whole table
 -- computes, the reading of the messages' bytes too; and a row that passes holds of the bytes. Assumes nothing.
 use Prim.Native.Nat.{ℕ, _≤_}
-use mathlib.Core.Path.{_≡_, refl, ap, _∙_}
+use mathlib.Core.Path.{_≡_, refl, ap, subst, _∙_}
 use mathlib.Core.Bool.{Bool, true, false, _&&_}
 use mathlib.Core.List.{List, [], _∷_, _++_}
 use native.Mathlib.Omega.{arith}
@@ -39,11 +39,11 @@ use Rattle.engine.specs.Calls.{begun, setUp, clockOf, violated, moved, made, do
 use Rattle.engine.specs.Refusals.{setUpRefusal, passesEnd, ageRefusal, receiptRefusal}
 use Rattle.asking.specs.declared.Answer.{Answer}
 use Rattle.asking.specs.declared.Answer.the-variants.{Contradicted, Open, Between}
-use Rattle.asking.specs.Asking.{cut, common, active, leaves, setsOf, sets, either, leftBy, exact, answer}
+use Rattle.asking.specs.Asking.{cut, common, active, leaves, setsOf, sets, either, leftBy, exact, answer, answerNumbers}
 use Rattle.monitor.specs.Messages.{readBytes}
 use Rattle.monitor.specs.Receive.{delivered, deliveredAs, deliveredNumber, deliveredState}
 use Rattle.monitor.specs.Calls.{ageNumber}
-use Rattle.monitor.specs.Ask.{limitMost, limitFails, limitRefusal, askNumber}
+use Rattle.monitor.specs.Ask.{limitMost, limitFails, limitRefusal, Shows, askNumber, askOutput}
 use Rattle.runs.specs.Book.{Step}
 use Rattle.runs.specs.Runs.{bytesRun, stateAfter}
 use Rattle.runs.specs.Cases.{Question, asking, refusing, holding, knowing, saving, dating, forming, advancing, returning, Case, Comes, runOf, CaseComes, orderCases, cases, EachCase, Lent, LentComes, fractions, EachLent}
@@ -172,7 +172,8 @@ module _ (s : List ℕ) (h : stateSize ≤ length s) (t : T (inForm s)) where
   question-comes (asking limit a) p = λ out k.
       let l = refuse-none (limitFails limit) _ 0 (omega arith) (eqb→eq (limitRefusal limit 0) 0 (both-l (eqb (limitRefusal limit 0) 0) _ p)) in
       let told = ask-answers s h t out limit (nltb→le limitMost limit (l .0)) k in
-      (told .0, told .1 ∙ same-answer-out (answer limit (stateOf s)) a (both-r (eqb (limitRefusal limit 0) 0) _ p))
+      let comes = same-answer-out (answer limit (stateOf s)) a (both-r (eqb (limitRefusal limit 0) 0) _ p) in
+      (told .0, subst (λ (x : Answer). Shows (askOutput s limit out) (answerNumbers x)) comes (told .1))
   question-comes (refusing limit number) p = λ out.
       let over = T-true (limitFails limit) (both-l (limitFails limit) _ p) in
       lent-next s _ h t ∙ rw over (rw over at (eqb→eq (limitRefusal limit 0) number (both-r (limitFails limit) _ p)))

@@ -25,7 +25,8 @@ use Rattle.asking.specs.declared.Answer.{Answer}
 use Rattle.asking.specs.declared.Answer.the-variants.{Contradicted, Open, Between}
 use Rattle.monitor.specs.Calls.{setUpNumber, ageNumber}
 use Rattle.monitor.specs.Receive.{receiptOf, receiptWith}
-use Rattle.monitor.specs.Ask.{answerSize, answerIn, askNumber, askOutput}
+use Rattle.asking.specs.Asking.{answerNumbers}
+use Rattle.monitor.specs.Ask.{answerSize, Shows, askNumber, askOutput}
 use Rattle.runs.specs.Book.{Request, ageing, receipt, Step}
 use Rattle.runs.specs.Runs.{requestNumber, bytesRun, steps, Run, stateAfter, stepsOf}
 
@@ -60,9 +61,9 @@ pub record Case : Type 0 where
 
 -- ---- when a row holds
 
--- what must come comes, on the state bytes s: for asking by the number that it returns and the answer in its output
+-- what must come comes, on the state bytes s: for asking by the number that it returns and the 24 bytes of its output
 abbrev pub Comes : List ℕ → Question → Type 0
-Comes s (asking limit a) = (out : List ℕ) → answerSize ≤ length out → (askNumber s limit out ≡ 0) × (answerIn (askOutput s limit out) ≡ a)
+Comes s (asking limit a) = (out : List ℕ) → answerSize ≤ length out → (askNumber s limit out ≡ 0) × Shows (askOutput s limit out) (answerNumbers a)
 Comes s (refusing limit number) = (out : List ℕ) → askNumber s limit out ≡ number
 Comes s (holding ds) = storeOf s .held ≡ ds
 Comes s (knowing es) = storeOf s .entries ≡ es

@@ -1,4 +1,5 @@
 pub mod Demand1
+pub mod Demand2
 pub mod Book
 pub mod Runs
 pub mod ByNames

@@ -10,18 +10,20 @@ use lib.ListN.{length}
 use lib.IntN.{ℤ, pos, negsuc}
 use Rattle.clocks.specs.declared.Readings.the-variants.{Without}
 use Rattle.ends.specs.Ends.{down, up}
-use Rattle.state.specs.Layout.{storeOf}
+use Rattle.state.specs.Layout.{headOf, storeOf}
 use Rattle.epochs.specs.Epochs.{NotAbove}
 use Rattle.state.specs.Model.{Head}
 use Rattle.engine.specs.Hearing.{spokenBy}
 use Rattle.engine.specs.Calls.{Setup}
 use Rattle.asking.specs.declared.Answer.{Answer}
 use Rattle.asking.specs.declared.Answer.the-variants.{Contradicted, Open, Between}
+use Rattle.asking.specs.declared.Fewest.{Fewest}
+use Rattle.asking.specs.Asking.{answerNumbers}
 use Rattle.asking.specs.Instants.{Allowed, Fine}
-use Rattle.asking.specs.Fewest.{FewestOf}
+use Rattle.asking.specs.Fewest.{FewestOf, fewestNumbers}
 use Rattle.monitor.specs.Calls.{setUpNumber, setUpState, ageNumber, ageState}
 use Rattle.monitor.specs.Receive.{Delivered, refused, brings, delivered, receiveNumber, receiveState}
-use Rattle.monitor.specs.Ask.{limitMost, answerSize, fewestSize, answerIn, fewestIn, askNumber, askOutput, fewestNumber, fewestOutput}
+use Rattle.monitor.specs.Ask.{limitMost, answerSize, fewestSize, Shows, askNumber, askOutput, fewestNumber, fewestOutput}
 use Rattle.runs.specs.Book.{Request, ageing, receipt, Step, Book, opened, enteredRequest, bookOf, sees, EndsOn, Possible}
 
 -- ---- a run
@@ -92,11 +94,13 @@ pub record Tells (P : ℤ → Type 0) (a : Answer) : Type 0 where
 
 -- ---- demand 3
 
--- "After the list, for every limit from 0 to 4": asking is taken, and its answer is the one that the possible instants of the run's book give
+-- "After the list, for every limit from 0 to 4": asking is taken, and the 24 bytes are those of an answer ("0 contradicted, 1 open, 2 between; left;
+-- right, both 0 unless between"), the one that the possible instants of the run's book give
 unfoldable pub Demand3 : Type 0
 Demand3 =
     (r : Run) (limit : ℕ) → limit ≤ limitMost → (out : List ℕ) → answerSize ≤ length out
-    → (askNumber (stateAfter r) limit out ≡ 0) × Tells (Possible limit (book r)) (answerIn (askOutput (stateAfter r) limit out))
+    → (askNumber (stateAfter r) limit out ≡ 0)
+    × ((a : Answer) × Shows (askOutput (stateAfter r) limit out) (answerNumbers a) × Tells (Possible limit (book r)) a)
 
 -- the taken calls, in order
 abbrev pub ifTaken : ℕ → Request → List Request → List Request
@@ -139,11 +143,16 @@ Demand3·whole = Demand3 × Demand3·more
 
 -- ---- ageing in pieces
 
--- "Ageing in two calls gives the same bytes as in one to the later reading, none refused" (document 02, W-205), nor is the one refused
+-- "Ageing in two calls gives the same bytes as in one to the later reading, none refused" (document 02, W-205)
+pub record AgesOnce (s : List ℕ) (t u : ℕ) : Type 0 where
+  -- two that are taken: so is the one, and it leaves their bytes
+  pub joined : ageNumber s t ≡ 0 → ageNumber (ageState s t) u ≡ 0 → (ageNumber s u ≡ 0) × (ageState (ageState s t) u ≡ ageState s u)
+  -- one that is taken: so are two, by any reading between, and they leave its bytes
+  pub parted : ageNumber s u ≡ 0 → headOf s .reading ≤ t → t ≤ u
+      → (ageNumber s t ≡ 0) × (ageNumber (ageState s t) u ≡ 0) × (ageState (ageState s t) u ≡ ageState s u)
+
 unfoldable pub AgedOnce : Type 0
-AgedOnce =
-    (s : List ℕ) (t u : ℕ) → ageNumber s t ≡ 0 → ageNumber (ageState s t) u ≡ 0
-    → (ageNumber s u ≡ 0) × (ageState (ageState s t) u ≡ ageState s u)
+AgedOnce = (s : List ℕ) (t u : ℕ) → AgesOnce s t u
 
 -- ---- set by set
 
@@ -152,11 +161,11 @@ AgedOnce =
 unfoldable pub SetBySet : Type 0
 SetBySet = (r : Run) (s : ℕ) (x : ℤ) → Fine s (storeOf (stateAfter r)) x ↔ EndsOn (sees (book r .head .epochs) s) (book r .lines) x
 
--- the fewest failures by the book: the sets of at most 4 current names, without the own one, with which some path of the book agrees
+-- the fewest failures by the book: of the sets of at most 4 current names, without the own one, with which some path of the book agrees; the 16 bytes
+-- are theirs ("count, 5 for over 4; mask, then 0")
 unfoldable pub FewestByBook : Type 0
 FewestByBook =
     (r : Run) (out : List ℕ) → fewestSize ≤ length out
     → (fewestNumber (stateAfter r) out ≡ 0)
-    × FewestOf
-    (λ s. Allowed 4 (book r .head .own) s × ((x : ℤ) × EndsOn (sees (book r .head .epochs) s) (book r .lines) x))
-    (fewestIn (fewestOutput (stateAfter r) out))
+    × ((a : Fewest) × Shows (fewestOutput (stateAfter r) out) (fewestNumbers a)
+    × FewestOf (λ s. Allowed 4 (book r .head .own) s × ((x : ℤ) × EndsOn (sees (book r .head .epochs) s) (book r .lines) x)) a)
