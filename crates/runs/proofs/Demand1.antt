@@ -160,7 +160,7 @@ module _ (m : List ℕ) (f : Reading → ℕ) (us : List Test) (plain : (n : ℕ
 -- ---- the numbers
 
 read-number : (m out : List ℕ) → returned (messageRead m out) ≡ firstFailing (tests (messageRead m out))
-unfolding returned tests readNumber layoutSize answered readingBytes bytes firstFailing
+unfolding tests readNumber layoutSize answered readingBytes bytes firstFailing
 read-number m out = read-first m (λ r. answered r (readingBytes r) out) (outputTests 32 out) (λ n. refl) (λ s l r n e. refl)
 
 -- what is written of a message that is read
@@ -176,7 +176,7 @@ rewritten-size {s} {l} {r} {n} m e =
     omega (arith, length-rewritten-bytes m e, live .taken .count, names)
 
 rewrite-number : (m out : List ℕ) → returned (messageRewrite m out) ≡ firstFailing (tests (messageRewrite m out))
-unfolding returned tests rewriteNumber rewrittenBytes layoutSize answered firstFailing
+unfolding tests rewriteNumber rewrittenBytes layoutSize answered firstFailing
 rewrite-number m out =
     let size = endsFormSize (epochCount (wordsOf m)) (countOf (getD (wordsOf m) 0 0)) in
     read-first m (λ r. answered r (bytesOf (rewrittenAs r (wordsOf m))) out) (outputTests size out) (λ n. refl)
@@ -211,7 +211,7 @@ unfolding lent
 lent-nest s n = refl
 
 age-number : (s : List ℕ) (reading : ℕ) → returned (monitorAge s reading) ≡ firstFailing (tests (monitorAge s reading))
-unfolding returned tests firstFailing ageNumber ageRefusal stateOf
+unfolding tests firstFailing ageNumber ageRefusal stateOf
 age-number s reading = lent-same s _ _ (λ t. rw (passes-both (stateOf s) reading (form-ok s t))) ∙ lent-nest s _
 
 -- a receipt, with readings or without
@@ -235,16 +235,16 @@ receive-nest s g =
 
 receive-number : (s : List ℕ) (least greatest : ℕ) (m : List ℕ)
     → returned (monitorReceive s least greatest m) ≡ firstFailing (tests (monitorReceive s least greatest m))
-unfolding returned tests firstFailing readingsFail
+unfolding tests firstFailing readingsFail
 receive-number s least greatest m = receive-nest s (receiptOf least greatest m)
 
 receive-with-number : (s : List ℕ) (least greatest : ℕ) (t : Triple) (drift : ℕ) (m : List ℕ)
     → returned (monitorReceiveWithReadings s least greatest t drift m) ≡ firstFailing (tests (monitorReceiveWithReadings s least greatest t drift m))
-unfolding returned tests firstFailing readingsFail
+unfolding tests firstFailing readingsFail
 receive-with-number s least greatest t drift m = receive-nest s (receiptWith least greatest (With t drift) m)
 
 number-first : (c : Exported) → returned c ≡ firstFailing (tests c)
-unfolding returned tests firstFailing setUpNumber setUpRefusal ageNumber ageRefusal askNumber fewestNumber writeNumber lent layoutSize stateOf
+unfolding tests firstFailing setUpNumber setUpRefusal ageNumber ageRefusal askNumber fewestNumber writeNumber lent layoutSize stateOf
 number-first (monitorSetUp s u) = refl
 number-first (monitorAge s reading) = age-number s reading
 number-first (monitorReceive s least greatest m) = receive-number s least greatest m
@@ -356,7 +356,7 @@ receive-sized s g e =
     length-state (deliveredState (stateOf s) (delivered g)) (delivered-ok s g (lent-passed s _ (receive-lent s g e) .1) (k .1) (k .2) (k .3))
 
 stores : (c : Exported) → Stores c
-unfolding leftBytes returned lentBytes layoutSize setUpNumber setUpState ageNumber ageState receiveState
+unfolding lentBytes layoutSize setUpNumber setUpState ageNumber ageState receiveState
     askOutput askedBytes fewestOutput fewestBytes writeOutput readOutput rewriteOutput
 stores (monitorSetUp s u) =
     record {

@@ -48,7 +48,7 @@ pub data Exported : Type 0 where
   messageRewrite : List ℕ → List ℕ → Exported
 
 -- the number that it returns, as its contract has it
-unfoldable pub returned : Exported → ℕ
+abbrev pub returned : Exported → ℕ
 returned (monitorSetUp s u) = setUpNumber s u
 returned (monitorAge s reading) = ageNumber s reading
 returned (monitorReceive s least greatest m) = receiveNumber s (receiptOf least greatest m)
@@ -72,7 +72,7 @@ lentBytes (messageRead m out) = out
 lentBytes (messageRewrite m out) = out
 
 -- and afterwards, as its contract has them
-unfoldable pub leftBytes : Exported → List ℕ
+abbrev pub leftBytes : Exported → List ℕ
 leftBytes (monitorSetUp s u) = setUpState s u
 leftBytes (monitorAge s reading) = ageState s reading
 leftBytes (monitorReceive s least greatest m) = receiveState s (receiptOf least greatest m)
