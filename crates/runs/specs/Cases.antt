@@ -89,8 +89,8 @@ abbrev pub given : Setup → List Request → Question → Case
 given u qs q = record { setup = u; requests = qs; question = q }
 
 -- a monitor with this own name, drift 100, reading 0 and epoch 0, as the listing's `set 5 100 0 0`
-abbrev pub named : ℕ → Setup
-named own = record { own = own; drift = 100; reading = 0; epoch = 0 }
+abbrev pub usual : ℕ → Setup
+usual own = record { own = own; drift = 100; reading = 0; epoch = 0 }
 
 -- the same without drift, and with the greatest
 abbrev pub steady : ℕ → Setup
@@ -194,45 +194,45 @@ cases =
     -- those of W-206, which the example in `specs.Example` needs by themselves, and then all others
     orderCases
     -- "no data: open for limits 0 and 4. Limit 5: 22."
-    ++ given (named 5) [] (asking 0 Open)
-    ∷ given (named 5) [] (asking 4 Open)
-    ∷ given (named 5) [] (refusing 5 22)
+    ++ given (usual 5) [] (asking 0 Open)
+    ∷ given (usual 5) [] (asking 4 Open)
+    ∷ given (usual 5) [] (refusing 5 22)
     -- "[0,10] under 1 and [20,30] under 2, limit 1: 0 to 30."
-    ∷ given (named 5) (hear 1 0 10 [] ∷ hear 2 20 30 [] ∷ []) (asking 1 (Between 0 30))
+    ∷ given (usual 5) (hear 1 0 10 [] ∷ hear 2 20 30 [] ∷ []) (asking 1 (Between 0 30))
     -- "[0,10] under 1+3 and [20,30] under 2+3, limit 1: open."
-    ∷ given (named 5) (hear 1 0 10 (2 ^ 3 ∷ []) ∷ hear 2 20 30 (2 ^ 3 ∷ []) ∷ []) (asking 1 Open)
+    ∷ given (usual 5) (hear 1 0 10 (2 ^ 3 ∷ []) ∷ hear 2 20 30 (2 ^ 3 ∷ []) ∷ []) (asking 1 Open)
     -- "sender 1, terms {1,2} and {3}: predicate 1+3; at own name 3: 1."
-    ∷ given (named 5) [] (forming 1 ((2 ^ 1 + 2 ^ 2) ∷ 2 ^ 3 ∷ []) (2 ^ 1 ∷ 2 ^ 3 ∷ []))
-    ∷ given (named 3) [] (forming 1 ((2 ^ 1 + 2 ^ 2) ∷ 2 ^ 3 ∷ []) (2 ^ 1 ∷ []))
+    ∷ given (usual 5) [] (forming 1 ((2 ^ 1 + 2 ^ 2) ∷ 2 ^ 3 ∷ []) (2 ^ 1 ∷ 2 ^ 3 ∷ []))
+    ∷ given (usual 3) [] (forming 1 ((2 ^ 1 + 2 ^ 2) ∷ 2 ^ 3 ∷ []) (2 ^ 1 ∷ []))
     -- the same by a receipt
-    ∷ given (named 5) (hear 1 0 10 ((2 ^ 1 + 2 ^ 2) ∷ 2 ^ 3 ∷ []) ∷ []) (holding (whole 0 10 (2 ^ 1 ∷ 2 ^ 3 ∷ []) ∷ []))
-    ∷ given (named 3) (hear 1 0 10 ((2 ^ 1 + 2 ^ 2) ∷ 2 ^ 3 ∷ []) ∷ []) (holding (whole 0 10 (2 ^ 1 ∷ []) ∷ []))
+    ∷ given (usual 5) (hear 1 0 10 ((2 ^ 1 + 2 ^ 2) ∷ 2 ^ 3 ∷ []) ∷ []) (holding (whole 0 10 (2 ^ 1 ∷ 2 ^ 3 ∷ []) ∷ []))
+    ∷ given (usual 3) (hear 1 0 10 ((2 ^ 1 + 2 ^ 2) ∷ 2 ^ 3 ∷ []) ∷ []) (holding (whole 0 10 (2 ^ 1 ∷ []) ∷ []))
     -- "[0,10] and [5,20], both under 1: one datum, [5,10]."
-    ∷ given (named 5) (hear 1 0 10 [] ∷ hear 1 5 20 [] ∷ []) (holding (whole 5 10 (2 ^ 1 ∷ []) ∷ []))
+    ∷ given (usual 5) (hear 1 0 10 [] ∷ hear 1 5 20 [] ∷ []) (holding (whole 5 10 (2 ^ 1 ∷ []) ∷ []))
     -- "[0,10] then [11,20], both under 1: no datum, entry 1; limit 0 contradicted, and so after ageing."
-    ∷ given (named 5) (hear 1 0 10 [] ∷ hear 1 11 20 [] ∷ []) (holding [])
-    ∷ given (named 5) (hear 1 0 10 [] ∷ hear 1 11 20 [] ∷ []) (knowing ((2 ^ 1 ∷ []) ∷ []))
-    ∷ given (named 5) (hear 1 0 10 [] ∷ hear 1 11 20 [] ∷ []) (asking 0 Contradicted)
+    ∷ given (usual 5) (hear 1 0 10 [] ∷ hear 1 11 20 [] ∷ []) (holding [])
+    ∷ given (usual 5) (hear 1 0 10 [] ∷ hear 1 11 20 [] ∷ []) (knowing ((2 ^ 1 ∷ []) ∷ []))
+    ∷ given (usual 5) (hear 1 0 10 [] ∷ hear 1 11 20 [] ∷ []) (asking 0 Contradicted)
     -- the two intervals would by then overlap: each has grown by 200
-    ∷ given (named 5) (hear 1 0 10 [] ∷ hear 1 11 20 [] ∷ ageing 1_000_000 ∷ []) (asking 0 Contradicted)
+    ∷ given (usual 5) (hear 1 0 10 [] ∷ hear 1 11 20 [] ∷ ageing 1_000_000 ∷ []) (asking 0 Contradicted)
     -- "[0,10] and [10,20] under 1 and 2: no entry; limit 0 gives 10 to 10."
-    ∷ given (named 5) (hear 1 0 10 [] ∷ hear 2 10 20 [] ∷ []) (knowing [])
-    ∷ given (named 5) (hear 1 0 10 [] ∷ hear 2 10 20 [] ∷ []) (asking 0 (Between 10 10))
+    ∷ given (usual 5) (hear 1 0 10 [] ∷ hear 2 10 20 [] ∷ []) (knowing [])
+    ∷ given (usual 5) (hear 1 0 10 [] ∷ hear 2 10 20 [] ∷ []) (asking 0 (Between 10 10))
     -- "the case d = 1, r = 100 now gives 0.9999 and 1.0001" (document 02, W-205). "d = 0: 0 and 0." Set up with reading 0, d is the new reading
-    ∷ given (named 5) [] (advancing 1 999_900 1_000_100)
-    ∷ given (named 5) [] (advancing 0 0 0)
+    ∷ given (usual 5) [] (advancing 1 999_900 1_000_100)
+    ∷ given (usual 5) [] (advancing 0 0 0)
     -- the same by an ageing; only the answer rounds
-    ∷ given (named 5) (hear 1 0 10 [] ∷ ageing 1 ∷ []) (holding (datum 999_900 11_000_100 (2 ^ 1 ∷ []) ∷ []))
-    ∷ given (named 5) (hear 1 0 10 [] ∷ ageing 1 ∷ []) (asking 0 (Between 0 12))
-    ∷ given (named 5) (hear 1 0 10 [] ∷ ageing 0 ∷ []) (holding (whole 0 10 (2 ^ 1 ∷ []) ∷ []))
+    ∷ given (usual 5) (hear 1 0 10 [] ∷ ageing 1 ∷ []) (holding (datum 999_900 11_000_100 (2 ^ 1 ∷ []) ∷ []))
+    ∷ given (usual 5) (hear 1 0 10 [] ∷ ageing 1 ∷ []) (asking 0 (Between 0 12))
+    ∷ given (usual 5) (hear 1 0 10 [] ∷ ageing 0 ∷ []) (holding (whole 0 10 (2 ^ 1 ∷ []) ∷ []))
     -- the listing (its `fewest` is not here: `ones` takes as many steps as the mask is large). Document 02, W-202: "with delays 0 and 50 its
     -- first two answers end at 1000251 and 3000451"
-    ∷ given (named 5) listingFirst (asking 0 (Between 1_000_000 1_000_251))
-    ∷ given (named 5) listingAged (asking 0 (Between 2_999_800 3_000_451))
+    ∷ given (usual 5) listingFirst (asking 0 (Between 1_000_000 1_000_251))
+    ∷ given (usual 5) listingAged (asking 0 (Between 2_999_800 3_000_451))
     -- "contradicted", "between 2999800 3001000", "open"
-    ∷ given (named 5) listingSecond (asking 0 Contradicted)
-    ∷ given (named 5) listingSecond (asking 1 (Between 2_999_800 3_001_000))
-    ∷ given (named 5) listingSecond (asking 2 Open)
+    ∷ given (usual 5) listingSecond (asking 0 Contradicted)
+    ∷ given (usual 5) listingSecond (asking 1 (Between 2_999_800 3_001_000))
+    ∷ given (usual 5) listingSecond (asking 2 Open)
     -- document 02, W-201. A test exactly at the bound, 2 > 2: no violation
     ∷ given (steady 5) (one 0 0 1 ∷ one 100 102 1 ∷ []) (asking 0 (Between 0 10))
     ∷ given (steady 5) (one 0 0 1 ∷ one 100 102 1 ∷ []) (saving 1 (three (triple 100 102 1) (triple 0 0 1) (triple 100 102 1)))
@@ -242,8 +242,8 @@ cases =
     ∷ given (steady 5) (one 0 0 1 ∷ one 100 103 1 ∷ []) (asking 0 Contradicted)
     ∷ given (steady 5) (one 0 0 1 ∷ one 100 103 1 ∷ []) (asking 1 Open)
     -- own and sender's drift 100: at the bound, and one past it
-    ∷ given (named 5) (drifting 0 0 0 ∷ drifting 5000 5001 0 ∷ []) (knowing [])
-    ∷ given (named 5) (drifting 0 0 0 ∷ drifting 4999 5000 0 ∷ []) (knowing ((2 ^ 1 ∷ []) ∷ []))
+    ∷ given (usual 5) (drifting 0 0 0 ∷ drifting 5000 5001 0 ∷ []) (knowing [])
+    ∷ given (usual 5) (drifting 0 0 0 ∷ drifting 4999 5000 0 ∷ []) (knowing ((2 ^ 1 ∷ []) ∷ []))
     -- both clocks back: the own one counts by its distance
     ∷ given (steady 5) (one 10 10 0 ∷ one 0 0 0 ∷ []) (knowing ((2 ^ 1 ∷ []) ∷ []))
     -- a tie: the earlier triples stay
@@ -261,34 +261,34 @@ cases =
     ∷ given (steady 5) (hear 2 20 30 [] ∷ one 0 0 0 ∷ one 0 9 0 ∷ []) (knowing ((2 ^ 1 ∷ []) ∷ []))
     ∷ given (steady 5) (hear 2 20 30 [] ∷ one 0 0 0 ∷ one 0 9 0 ∷ []) (holding (whole 20 30 (2 ^ 2 ∷ []) ∷ []))
     -- document 02, W-202. Delays by the ageing rule: as an ageing by 1, by 5, and at the greatest drift and delay
-    ∷ given (named 5) (delayed 1 1 0 0 ∷ []) (holding (datum 999_900 1_000_100 (2 ^ 1 ∷ []) ∷ []))
-    ∷ given (named 5) (delayed 5 5 10 10 ∷ []) (holding (datum 14_999_500 15_000_500 (2 ^ 1 ∷ []) ∷ []))
+    ∷ given (usual 5) (delayed 1 1 0 0 ∷ []) (holding (datum 999_900 1_000_100 (2 ^ 1 ∷ []) ∷ []))
+    ∷ given (usual 5) (delayed 5 5 10 10 ∷ []) (holding (datum 14_999_500 15_000_500 (2 ^ 1 ∷ []) ∷ []))
     ∷ given (hasty 5) (delayed 600_000_000 600_000_000 0 0 ∷ []) (holding (whole 599_400_000 600_600_000 (2 ^ 1 ∷ []) ∷ []))
     -- without drift left plus least, right plus greatest
     ∷ given (steady 5) (delayed 3 600_000_000 10 20 ∷ []) (holding (whole 13 600_000_020 (2 ^ 1 ∷ []) ∷ []))
     -- "Delay" 600,000,000 "taken", 600,000,001 "gives 21"
-    ∷ given (named 5) [] (returning (delayed 0 600_000_000 0 0) 0)
-    ∷ given (named 5) [] (returning (delayed 0 600_000_001 0 0) 21)
+    ∷ given (usual 5) [] (returning (delayed 0 600_000_000 0 0) 0)
+    ∷ given (usual 5) [] (returning (delayed 0 600_000_001 0 0) 21)
     -- the end so grown is within the greatest, beyond it by its fraction alone, and without drift the greatest
-    ∷ given (named 5) (delayed 0 1 0 (2 ^ 58 - 3) ∷ []) (holding (datum 0 ((2 ^ 58 - 2) * million + 100) (2 ^ 1 ∷ []) ∷ []))
-    ∷ given (named 5) [] (returning (delayed 0 1 0 (2 ^ 58 - 2)) 30)
+    ∷ given (usual 5) (delayed 0 1 0 (2 ^ 58 - 3) ∷ []) (holding (datum 0 ((2 ^ 58 - 2) * million + 100) (2 ^ 1 ∷ []) ∷ []))
+    ∷ given (usual 5) [] (returning (delayed 0 1 0 (2 ^ 58 - 2)) 30)
     ∷ given (steady 5) (delayed 0 1 0 (2 ^ 58 - 2) ∷ []) (holding (whole 0 (2 ^ 58 - 1) (2 ^ 1 ∷ []) ∷ []))
     -- document 02, W-204. A mended monitor is believed, and what its old name said or was blamed for no longer binds it, whichever comes first
-    ∷ given (named 5) (hear 1 0 10 [] ∷ hear 2 20 30 [] ∷ mended 22 40 ∷ []) (asking 0 (Between 22 30))
-    ∷ given (named 5) (hear 1 0 10 [] ∷ hear 2 20 30 [] ∷ mended 22 40 ∷ []) (knowing [])
-    ∷ given (named 5) (hear 1 0 10 [] ∷ hear 2 20 30 [] ∷ mended 22 40 ∷ []) (holding (whole 20 30 (2 ^ 2 ∷ []) ∷ whole 22 40 (2 ^ 1 ∷ []) ∷ []))
-    ∷ given (named 5) (mended 22 40 ∷ hear 1 0 10 [] ∷ hear 2 20 30 [] ∷ []) (asking 0 (Between 22 30))
+    ∷ given (usual 5) (hear 1 0 10 [] ∷ hear 2 20 30 [] ∷ mended 22 40 ∷ []) (asking 0 (Between 22 30))
+    ∷ given (usual 5) (hear 1 0 10 [] ∷ hear 2 20 30 [] ∷ mended 22 40 ∷ []) (knowing [])
+    ∷ given (usual 5) (hear 1 0 10 [] ∷ hear 2 20 30 [] ∷ mended 22 40 ∷ []) (holding (whole 20 30 (2 ^ 2 ∷ []) ∷ whole 22 40 (2 ^ 1 ∷ []) ∷ []))
+    ∷ given (usual 5) (mended 22 40 ∷ hear 1 0 10 [] ∷ hear 2 20 30 [] ∷ []) (asking 0 (Between 22 30))
     -- its epoch is heard in a term, in a term that is struck, and from an old sender
-    ∷ given (named 5) (hear 1 0 10 [] ∷ hearNamed (name 1 1 ∷ name 2 0 ∷ []) 2 0 5 (2 ^ 1 ∷ []) ∷ []) (holding (whole 0 5 (2 ^ 1 ∷ 2 ^ 2 ∷ []) ∷ []))
-    ∷ given (named 5) (hear 1 0 10 [] ∷ hearNamed (name 1 1 ∷ name 2 0 ∷ name 5 0 ∷ []) 2 0 5 ((2 ^ 1 + 2 ^ 5) ∷ []) ∷ []) (holding (whole 0 5 (2 ^ 2 ∷ []) ∷ []))
-    ∷ given (named 5) (mended 0 10 ∷ hear 3 0 9 [] ∷ hearNamed (name 1 0 ∷ name 3 1 ∷ []) 1 0 5 (2 ^ 3 ∷ []) ∷ []) (holding (whole 0 10 (2 ^ 1 ∷ []) ∷ []))
+    ∷ given (usual 5) (hear 1 0 10 [] ∷ hearNamed (name 1 1 ∷ name 2 0 ∷ []) 2 0 5 (2 ^ 1 ∷ []) ∷ []) (holding (whole 0 5 (2 ^ 1 ∷ 2 ^ 2 ∷ []) ∷ []))
+    ∷ given (usual 5) (hear 1 0 10 [] ∷ hearNamed (name 1 1 ∷ name 2 0 ∷ name 5 0 ∷ []) 2 0 5 ((2 ^ 1 + 2 ^ 5) ∷ []) ∷ []) (holding (whole 0 5 (2 ^ 2 ∷ []) ∷ []))
+    ∷ given (usual 5) (mended 0 10 ∷ hear 3 0 9 [] ∷ hearNamed (name 1 0 ∷ name 3 1 ∷ []) 1 0 5 (2 ^ 3 ∷ []) ∷ []) (holding (whole 0 10 (2 ^ 1 ∷ []) ∷ []))
     -- a late name in a term counts as failed; alone in it, it makes the predicate true
-    ∷ given (named 5) (mended 0 10 ∷ hear 2 0 9 ((2 ^ 1 + 2 ^ 3) ∷ []) ∷ []) (holding (whole 0 10 (2 ^ 1 ∷ []) ∷ whole 0 9 (2 ^ 2 ∷ 2 ^ 3 ∷ []) ∷ []))
-    ∷ given (named 5) (mended 0 10 ∷ hear 2 0 9 (2 ^ 1 ∷ []) ∷ []) (holding (whole 0 10 (2 ^ 1 ∷ []) ∷ []))
+    ∷ given (usual 5) (mended 0 10 ∷ hear 2 0 9 ((2 ^ 1 + 2 ^ 3) ∷ []) ∷ []) (holding (whole 0 10 (2 ^ 1 ∷ []) ∷ whole 0 9 (2 ^ 2 ∷ 2 ^ 3 ∷ []) ∷ []))
+    ∷ given (usual 5) (mended 0 10 ∷ hear 2 0 9 (2 ^ 1 ∷ []) ∷ []) (holding (whole 0 10 (2 ^ 1 ∷ []) ∷ []))
     -- two data of one predicate are not merged, and one that an entry implies stays
-    ∷ given (named 5) (hear 2 0 9 ((2 ^ 1 + 2 ^ 3) ∷ []) ∷ hear 2 3 20 (2 ^ 3 ∷ []) ∷ hearNamed (name 1 1 ∷ []) 1 0 30 [] ∷ [])
+    ∷ given (usual 5) (hear 2 0 9 ((2 ^ 1 + 2 ^ 3) ∷ []) ∷ hear 2 3 20 (2 ^ 3 ∷ []) ∷ hearNamed (name 1 1 ∷ []) 1 0 30 [] ∷ [])
     (holding (whole 0 9 (2 ^ 2 ∷ 2 ^ 3 ∷ []) ∷ whole 3 20 (2 ^ 2 ∷ 2 ^ 3 ∷ []) ∷ whole 0 30 (2 ^ 1 ∷ []) ∷ []))
-    ∷ given (named 5) (hear 2 0 9 ((2 ^ 1 + 2 ^ 3) ∷ []) ∷ hear 3 0 1 [] ∷ hear 3 5 6 [] ∷ hearNamed (name 1 1 ∷ []) 1 0 30 (0 ∷ []) ∷ [])
+    ∷ given (usual 5) (hear 2 0 9 ((2 ^ 1 + 2 ^ 3) ∷ []) ∷ hear 3 0 1 [] ∷ hear 3 5 6 [] ∷ hearNamed (name 1 1 ∷ []) 1 0 30 (0 ∷ []) ∷ [])
     (holding (whole 0 9 (2 ^ 2 ∷ 2 ^ 3 ∷ []) ∷ []))
     -- a violation's entry goes with the name, and so do its triples; an older name's readings are not heeded
     ∷ given (steady 5) (one 0 0 1 ∷ one 100 103 1 ∷ mended 0 10 ∷ []) (knowing [])
@@ -301,25 +301,25 @@ cases =
     ∷ given (renewed 5) (hearNamed (name 1 0 ∷ name 2 0 ∷ name 5 9 ∷ []) 1 0 10 ((2 ^ 2 + 2 ^ 5) ∷ []) ∷ []) (dating 5 2)
     ∷ given (renewed 5) (hearNamed (name 1 0 ∷ name 2 0 ∷ name 5 9 ∷ []) 1 0 10 ((2 ^ 2 + 2 ^ 5) ∷ []) ∷ []) (holding (whole 0 10 (2 ^ 1 ∷ []) ∷ []))
     ∷ given (renewed 5) [] (returning (hearNamed (name 5 9 ∷ []) 5 0 10 []) 18)
-    ∷ given (named 5) (mended 0 10 ∷ []) (dating 1 1)
+    ∷ given (usual 5) (mended 0 10 ∷ []) (dating 1 1)
     -- 31 counts after late names have left: nine terms, and with 6 old none but the empty one
-    ∷ given (named 5) [] (returning (hear 2 0 10 eightTerms) 31)
-    ∷ given (named 5) (hearNamed (name 6 1 ∷ []) 6 0 5 [] ∷ []) (returning (hear 2 0 10 eightTerms) 0)
+    ∷ given (usual 5) [] (returning (hear 2 0 10 eightTerms) 31)
+    ∷ given (usual 5) (hearNamed (name 6 1 ∷ []) 6 0 5 [] ∷ []) (returning (hear 2 0 10 eightTerms) 0)
     -- document 02, W-205. A right end of 11.0001: a new left end of 11 meets it, and one of 12 does not
-    ∷ given (named 5) (hear 1 0 10 [] ∷ ageing 1 ∷ hear 2 11 20 [] ∷ []) (knowing [])
-    ∷ given (named 5) (hear 1 0 10 [] ∷ ageing 1 ∷ hear 2 11 20 [] ∷ []) (asking 0 (Between 11 12))
-    ∷ given (named 5) (hear 1 0 10 [] ∷ ageing 1 ∷ hear 2 12 20 [] ∷ []) (knowing ((2 ^ 1 ∷ 2 ^ 2 ∷ []) ∷ []))
+    ∷ given (usual 5) (hear 1 0 10 [] ∷ ageing 1 ∷ hear 2 11 20 [] ∷ []) (knowing [])
+    ∷ given (usual 5) (hear 1 0 10 [] ∷ ageing 1 ∷ hear 2 11 20 [] ∷ []) (asking 0 (Between 11 12))
+    ∷ given (usual 5) (hear 1 0 10 [] ∷ ageing 1 ∷ hear 2 12 20 [] ∷ []) (knowing ((2 ^ 1 ∷ 2 ^ 2 ∷ []) ∷ []))
     -- a left end of 11.9999: a new right end of 12 meets it, and one of 11 does not
-    ∷ given (named 5) (hear 1 11 20 [] ∷ ageing 1 ∷ hear 2 0 12 [] ∷ []) (knowing [])
-    ∷ given (named 5) (hear 1 11 20 [] ∷ ageing 1 ∷ hear 2 0 11 [] ∷ []) (knowing ((2 ^ 1 ∷ 2 ^ 2 ∷ []) ∷ []))
+    ∷ given (usual 5) (hear 1 11 20 [] ∷ ageing 1 ∷ hear 2 0 12 [] ∷ []) (knowing [])
+    ∷ given (usual 5) (hear 1 11 20 [] ∷ ageing 1 ∷ hear 2 0 11 [] ∷ []) (knowing ((2 ^ 1 ∷ 2 ^ 2 ∷ []) ∷ []))
     -- "Number 30 compares the end with its fraction"
-    ∷ given (named 5) (hear 1 0 (2 ^ 58 - 1) [] ∷ []) (returning (ageing 1) 30)
-    ∷ given (named 5) (hear 1 0 (2 ^ 58 - 3) [] ∷ []) (returning (ageing 1) 0)
-    ∷ given (named 5) (hear 1 0 (2 ^ 58 - 3) [] ∷ []) (returning (ageing 2) 30)
+    ∷ given (usual 5) (hear 1 0 (2 ^ 58 - 1) [] ∷ []) (returning (ageing 1) 30)
+    ∷ given (usual 5) (hear 1 0 (2 ^ 58 - 3) [] ∷ []) (returning (ageing 1) 0)
+    ∷ given (usual 5) (hear 1 0 (2 ^ 58 - 3) [] ∷ []) (returning (ageing 2) 30)
     ∷ given (steady 5) (hear 1 0 (2 ^ 58 - 3) [] ∷ []) (returning (ageing 2) 0)
     ∷ given (steady 5) (hear 1 0 (2 ^ 58 - 3) [] ∷ []) (returning (ageing 3) 30)
     -- three ageings are one
-    ∷ given (named 5) (hear 1 0 10 [] ∷ ageing 1_000_001 ∷ ageing 2_000_002 ∷ ageing 3_000_003 ∷ [])
+    ∷ given (usual 5) (hear 1 0 10 [] ∷ ageing 1_000_001 ∷ ageing 2_000_002 ∷ ageing 3_000_003 ∷ [])
     (holding (datum (3_000_003 * 999_900) (10 * million + 3_000_003 * 1_000_100) (2 ^ 1 ∷ []) ∷ []))
     ∷ []
 

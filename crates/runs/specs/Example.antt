@@ -1,4 +1,5 @@
--- A run with refused steps among taken ones: what comes of each step, and what the book has; and a run after which receipts come in two orders.
+-- A run with refused steps among taken ones: what comes of each step, and what the book has; two runs of which one takes further receipts; and a run
+-- after which receipts come in two orders.
 -- Assumes nothing: these are definitions.
 use Prim.Native.Nat.{ℕ, _+_, _*_, _^_, _≤_}
 use mathlib.Core.Path.{_≡_}
@@ -12,10 +13,10 @@ use Rattle.state.specs.Model.{datum}
 use Rattle.state.specs.Layout.{stateSize, storeOf}
 use Rattle.engine.specs.Calls.{Setup}
 use Rattle.monitor.specs.Calls.{setUpNumber}
-use Rattle.runs.specs.Book.{Request, ageing, Step, Line, advanced, heard, blames}
-use Rattle.runs.specs.Runs.{bytesRun, Run, stateAfter, stepsOf, book}
+use Rattle.runs.specs.Book.{Request, ageing, Step, Line, advanced, heard, blames, opened}
+use Rattle.runs.specs.Runs.{bytesRun, Run, stateAfter, stepsOf, book, takenOf, Further}
 use Rattle.runs.specs.Orders.{NoneRefused, OneBatch}
-use Rattle.runs.specs.Cases.{steady, get, said, hear, hearNamed, mended, tick, whole, eightTerms, oneOrder, otherOrder, heldOne, heldOther}
+use Rattle.runs.specs.Cases.{usual, steady, get, said, hear, hearNamed, mended, tick, whole, eightTerms, oneOrder, otherOrder, heldOne, heldOther}
 
 -- monitor 5, drift 100, reading 1,000,000, epoch 3
 abbrev pub exampleSetup : Setup
@@ -82,6 +83,58 @@ Example =
     → (begins : setUpNumber buffer exampleSetup ≡ 0)
     × (map (λ (p : Step). p .number) (stepsOf (exampleRun buffer begins)) ≡ exampleNumbers)
     × (book (exampleRun buffer begins) .lines ≡ exampleLines)
+
+-- ---- a run with further receipts (demand 3, second half)
+
+-- P takes two receipts and an ageing, and is refused an ageing back
+abbrev pub fewerTaken : List Request
+fewerTaken = hear 1 0 1_000 [] ∷ ageing 100 ∷ hear 2 50 1_200 (2 ^ 3 ∷ []) ∷ []
+
+abbrev pub fewerRequests : List Request
+fewerRequests = hear 1 0 1_000 [] ∷ ageing 100 ∷ ageing 99 ∷ hear 2 50 1_200 (2 ^ 3 ∷ []) ∷ []
+
+-- what Q takes: the same in order, with further receipts before them, between them, one over a channel with a delay, and behind them
+abbrev pub moreTaken : List Request
+moreTaken =
+    hear 3 0 2_000 []
+    ∷ hear 1 0 1_000 []
+    ∷ get 10 50 (said 4 20 800 [])
+    ∷ ageing 100
+    ∷ hear 6 130 880 (2 ^ 1 ∷ [])
+    ∷ hear 2 50 1_200 (2 ^ 3 ∷ [])
+    ∷ hear 1 140 1_300 []
+    ∷ []
+
+-- and what it is asked for: one word that is no message comes on the way, and a message from the own name
+abbrev pub moreRequests : List Request
+moreRequests =
+    hear 3 0 2_000 []
+    ∷ get 0 0 (536870913 ∷ [])
+    ∷ hear 1 0 1_000 []
+    ∷ get 10 50 (said 4 20 800 [])
+    ∷ ageing 100
+    ∷ hear 5 0 10 []
+    ∷ hear 6 130 880 (2 ^ 1 ∷ [])
+    ∷ hear 2 50 1_200 (2 ^ 3 ∷ [])
+    ∷ hear 1 140 1_300 []
+    ∷ []
+
+abbrev pub fewerRun : (buffer : List ℕ) → setUpNumber buffer (usual 5) ≡ 0 → Run
+fewerRun buffer begins = record { buffer = buffer; setup = usual 5; taken = begins; requests = fewerRequests }
+
+abbrev pub moreRun : (buffer : List ℕ) → setUpNumber buffer (usual 5) ≡ 0 → Run
+moreRun buffer begins = record { buffer = buffer; setup = usual 5; taken = begins; requests = moreRequests }
+
+-- the premise of `Demand3·more` holds of them, in any two buffers with room
+pub record FurtherComes (one other : List ℕ) : Type 0 where
+  pub begins : setUpNumber one (usual 5) ≡ 0
+  pub beginsOther : setUpNumber other (usual 5) ≡ 0
+  pub takenFewer : takenOf (stepsOf (fewerRun one begins)) ≡ fewerTaken
+  pub takenMore : takenOf (stepsOf (moreRun other beginsOther)) ≡ moreTaken
+  pub further : Further (opened (usual 5)) (takenOf (stepsOf (fewerRun one begins))) (takenOf (stepsOf (moreRun other beginsOther)))
+
+unfoldable pub FurtherExample : Type 0
+FurtherExample = (one other : List ℕ) → stateSize ≤ length one → stateSize ≤ length other → FurtherComes one other
 
 -- ---- receipts in two orders (document 02, W-206)
 
