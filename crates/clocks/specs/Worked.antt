@@ -32,6 +32,17 @@ rows =
     ∷ record { given = triple 0 10 0 ∷ []; drifts = 0; new = triple 10 0 0; violation = false; saved = three (triple 10 0 0) (triple 10 0 0) (triple 0 10 0) }
     -- ties: the earlier stays
     ∷ record { given = triple 0 0 0 ∷ triple 5 5 0 ∷ []; drifts = 0; new = triple 7 7 0; violation = false; saved = three (triple 7 7 0) (triple 0 0 0) (triple 0 0 0) }
+    -- half widths that differ: both count, at the bound and one past it
+    ∷ record { given = triple 0 0 1 ∷ []; drifts = 0; new = triple 100 104 3; violation = false; saved = three (triple 100 104 3) (triple 0 0 1) (triple 100 104 3) }
+    ∷ record { given = triple 0 0 1 ∷ []; drifts = 0; new = triple 100 105 3; violation = true; saved = three (triple 100 105 3) (triple 0 0 1) (triple 100 105 3) }
+    -- the half width decides which is the largest: it keeps the earlier one, ahead and behind, and it brings the later one
+    ∷ record { given = triple 0 0 5 ∷ []; drifts = 0; new = triple 13 10 0; violation = false; saved = three (triple 13 10 0) (triple 0 0 5) (triple 0 0 5) }
+    ∷ record { given = triple 0 0 5 ∷ []; drifts = 0; new = triple 10 13 0; violation = false; saved = three (triple 10 13 0) (triple 0 0 5) (triple 0 0 5) }
+    ∷ record { given = triple 3 0 0 ∷ []; drifts = 0; new = triple 10 10 4; violation = false; saved = three (triple 10 10 4) (triple 10 10 4) (triple 10 10 4) }
+    -- the previous triple alone shows it
+    ∷ record { given = triple 0 0 10 ∷ triple 10 10 0 ∷ []; drifts = 0; new = triple 25 20 1; violation = true; saved = three (triple 25 20 1) (triple 0 0 10) (triple 0 0 10) }
+    -- that of the largest b − a + w alone shows it
+    ∷ record { given = triple 0 10 0 ∷ triple 20 20 10 ∷ []; drifts = 0; new = triple 45 40 1; violation = true; saved = three (triple 45 40 1) (triple 20 20 10) (triple 0 10 0) }
     -- the triple of the largest a − b + w shows it, with the previous one and alone
     ∷ record { given = triple 4 0 0 ∷ triple 10 8 2 ∷ []; drifts = 1000; new = triple 20 21 0; violation = true; saved = three (triple 20 21 0) (triple 4 0 0) (triple 20 21 0) }
     ∷ record { given = triple 4 0 0 ∷ triple 10 9 3 ∷ []; drifts = 1000; new = triple 20 21 0; violation = true; saved = three (triple 20 21 0) (triple 4 0 0) (triple 10 9 3) }

@@ -115,9 +115,12 @@ long-run (q ∷ qs) s h t = long-run qs (bytesAfter s q) (long-on s h t q) (form
 
 -- ---- a run
 
-pub set-up-taken : (s : List ℕ) (u : Setup) → stateSize ≤ length s → setUpRefusal u ≡ 0 → setUpNumber s u ≡ 0
+pub set-up-number : (s : List ℕ) (u : Setup) → stateSize ≤ length s → setUpNumber s u ≡ setUpRefusal u
 unfolding setUpNumber
-set-up-taken s u h e = rw (le-ltb (length s) stateSize h) e
+set-up-number s u h = rw (le-ltb (length s) stateSize h)
+
+pub set-up-taken : (s : List ℕ) (u : Setup) → stateSize ≤ length s → setUpRefusal u ≡ 0 → setUpNumber s u ≡ 0
+set-up-taken s u h e = set-up-number s u h ∙ e
 
 module _ (r : Run) where
   passed : (stateSize ≤ length (r .buffer)) × (setUpRefusal (r .setup) ≡ 0)

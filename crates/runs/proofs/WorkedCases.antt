@@ -46,8 +46,8 @@ use Rattle.monitor.specs.Calls.{ageNumber}
 use Rattle.monitor.specs.Ask.{limitMost, limitFails, limitRefusal, Shows, askNumber, askOutput}
 use Rattle.runs.specs.Book.{Step}
 use Rattle.runs.specs.Runs.{bytesRun, stateAfter}
-use Rattle.runs.specs.Cases.{Question, asking, refusing, holding, knowing, saving, dating, forming, advancing, returning, Case, Comes, runOf, CaseComes, orderCases, cases, EachCase, Lent, LentComes, fractions, EachLent}
-use Rattle.runs.proofs.DecodedRuns.{numberOn, doneBy, next, stepsFrom, stateFrom, set-up-taken, number-on, steps-run, state-run, form-run, long-run, run-steps, run-state}
+use Rattle.runs.specs.Cases.{Question, asking, refusing, holding, knowing, saving, dating, forming, advancing, returning, settingUp, Case, Comes, runOf, CaseComes, orderCases, clockCases, limitCases, cases, EachCase, Lent, LentComes, fractions, EachLent}
+use Rattle.runs.proofs.DecodedRuns.{numberOn, doneBy, next, stepsFrom, stateFrom, set-up-number, set-up-taken, number-on, steps-run, state-run, form-run, long-run, run-steps, run-state}
 use Rattle.runs.proofs.Runs.{reached}
 use Rattle.runs.proofs.Demand3.{ask-answers}
 
@@ -94,6 +94,7 @@ meets st (dating identifier epoch) = eqb (getD (st .head .epochs) identifier 0) 
 meets st (forming sender terms p) = same (formed (st .head .own) sender terms) p
 meets st (advancing reading lo hi) = eqb (ageRefusal st reading) 0 && (eqb (slow (st .head) reading) lo && eqb (fast (st .head) reading) hi)
 meets st (returning q number) = eqb (numberOn st q) number
+meets st (settingUp u number) = eqb (setUpRefusal u) number
 
 unfoldable passes : Case → Bool
 passes c =
@@ -115,7 +116,7 @@ unfolding subset union has holds implies isTrue isNormal struck insert rising mi
     begun setUp moved made done setUpRefusal passesEnd ageRefusal tooMany receiptRefusal
     delivered deliveredAs deliveredNumber deliveredState
     cut common active leaves setsOf sets either leftBy exact answer
-    numberOn doneBy next stepsFrom stateFrom sameDatum sameTriple sameSaved sameAnswer meets passes cases orderCases
+    numberOn doneBy next stepsFrom stateFrom sameDatum sameTriple sameSaved sameAnswer meets passes cases orderCases clockCases limitCases
 each-passes = tt
 
 -- ---- what a test tells
@@ -188,6 +189,7 @@ module _ (s : List ℕ) (h : stateSize ≤ length s) (t : T (inForm s)) where
     eqb→eq (fast (headOf s) reading) hi (search (both-l, both-r) depth 9),
   )
   question-comes (returning q number) p = number-on s h t q ∙ eqb→eq (numberOn (stateOf s) q) number p
+  question-comes (settingUp u number) p = set-up-number s u h ∙ eqb→eq (setUpRefusal u) number p
 
 case-comes : (c : Case) → T (passes c) → (buffer : List ℕ) → stateSize ≤ length buffer → CaseComes c buffer
 unfolding passes

@@ -5,7 +5,7 @@ use mathlib.Core.Path.{_≡_}
 use mathlib.Core.List.{List, [], _∷_, _++_, reverse}
 use lib.Dec.{T, eqb}
 use lib.ListN.{length, getD, replicate}
-use Rattle.numbers.specs.Numbers.{bytesOf}
+use Rattle.numbers.specs.Numbers.{tab, bytesOf}
 use Rattle.predicates.specs.Lists.{all, In}
 use Rattle.predicates.specs.Predicates.{formed}
 use Rattle.message.specs.Write.{messageWords}
@@ -20,7 +20,7 @@ use Rattle.state.specs.Model.{Datum, datum, State}
 use Rattle.state.specs.Layout.{stateSize, stateBytes, headOf, storeOf}
 use Rattle.state.specs.Form.{stateOk}
 use Rattle.engine.specs.Ageing.{slow, fast}
-use Rattle.engine.specs.Calls.{Setup, setUp, clockOf}
+use Rattle.engine.specs.Calls.{Setup, setup, setUp, clockOf}
 use Rattle.asking.specs.declared.Answer.{Answer}
 use Rattle.asking.specs.declared.Answer.the-variants.{Contradicted, Open, Between}
 use Rattle.monitor.specs.Calls.{setUpNumber, ageNumber}
@@ -52,6 +52,8 @@ pub data Question : Type 0 where
   advancing : ℕ → ℕ → ℕ → Question
   -- a request returns the number
   returning : Request → ℕ → Question
+  -- a setting up returns the number
+  settingUp : Setup → ℕ → Question
 
 -- it is put after a setting up and requests
 pub record Case : Type 0 where
@@ -72,6 +74,7 @@ Comes s (dating identifier epoch) = getD (headOf s .epochs) identifier 0 ≡ epo
 Comes s (forming sender terms p) = formed (headOf s .own) sender terms ≡ p
 Comes s (advancing reading lo hi) = (ageNumber s reading ≡ 0) × (slow (headOf s) reading ≡ lo) × (fast (headOf s) reading ≡ hi)
 Comes s (returning q number) = requestNumber s q ≡ number
+Comes s (settingUp u number) = setUpNumber s u ≡ number
 
 -- the row as a run in a buffer
 abbrev pub runOf : (c : Case) (buffer : List ℕ) → setUpNumber buffer (c .setup) ≡ 0 → Run
@@ -177,6 +180,21 @@ heldOne = whole 0 10 (2 ^ 1 ∷ []) ∷ whole 3 20 (2 ^ 2 ∷ []) ∷ whole 0 9 
 abbrev pub heldOther : List Datum
 heldOther = whole 0 10 (2 ^ 1 ∷ []) ∷ whole 0 9 (2 ^ 3 ∷ []) ∷ whole 3 20 (2 ^ 2 ∷ []) ∷ []
 
+-- the first n senders, each without terms, all overlapping
+abbrev pub overlapping : ℕ → List Request
+overlapping n = tab n (λ sender. hear sender 0 10 [])
+
+-- senders 1 to 8, each apart from all others
+abbrev pub eightApart : List Request
+eightApart = tab 8 (λ i. hear (i + 1) (i * 10) (i * 10 + 1) [])
+
+-- three gateways give readings of clocks that agree; then the host counts all readings from a beginning that is 1,000 later
+abbrev pub started : List Request
+started = tick 1 0 10 [] (triple 2_000 2_000 1) 0 ∷ tick 2 0 10 [] (triple 2_000 2_000 1) 0 ∷ tick 3 0 10 [] (triple 2_000 2_000 1) 0 ∷ []
+
+abbrev pub begunAnew : List Request
+begunAnew = tick 1 0 10 [] (triple 1_010 1_010 1) 0 ∷ tick 2 0 10 [] (triple 1_010 1_010 1) 0 ∷ tick 3 0 10 [] (triple 1_010 1_010 1) 0 ∷ []
+
 unfoldable pub orderCases : List Case
 orderCases =
     given (steady 5) (mended 0 10 ∷ oneOrder) (holding heldOne)
@@ -188,11 +206,79 @@ orderCases =
     ∷ given (steady 5) (one 10 10 0 ∷ one 0 0 0 ∷ []) (asking 0 Contradicted)
     ∷ []
 
+-- document 02, W-201: what test (20) is made of
+unfoldable pub clockCases : List Case
+clockCases =
+    -- own drift 100 and the sender's 300: at the bound, and one past it
+    given (usual 5) (tick 1 0 10 [] (triple 0 0 0) 300 ∷ tick 1 0 10 [] (triple 2500 2501 0) 300 ∷ []) (knowing [])
+    ∷ given (usual 5) (tick 1 0 10 [] (triple 0 0 0) 300 ∷ tick 1 0 10 [] (triple 2499 2500 0) 300 ∷ []) (knowing ((2 ^ 1 ∷ []) ∷ []))
+    -- half widths of 1 and 3: at the bound, and one past it
+    ∷ given (steady 5) (one 0 0 1 ∷ one 100 104 3 ∷ []) (knowing [])
+    ∷ given (steady 5) (one 0 0 1 ∷ one 100 105 3 ∷ []) (knowing ((2 ^ 1 ∷ []) ∷ []))
+    -- the half width decides which is the largest
+    ∷ given (steady 5) (one 0 0 5 ∷ one 13 10 0 ∷ []) (saving 1 (three (triple 13 10 0) (triple 0 0 5) (triple 0 0 5)))
+    ∷ given (steady 5) (one 3 0 0 ∷ one 10 10 4 ∷ []) (saving 1 (three (triple 10 10 4) (triple 10 10 4) (triple 10 10 4)))
+    -- one of the three shows the violation alone: the previous one, that of the largest a − b + w, that of the largest b − a + w
+    ∷ given (steady 5) (one 0 0 10 ∷ one 10 10 0 ∷ []) (knowing [])
+    ∷ given (steady 5) (one 0 0 10 ∷ one 10 10 0 ∷ one 25 20 1 ∷ []) (knowing ((2 ^ 1 ∷ []) ∷ []))
+    ∷ given (steady 5) (one 4 0 0 ∷ one 10 9 3 ∷ []) (knowing [])
+    ∷ given (steady 5) (one 4 0 0 ∷ one 10 9 3 ∷ one 20 21 0 ∷ []) (knowing ((2 ^ 1 ∷ []) ∷ []))
+    ∷ given (steady 5) (one 0 10 0 ∷ one 20 20 10 ∷ []) (knowing [])
+    ∷ given (steady 5) (one 0 10 0 ∷ one 20 20 10 ∷ one 45 40 1 ∷ []) (knowing ((2 ^ 1 ∷ []) ∷ []))
+    -- three gateways whose readings are counted from a later beginning, all at once: each clock seems to have jumped
+    ∷ given (steady 5) (started ++ begunAnew) (knowing ((2 ^ 1 ∷ []) ∷ (2 ^ 2 ∷ []) ∷ (2 ^ 3 ∷ []) ∷ []))
+    ∷ given (steady 5) (started ++ begunAnew) (asking 0 Contradicted)
+    ∷ given (steady 5) (started ++ begunAnew) (asking 1 Contradicted)
+    -- a sender's clock that starts again at 0 is blamed, unless it comes back under a new epoch
+    ∷ given (steady 5) (one 1_000 1_000 0 ∷ one 0 1_010 0 ∷ []) (asking 0 Contradicted)
+    ∷ given (steady 5) (one 1_000 1_000 0 ∷ tickNamed (name 1 1 ∷ []) 1 0 10 [] (triple 0 1_010 0) 0 ∷ []) (asking 0 (Between 0 10))
+    ∷ []
+
+-- a limit of each kind, on both sides
+unfoldable pub limitCases : List Case
+limitCases =
+    -- "1 own name above 28"; "41 own epoch above 15"; "2 drift above 1,000"; "3 reading 2^58 or more (also in ageing)"
+    given (usual 5) [] (settingUp (setup 28 0 0 0) 0)
+    ∷ given (usual 5) [] (settingUp (setup 29 0 0 0) 1)
+    ∷ given (usual 5) [] (settingUp (setup 5 0 0 15) 0)
+    ∷ given (usual 5) [] (settingUp (setup 5 0 0 16) 41)
+    ∷ given (usual 5) [] (settingUp (setup 5 1_000 0 0) 0)
+    ∷ given (usual 5) [] (settingUp (setup 5 1_001 0 0) 2)
+    ∷ given (usual 5) [] (settingUp (setup 5 0 (2 ^ 58 - 1) 0) 0)
+    ∷ given (usual 5) [] (settingUp (setup 5 0 (2 ^ 58) 0) 3)
+    ∷ given (usual 5) [] (returning (ageing (2 ^ 58 - 1)) 0)
+    ∷ given (usual 5) [] (returning (ageing (2 ^ 58)) 3)
+    -- "sender above 28"
+    ∷ given (usual 5) [] (returning (hear 28 0 10 []) 0)
+    ∷ given (usual 5) [] (returning (hear 29 0 10 []) 12)
+    -- "40 a, b or w at 2^43 or more, or a drift above 1,000"
+    ∷ given (usual 5) [] (returning (tick 1 0 10 [] (triple (2 ^ 43 - 1) (2 ^ 43 - 1) (2 ^ 43 - 1)) 1_000) 0)
+    ∷ given (usual 5) [] (returning (tick 1 0 10 [] (triple 0 0 0) 1_001) 40)
+    ∷ given (usual 5) [] (returning (tick 1 0 10 [] (triple (2 ^ 43) 0 0) 0) 40)
+    ∷ given (usual 5) [] (returning (tick 1 0 10 [] (triple 0 (2 ^ 43) 0) 0) 40)
+    ∷ given (usual 5) [] (returning (tick 1 0 10 [] (triple 0 0 (2 ^ 43)) 0) 40)
+    -- "At most 16 data": the 16th from a sender that no held datum names is taken, the 17th is 32
+    ∷ given (usual 28) (overlapping 15) (returning (hear 15 0 10 []) 0)
+    ∷ given (usual 28) (overlapping 16) (returning (hear 16 0 10 []) 32)
+    -- "and 32 entries": eight data apart make 28; a ninth that is apart from four of them makes 32, one that is apart from five 33
+    ∷ given (usual 28) eightApart (returning (hear 9 40 80 []) 0)
+    ∷ given (usual 28) eightApart (returning (hear 9 50 80 []) 32)
+    -- "a datum has 1 to 8 terms": with the sender eight, and nine; nine in the message
+    ∷ given (usual 5) [] (returning (hear 6 0 10 eightTerms) 0)
+    ∷ given (usual 5) [] (returning (hear 2 0 10 eightTerms) 31)
+    ∷ given (usual 5) [] (returning (hear 6 0 10 (eightTerms ++ (2 ^ 14 ∷ []))) 12)
+    -- "30 an end would pass 2^58 − 1"
+    ∷ given (steady 5) [] (returning (delayed 0 1 0 (2 ^ 58 - 2)) 0)
+    ∷ given (steady 5) [] (returning (delayed 0 1 0 (2 ^ 58 - 1)) 30)
+    ∷ []
+
 -- "name n being the bit of value 2^n": the predicate 1+3 is `2 ^ 1 ∷ 2 ^ 3 ∷ []`. "Under 1" is sender 1 without terms, "under 1+3" with the term {3}
 unfoldable pub cases : List Case
 cases =
     -- those of W-206, which the example in `specs.Example` needs by themselves, and then all others
     orderCases
+    ++ clockCases
+    ++ limitCases
     -- "no data: open for limits 0 and 4. Limit 5: 22."
     ++ given (usual 5) [] (asking 0 Open)
     ∷ given (usual 5) [] (asking 4 Open)
