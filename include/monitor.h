@@ -8,6 +8,10 @@
  *  The calls are reentrant and keep nothing between them: the archive has no data that is written, takes no memory but the stack and what is
  *  lent, and calls memcpy and memset alone. So threads may call at once, as long as none writes what another is lent.
  *
+ *  Nobody writes into a state but the calls. MONITOR_STATE_FORM tells that bytes cannot be a state, and no more: it is no check sum, since a flipped
+ *  bit of a stored end can leave a state in form; and a buffer of zeros is in form too, the state of monitor 0 without drift, so a program that
+ *  forgets monitor_set_up is not told. A program that stores a state keeps a sum of its own beside it.
+ *
  *  Readings are whole microseconds, and so are the ends in messages and answers; a state keeps each end of a held interval to the millionth of one. A
  *  monitor's name is its identifier, 0 to MONITOR_GREATEST_NAME, and its epoch, 0 to MONITOR_GREATEST_EPOCH: one that was mended comes back under the
  *  next epoch, and is another name. A state knows of each identifier the greatest epoch that it has heard. Numbers in bytes are little-endian. A radio
@@ -71,7 +75,9 @@ extern "C" {
 #define MONITOR_GREATEST_READING ((UINT64_C(1) << 58) - 1)
 #define MONITOR_GREATEST_END ((UINT64_C(1) << 58) - 1)
 
-/** The greatest clock reading and half width that monitor_receive_with_readings takes. */
+/** The greatest clock reading and half width that monitor_receive_with_readings takes: 101 days of microseconds. Readings have one beginning as long
+ *  as a state lives. After this one receive without readings, or set up afresh: counted from a later beginning on a state that goes on, every
+ *  honest clock would seem to have jumped. */
 #define MONITOR_GREATEST_CLOCK ((UINT64_C(1) << 43) - 1)
 
 /** The count that monitor_fewest writes when more than MONITOR_GREATEST_LIMIT monitors must have failed. */
@@ -79,11 +85,14 @@ extern "C" {
 
 /** The stack that each call takes, in bytes, its return address included: a little above the greatest that tests/c/stack.c measures, on many
  *  states and on states made and climbed for depth. Measured and not proved, so leave some room. Not counted is what the loader takes if it
- *  looks memcpy or memset up at the first call (link with -z now, or statically, and it does not). */
+ *  looks memcpy or memset up at the first call (link with -z now, or statically, and it does not).
+ *  It is counted to the lowest byte that a call writes. By the calling convention the 128 bytes below the stack pointer (the red zone) belong to the
+ *  running function: an interrupt on the same stack must leave them. On a signal stack the kernel's frame comes first, up to 3.4 kB with wide
+ *  registers (getauxval(AT_MINSIGSTKSZ) tells): 10,240 bytes do not suffice there for receiving, and 16,384 suffice for every call. */
 #define MONITOR_STACK_SET_UP 64
 #define MONITOR_STACK_AGE 320
-#define MONITOR_STACK_RECEIVE 9344
-#define MONITOR_STACK_RECEIVE_WITH_READINGS 9408
+#define MONITOR_STACK_RECEIVE 9472
+#define MONITOR_STACK_RECEIVE_WITH_READINGS 9536
 #define MONITOR_STACK_WRITE 640
 #define MONITOR_STACK_ASK 7552
 #define MONITOR_STACK_FEWEST 6144
@@ -120,17 +129,19 @@ enum monitor_refusal {
     MONITOR_LIMIT = 22,         /**< limit above MONITOR_GREATEST_LIMIT */
     MONITOR_POSITION = 23,      /**< no held datum there */
     MONITOR_BUFFER = 24,        /**< a lent buffer is too short */
-    MONITOR_STATE_FORM = 25,    /**< state out of form */
+    MONITOR_STATE_FORM = 25,    /**< state out of form: the bytes cannot be a state; in form may be damaged, or never set up */
     /* caused by a filling site */
     MONITOR_END = 30,           /**< an end would pass MONITOR_GREATEST_END, be it by a fraction */
     MONITOR_TERM_COUNT = 31,    /**< more than MONITOR_MOST_TERMS terms in the new predicate's normal form, stored or not */
     MONITOR_TOO_MANY = 32,      /**< too many data or entries */
     /* caused by the host program, with clock readings */
-    MONITOR_READINGS = 40,      /**< a clock reading or half width above MONITOR_GREATEST_CLOCK, or a drift above MONITOR_GREATEST_DRIFT */
+    MONITOR_READINGS = 40,      /**< a clock reading or half width above MONITOR_GREATEST_CLOCK (receive without readings, or set up afresh), or a
+                                 *   drift above MONITOR_GREATEST_DRIFT */
     /* caused by the installer, with epochs */
     MONITOR_OWN_EPOCH = 41,     /**< own epoch above MONITOR_GREATEST_EPOCH */
     /* caused by the sender of a message, with epochs */
-    MONITOR_EPOCHS = 42         /**< epoch words missing, unordered, too many or ill formed: they are one for each identifier, rising */
+    MONITOR_EPOCHS = 42         /**< epoch words missing, unordered, too many or ill formed: they are one for the sender and for each identifier in
+                                 *   the terms, rising */
 };
 
 /** Sets a monitor up: it holds nothing, and knows every epoch but its own as 0.
@@ -163,7 +174,8 @@ uint32_t monitor_age(uint8_t *state, size_t state_len, uint64_t reading);
  *  The message's epochs are heard first, that of the own identifier aside. One above the known one is the known one from then on, and the old name
  *  is withdrawn: it counts as failed in all held data and entries, those that are true by that go, the others are put in normal form, and what is
  *  saved of that identifier's clock goes. A name whose epoch is below the known one counts as failed in the message. Beyond what is heard, a
- *  message whose predicate is true is taken and changes nothing. What is saved of the sender's clock stays as it is, unless its epoch has risen.
+ *  message whose predicate is true changes nothing where it is taken; it can still be refused, with 30 for its ends too. What is saved of the
+ *  sender's clock stays as it is, unless its epoch has risen.
  *  @param state        the monitor's bytes; those beyond MONITOR_STATE_BYTES stay as they are
  *  @param state_len    how many bytes are lent
  *  @param least        the channel's least delay, by the own clock
@@ -179,9 +191,11 @@ uint32_t monitor_receive(uint8_t *state, size_t state_len, uint64_t least, uint6
  *  that are saved of this sender: the previous ones, and those with the largest a - b + w and b - a + w, the earlier on a tie, where a is the
  *  sender's reading, b the own one and w the half width. With a1, b1, w1 saved and a2, b2, w2 new, the test is violated if
  *  ||b2 - b1| - (a2 - a1)| is above |a2 - a1| times the sum of both drifts, plus w1 + w2. A violation makes the sender's name an entry, that is,
- *  it is known from then on that this monitor has failed, and held data that this explains go. The new readings are saved, violating ones too;
+ *  it is known from then on, until its epoch rises, that this monitor has failed; and held data that any entry explains go, not only those that this
+ *  one does. The new readings are saved, violating ones too;
  *  the first of a sender are saved without a test, and so are the first under a risen epoch. All this is done for a message whose predicate is true
- *  too, but not for one whose sender's epoch is below the known one: its readings are neither tested nor saved.
+ *  too, but not for one whose sender's epoch is below the known one: its readings are neither tested nor saved. A sender whose clock starts again at
+ *  0 is blamed, unless it comes back under a new epoch.
  *  @param state           the monitor's bytes; those beyond MONITOR_STATE_BYTES stay as they are
  *  @param state_len       how many bytes are lent
  *  @param least           the channel's least delay, by the own clock

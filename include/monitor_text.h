@@ -59,11 +59,12 @@ static inline const char *monitor_text(uint32_t number)
     case MONITOR_LIMIT: return "The limit is above 4.";
     case MONITOR_POSITION: return "No datum is held at that position.";
     case MONITOR_BUFFER: return "A lent buffer is too short.";
-    case MONITOR_STATE_FORM: return "The state is out of form: it is damaged, or was never set up.";
+    case MONITOR_STATE_FORM: return "The state is out of form: it is damaged, or no state.";
     case MONITOR_END: return "An end would pass 2^58 - 1.";
     case MONITOR_TERM_COUNT: return "The new predicate has more than 8 terms in normal form.";
     case MONITOR_TOO_MANY: return "There would be more than 16 data or more than 32 entries.";
-    case MONITOR_READINGS: return "A clock reading or the half width is 2^43 or more, or the sender's drift is above 1,000 parts per million.";
+    case MONITOR_READINGS: return "A clock reading or the half width is 2^43 or more (receive without readings, or set up afresh), "
+                                  "or the sender's drift is above 1,000 parts per million.";
     case MONITOR_OWN_EPOCH: return "The own epoch is above 15.";
     case MONITOR_EPOCHS: return "The epoch words are not one for the sender and each identifier in the terms, rising and well formed.";
     default: return "No call returns this number.";
