@@ -18,7 +18,8 @@ use Rattle.state.specs.Form.{inForm}
 use Rattle.predicates.proofs.IndexLaws.{below-out}
 use Rattle.state.proofs.StateLaws.{state-out, form-ok}
 use Rattle.engine.specs.Ageing.{leastAdvance, greatestAdvance, slow, fast, widened, aged}
-use Rattle.engine.specs.Refusals.{passesEnd, ageRefusal}
+use Rattle.engine.specs.Refusals.{ageRefusal}
+use Rattle.engine.proofs.EndLaws.{ages-right}
 use Rattle.engine.specs.code.Ageing.{staysBelow}
 
 -- ---- the drift
@@ -78,8 +79,8 @@ or-not true b = refl
 or-not false b = refl
 
 -- "30 an end would pass 2^58 − 1"
-passes-stays : (lo hi : ℕ) (k : Store) → passesEnd (aged lo hi k) ≡ not (staysBelow hi k)
-unfolding passesEnd aged widened staysBelow
+passes-stays : (lo hi : ℕ) (k : Store) → any (λ d. leb endLimit (d .right)) (aged lo hi k .held) ≡ not (staysBelow hi k)
+unfolding aged widened staysBelow
 passes-stays lo hi k = go (k .held)
   where
     go : (ds : List Datum) → any (λ d. leb endLimit (d .right)) (map (widened lo hi) ds) ≡ not (all (λ d. ltb (d .right + hi) endLimit) ds)
@@ -116,12 +117,12 @@ module _ (s : List ℕ) (reading last drift : ℕ) (at-last : last ≡ num readi
   aged-code lo hi k e f = rw (e, f, slow-code, fast-code)
 
   -- the last of the tests decides
-  pub age-tests : (hi : ℕ) (b : Bool) → hi ≡ greatestAdvance drift (reading - last) → reading < readingLimit → last ≤ reading → b ≡ staysBelow hi (storeOf s)
+  pub age-tests : T (inForm s) → (hi : ℕ) (b : Bool) → hi ≡ greatestAdvance drift (reading - last) → reading < readingLimit → last ≤ reading → b ≡ staysBelow hi (storeOf s)
       → ageRefusal (stateOf s) reading ≡ cond b 0 30
   unfolding ageRefusal stateOf headOf
-  age-tests hi b f h k e =
+  age-tests t hi b f h k e =
       let later : ltb reading (num readingAt 8 s) ≡ false = rw at-last at (le-ltb reading last k) in
-      rw (lt-leb readingLimit reading h, later, passes-stays (slow (headOf s) reading) (fast (headOf s) reading) (storeOf s), ← fast-code, ← f, ← e)
+      rw (lt-leb readingLimit reading h, later, ages-right (stateOf s) reading (form-ok s t), passes-stays (slow (headOf s) reading) (fast (headOf s) reading) (storeOf s), ← fast-code, ← f, ← e)
       (turned b)
     where
       turned : (a : Bool) → _≡_ {A = ℕ} (cond (not a) 30 0) (cond a 0 30)

@@ -26,9 +26,9 @@ use Rattle.engine.specs.Ageing.{leastAdvance, greatestAdvance, slow, fas
 use Rattle.engine.specs.Receiving.{Delivery, grown}
 use Rattle.engine.specs.Hearing.{risen, late, hearing, heeded, arrived}
 use Rattle.engine.specs.Calls.{Setup, begun, setUp, age, receive, violated, moved, made, done}
-use Rattle.engine.specs.Refusals.{setUpRefusal, passesEnd, ageRefusal, receiptRefusal}
+use Rattle.engine.specs.Refusals.{setUpRefusal, anEndPasses, passesEnd, ageRefusal, receiptRefusal}
 use Rattle.steps.specs.Steps.{judged, tooMany}
-use Rattle.steps.specs.Withdrawn.{withdrawnDatum, withdrawn}
+use Rattle.steps.specs.Withdrawn.{withdrawn}
 use Rattle.state.proofs.OkLaws.{ok-datum-out, ok-datum-in}
 use Rattle.steps.proofs.ReceiveLaws.{formed-fit, received-ok}
 use Rattle.steps.proofs.WithdrawnLaws.{withdraw-fit, withdrawn-ok}
@@ -72,14 +72,15 @@ slow-fast h reading = let passed = reading - h .reading in least-greatest (h .dr
 
 -- right data that are widened, none beyond the last end
 widened-ok : (own lo hi : ℕ) (ds : List Datum) → lo ≤ hi → T (all (datumOk own) ds)
-    → T (not (any (λ d. leb endLimit (d .right)) (map (widened lo hi) ds))) → T (all (datumOk own) (map (widened lo hi) ds))
+    → T (not (any anEndPasses (map (widened lo hi) ds))) → T (all (datumOk own) (map (widened lo hi) ds))
 unfolding widened
 widened-ok own lo hi [] l h k = tt
 widened-ok own lo hi (d ∷ ds) l h k =
     let o = ok-datum-out own d (both-l (datumOk own d) (all (datumOk own) ds) h) in
-    let low = neither (leb endLimit (d .right + hi)) (any (λ e. leb endLimit (e .right)) (map (widened lo hi) ds)) k in
+    let low = neither (anEndPasses (widened lo hi d)) (any anEndPasses (map (widened lo hi) ds)) k in
+    let below = neither (leb endLimit (d .left + lo)) (leb endLimit (d .right + hi)) (low .0) .1 in
     both (datumOk own (widened lo hi d)) (all (datumOk own) (map (widened lo hi) ds))
-    (ok-datum-in own (widened lo hi d) record { ends = omega arith; below = nleb→lt endLimit (d .right + hi) (low .0); fit = o .fit })
+    (ok-datum-in own (widened lo hi d) record { ends = omega arith; below = nleb→lt endLimit (d .right + hi) below; fit = o .fit })
     (widened-ok own lo hi ds l (both-r (datumOk own d) (all (datumOk own) ds) h) (low .1))
 
 -- "Entries stay."
@@ -100,7 +101,7 @@ age-ok st reading h e =
     let hi = fast (st .head) reading in
     let a = refuse-none (leb readingLimit reading) 3 _ (omega arith) e in
     let b = refuse-none (ltb reading (st .head .reading)) 20 _ (omega arith) (a .1) in
-    let c = refuse-none (any (λ d. leb endLimit (d .right)) (aged lo hi (st .store) .held)) 30 _ (omega arith) (b .1) in
+    let c = refuse-none (any anEndPasses (aged lo hi (st .store) .held)) 30 _ (omega arith) (b .1) in
     let now = lt→ltb reading readingLimit (nleb→lt readingLimit reading (a .0)) in
     let old : T (all (datumOk own) ds) = search (both-l, both-r) depth 9 in
     let held = widened-ok own lo hi ds (slow-fast (st .head) reading) old (rw (held-widened lo hi (st .store)) at (c .0)) in
@@ -132,13 +133,13 @@ receipt-passed st g e =
     let p = arrived (st .head) g .terms in
     let k = made (st .head) (st .store) (receive g) in
     let a = refuse-none (eqb (g .sender) own) 18 _ (omega arith) e in
-    let b = refuse-none (leb endLimit (n .right)) 30 _ (omega arith) (a .1) in
+    let b = refuse-none (anEndPasses n) 30 _ (omega arith) (a .1) in
     let c = refuse-none (ltb 8 (length p)) 31 _ (omega arith) (b .1) in
     let d = refuse-none (tooMany k) 32 _ (omega arith) (c .1) in
     let few = neither (ltb 16 (length (k .held))) (ltb 32 (length (k .entries))) (d .0) in (
       record {
         other = λ s. T-not (eqb (g .sender) own) (a .0) (rw s (eqb-refl own));
-        below = nleb→lt endLimit (n .right) (b .0);
+        below = nleb→lt endLimit (n .right) (neither (leb endLimit (n .left)) (leb endLimit (n .right)) (b .0) .1);
         few = nltb→le 8 (length p) (c .0);
       },
       both (leb (length (k .held)) 16) (leb (length (k .entries)) 32) (le→leb (length (k .held)) 16 (nltb→le 16 (length (k .held)) (few .0)))

@@ -1,7 +1,7 @@
--- "30 an end would pass 2^58 − 1": testing the right ends alone is testing both ends of every datum.
+-- "30 an end would pass 2^58 − 1": testing both ends of every datum is testing the right ends alone, as the code does.
 -- The idea: an ageing and a receipt leave left at most right, so a left end never passes where the right one does not. No contract cites this file.
 -- Assumes nothing.
-use Prim.Native.Nat.{ℕ, _≤_, _<_}
+use Prim.Native.Nat.{ℕ, _+_, _≤_, _<_}
 use mathlib.Core.Path.{_≡_, refl, ap, _∙_}
 use mathlib.Core.Bool.{Bool, true, false, _||_}
 use mathlib.Core.List.{List, [], _∷_, map}
@@ -19,13 +19,13 @@ use Rattle.engine.specs.Receiving.{Delivery, grown}
 use Rattle.engine.specs.Refusals.{anEndPasses, passesEnd, agesPast, growsPast}
 use Rattle.engine.proofs.CallLaws.{slow-fast, Heard, grown-ends}
 
-pub right-decides : (d : Datum) → d .left ≤ d .right → leb endLimit (d .right) ≡ anEndPasses d
+pub right-decides : (d : Datum) → d .left ≤ d .right → anEndPasses d ≡ leb endLimit (d .right)
 right-decides d h = go (leb endLimit (d .right)) refl
   where
-    go : (b : Bool) → leb endLimit (d .right) ≡ b → b ≡ leb endLimit (d .left) || b
+    go : (b : Bool) → leb endLimit (d .right) ≡ b → leb endLimit (d .left) || b ≡ b
     go true e = or-true (leb endLimit (d .left))
       where
-        or-true : (a : Bool) → true ≡ a || true
+        or-true : (a : Bool) → a || true ≡ true
         or-true true = refl
         or-true false = refl
     go false e =
@@ -36,23 +36,23 @@ right-decides d h = go (leb endLimit (d .right)) refl
 
 -- data that are widened
 widened-decides : (own lo hi : ℕ) (ds : List Datum) → lo ≤ hi → T (all (datumOk own) ds)
-    → any (λ d. leb endLimit (d .right)) (map (widened lo hi) ds) ≡ any anEndPasses (map (widened lo hi) ds)
+    → any anEndPasses (map (widened lo hi) ds) ≡ any (λ d. leb endLimit (d .right)) (map (widened lo hi) ds)
 unfolding widened
 widened-decides own lo hi [] l t = refl
 widened-decides own lo hi (d ∷ ds) l t =
     let o = ok-datum-out own d (both-l (datumOk own d) (all (datumOk own) ds) t) in
-    ap (λ (b : Bool). b || any (λ e. leb endLimit (e .right)) (map (widened lo hi) ds)) (right-decides (widened lo hi d) (omega arith))
-    ∙ ap (λ (b : Bool). anEndPasses (widened lo hi d) || b) (widened-decides own lo hi ds l (both-r (datumOk own d) (all (datumOk own) ds) t))
+    ap (λ (b : Bool). b || any anEndPasses (map (widened lo hi) ds)) (right-decides (widened lo hi d) (omega arith))
+    ∙ ap (λ (b : Bool). leb endLimit (d .right + hi) || b) (widened-decides own lo hi ds l (both-r (datumOk own d) (all (datumOk own) ds) t))
 
 -- of a state in form
-pub passes-both : (st : State) (reading : ℕ) → T (stateOk st)
-    → agesPast st reading ≡ any anEndPasses (aged (slow (st .head) reading) (fast (st .head) reading) (st .store) .held)
+pub ages-right : (st : State) (reading : ℕ) → T (stateOk st)
+    → agesPast st reading ≡ any (λ d. leb endLimit (d .right)) (aged (slow (st .head) reading) (fast (st .head) reading) (st .store) .held)
 unfolding passesEnd aged
-passes-both st reading t =
+ages-right st reading t =
     widened-decides (st .head .own) (slow (st .head) reading) (fast (st .head) reading) (st .store .held) (slow-fast (st .head) reading)
     (state-out st t .held)
 
 -- ---- receiving: a message that was read, with delays that fit
 
-pub grown-both : (st : State) (g : Delivery) → Heard g → growsPast st g ≡ anEndPasses (grown (st .head) g)
-grown-both st g h = right-decides (grown (st .head) g) (grown-ends (st .head) g h)
+pub grows-right : (st : State) (g : Delivery) → Heard g → growsPast st g ≡ leb endLimit (grown (st .head) g .right)
+grows-right st g h = right-decides (grown (st .head) g) (grown-ends (st .head) g h)

@@ -1,7 +1,7 @@
 -- Two taken calls that change nothing: an ageing to the last reading, and a receipt whose predicate is true.
 -- The idea: no time has passed, so both advances are 0, and every end of a right state fits as it did; a predicate that is true has the empty term
 -- alone in normal form, and the store stays. No contract cites this file. Assumes nothing.
-use Prim.Native.Nat.{ℕ, _≤_}
+use Prim.Native.Nat.{ℕ, _≤_, _<_}
 use mathlib.Core.Path.{_≡_, refl}
 use mathlib.Core.Logic.{⊎-elim}
 use mathlib.Core.Bool.{false, not}
@@ -9,7 +9,7 @@ use mathlib.Core.List.{List, [], _∷_, map}
 use native.Mathlib.Nat.{add-zero, zero-mul, sub-self}
 use native.Mathlib.Omega.{arith}
 use borrow.Author.Tests.{lt-leb, le-ltb}
-use lib.Dec.{T, T-not, eqb, eqb→eq, leb, ltb, ltb→lt}
+use lib.Dec.{T, T-not, eqb, eqb→eq, ltb, ltb→lt}
 use lib.ListN.{length}
 use Rattle.names.specs.Sets.{subset}
 use Rattle.names.proofs.SetLaws.{empty-subset}
@@ -25,13 +25,13 @@ use Rattle.state.proofs.OkLaws.{ok-datum-out}
 use Rattle.state.proofs.StateLaws.{state-out}
 use Rattle.clocks.specs.declared.Readings.the-variants.{Without}
 use Rattle.steps.specs.Steps.{judged, received, tooMany}
-use Rattle.steps.specs.Withdrawn.{withdrawnDatum, withdrawn}
+use Rattle.steps.specs.Withdrawn.{withdrawn}
 use Rattle.steps.proofs.WithdrawnLaws.{withdrawn-none}
 use Rattle.engine.specs.Ageing.{leastAdvance, greatestAdvance, slow, fast, widened, aged}
 use Rattle.engine.specs.Receiving.{Delivery}
 use Rattle.engine.specs.Hearing.{spokenBy, risen, late, hearing, heeded, arrived}
 use Rattle.engine.specs.Calls.{age, receive, clockOf, violated, moved, made, done}
-use Rattle.engine.specs.Refusals.{passesEnd, ageRefusal, fromSelf, growsPast, receiptRefusal}
+use Rattle.engine.specs.Refusals.{anEndPasses, passesEnd, ageRefusal, fromSelf, growsPast, receiptRefusal}
 use Rattle.engine.proofs.WatchLaws.{watched-none, violated-none}
 use Rattle.engine.proofs.HearingLaws.{heeded-none, quiet-risen, quiet-hearing}
 
@@ -54,11 +54,12 @@ aged-none : (k : Store) → aged 0 0 k ≡ k
 unfolding aged
 aged-none k = rw (widened-none (k .held))
 
-right-below : (own : ℕ) (ds : List Datum) → T (all (datumOk own) ds) → any (λ d. leb endLimit (d .right)) ds ≡ false
-right-below own [] t = refl
-right-below own (d ∷ ds) t =
+ends-below : (own : ℕ) (ds : List Datum) → T (all (datumOk own) ds) → any anEndPasses ds ≡ false
+ends-below own [] t = refl
+ends-below own (d ∷ ds) t =
     let o = ok-datum-out own d (both-l (datumOk own d) (all (datumOk own) ds) t) in
-    rw (lt-leb endLimit (d .right) (o .below)) (right-below own ds (both-r (datumOk own d) (all (datumOk own) ds) t))
+    let left : d .left < endLimit = omega (arith, o .ends, o .below) in
+    rw (lt-leb endLimit (d .left) left, lt-leb endLimit (d .right) (o .below)) (ends-below own ds (both-r (datumOk own d) (all (datumOk own) ds) t))
 
 module _ (st : State) (t : T (stateOk st)) where
   pub age-same : (ageRefusal st (st .head .reading) ≡ 0) × (done st (age (st .head .reading)) ≡ st)
@@ -72,7 +73,7 @@ module _ (st : State) (t : T (stateOk st)) where
           slow-none (st .head),
           fast-none (st .head),
           aged-none (st .store),
-          right-below (st .head .own) (st .store .held) (o .held),
+          ends-below (st .head .own) (st .store .held) (o .held),
         ),
         rw (slow-none (st .head), fast-none (st .head), aged-none (st .store)),
       )

@@ -46,13 +46,14 @@ setUpRefusal u =
 abbrev pub goesBack : Head → ℕ → Bool
 goesBack h reading = ltb reading (h .reading)
 
--- "30 an end would pass 2^58 − 1": one of the datum's two ends, "with its fraction" (document 02, W-205), lies beyond it
+-- "30 an end would pass 2^58 − 1": one of the datum's two ends, "with its fraction" (document 02, W-205), lies beyond it. Where left is at most right,
+-- the right end decides, and the code tests no other (`ages-right` and `grows-right` of `proofs.EndLaws`)
 abbrev pub anEndPasses : Datum → Bool
 anEndPasses d = leb endLimit (d .left) || leb endLimit (d .right)
 
--- the same, where left is at most right: the right end decides (`passes-both` and `grown-both` of `proofs.EndLaws`)
+-- of a held datum
 unfoldable pub passesEnd : Store → Bool
-passesEnd k = any (λ d. leb endLimit (d .right)) (k .held)
+passesEnd k = any anEndPasses (k .held)
 
 -- an ageing to the reading would pass it
 abbrev pub agesPast : State → ℕ → Bool
@@ -81,7 +82,7 @@ fromSelf st g = eqb (g .sender) (st .head .own)
 
 -- 30, of the grown interval
 abbrev pub growsPast : State → Delivery → Bool
-growsPast st g = leb endLimit (grown (st .head) g .right)
+growsPast st g = anEndPasses (grown (st .head) g)
 
 -- "31 more than 8 terms in the new predicate's normal form, stored or not", once old names count as failed
 abbrev pub termsFail : State → Delivery → Bool

@@ -46,6 +46,8 @@ use Rattle.entries.specs.Entries.{learn}
 use Rattle.steps.proofs.BlameLaws.{judged-violated, blamed-explains, explained-settled}
 use Rattle.engine.specs.code.Hearing.{heardHead}
 use Rattle.engine.specs.Refusals.{receiptRefusal}
+use Rattle.engine.proofs.EndLaws.{grows-right}
+use Rattle.engine.proofs.CallLaws.{Heard}
 
 -- ---- the row
 
@@ -139,21 +141,22 @@ module _ (s : List ℕ) (g : Delivery) where
   unfolding receiptRefusal
   receipt-own e = rw (eq-eqb _ _ e)
 
-  module _ (other : g .sender ≡ stateOf s .head .own → ⊥) where
+  -- of 30 the right end decides
+  module _ (other : g .sender ≡ stateOf s .head .own → ⊥) (h : Heard g) where
     pub receipt-end : endLimit ≤ grown (stateOf s .head) g .right → receiptRefusal (stateOf s) g ≡ 30
     unfolding receiptRefusal
-    receipt-end h = rw (ne-eqb _ _ other, le-leb _ _ h)
+    receipt-end far = rw (ne-eqb _ _ other, grows-right (stateOf s) g h, le-leb _ _ far)
 
     module _ (below : grown (stateOf s .head) g .right < endLimit) where
       pub receipt-terms : datumTerms < length (arrived (stateOf s .head) g .terms) → receiptRefusal (stateOf s) g ≡ 31
       unfolding receiptRefusal
-      receipt-terms h = rw (ne-eqb _ _ other, lt-leb _ _ below, lt-ltb _ _ h)
+      receipt-terms many = rw (ne-eqb _ _ other, grows-right (stateOf s) g h, lt-leb _ _ below, lt-ltb _ _ many)
 
       -- the last test: too many, or taken
       pub receipt-counts : length (arrived (stateOf s .head) g .terms) ≤ datumTerms
           → receiptRefusal (stateOf s) g ≡ cond (tooMany (made (headOf s) (storeOf s) (receive g))) 32 0
       unfolding receiptRefusal stateOf
-      receipt-counts h = rw (ne-eqb _ _ other, lt-leb _ _ below, le-ltb _ _ h)
+      receipt-counts few = rw (ne-eqb _ _ other, grows-right (stateOf s) g h, lt-leb _ _ below, le-ltb _ _ few)
 
 -- the datum with the grown ends, told of the predicate in the row
 pub datum-arrived : (s : List ℕ) (g : Delivery) (left right : ℕ) (p : List ℕ) → left ≡ g .left * million + leastAdvance (headOf s .drift) (g .least)

@@ -1,13 +1,11 @@
 -- Laws of a datum taken (`specs.code.Taken`): a true one without a blamed name leaves all as it is, any other takes the four steps.
 -- No contract cites this file. Assumes nothing.
 use Prim.Native.Nat.{ℕ}
-use mathlib.Core.Path.{_≡_, refl, sym, ap, _∙_}
-use mathlib.Core.Bool.{Bool, true, false, _&&_, cond}
-use mathlib.Core.List.{List}
+use mathlib.Core.Path.{_≡_, sym, ap, _∙_}
+use mathlib.Core.Bool.{Bool, _&&_}
 use borrow.Author.Tests.{eq-eqb, ne-eqb}
 use lib.Bits.{bitOr}
-use lib.Dec.{T, eqb, eqb→eq}
-use lib.ListN.{getD}
+use lib.Dec.{eqb, eqb→eq}
 use Rattle.predicates.specs.Predicates.{isTrue}
 use Rattle.predicates.proofs.ListLaws.{both-l, both-r, true-T}
 use Rattle.predicates.proofs.BitLaws.{or-zero}

@@ -27,7 +27,7 @@ use Rattle.engine.specs.Ageing.{slow, fast, widened, aged}
 use Rattle.engine.specs.Receiving.{Delivery, grown}
 use Rattle.engine.specs.Hearing.{spokenBy, risen, late, hearing, heeded, arrived}
 use Rattle.steps.specs.Steps.{received, blamed, swept, judged}
-use Rattle.steps.specs.Withdrawn.{withdrawnDatum, withdrawn}
+use Rattle.steps.specs.Withdrawn.{withdrawn}
 use Rattle.steps.proofs.BlameLaws.{judged-violated, received-swept}
 use Rattle.engine.specs.Calls.{Call, age, receive, clockOf, violated, moved, made}
 use Rattle.engine.proofs.CallLaws.{slow-fast, Heard, grown-ends, arrived-single}

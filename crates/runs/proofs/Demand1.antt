@@ -14,7 +14,7 @@ use lib.ListN.{length, getD, drop}
 use Rattle.numbers.specs.Numbers.{bytes, bytesOf, wordsOf, put, num}
 use Rattle.predicates.specs.Predicates.{isNormal}
 use Rattle.predicates.specs.Lists.{all, In}
-use Rattle.predicates.proofs.ListLaws.{T-false, cond-ind, both-l, both-r}
+use Rattle.predicates.proofs.ListLaws.{cond-ind, both-l, both-r}
 use Rattle.ends.specs.Ends.{down, up}
 use Rattle.message.specs.Words.{payload, masks, endsLimit}
 use Rattle.message.specs.Read.{senderOf, countOf, headWordFits, isEnds, opens, start, span, pair, middle, kindsFit, checkFits, withSpan}
@@ -38,11 +38,9 @@ use Rattle.state.specs.Form.{inForm}
 use Rattle.state.proofs.PutLaws.{drop-put}
 use Rattle.state.proofs.LentLaws.{after-refused, length-after, refuse-none, lent-passed}
 use Rattle.state.proofs.StateLaws.{length-state, form-ok}
-use Rattle.engine.specs.Refusals.{setUpRefusal, ageRefusal, receiptRefusal, delaysFail, fromSelf, termsFail, overfills}
+use Rattle.engine.specs.Refusals.{setUpRefusal, ageRefusal, receiptRefusal, delaysFail}
 use Rattle.engine.specs.Calls.{setUp, age, done}
-use Rattle.engine.specs.Receiving.{Delivery}
-use Rattle.engine.proofs.CallLaws.{set-up-ok, age-ok, Heard}
-use Rattle.engine.proofs.EndLaws.{passes-both, grown-both}
+use Rattle.engine.proofs.CallLaws.{set-up-ok, age-ok}
 use Rattle.asking.specs.declared.Answer.{Answer}
 use Rattle.asking.specs.declared.Answer.the-variants.{Contradicted, Open, Between}
 use Rattle.asking.specs.declared.Fewest.{Fewest}
@@ -51,12 +49,12 @@ use Rattle.asking.specs.Asking.{answer, answerNumbers}
 use Rattle.asking.specs.Fewest.{fewest, fewestNumbers}
 use Rattle.monitor.specs.Messages.{readBytes, answered, readingBytes, readNumber, readOutput, rewriteNumber, rewriteOutput, wordsIn, rewrittenBytes}
 use Rattle.monitor.specs.Calls.{setUpNumber, ageNumber, writeNumber, writtenWords, writtenBytes, setUpState, ageState, writeOutput}
-use Rattle.monitor.specs.Receive.{Receipt, receiptOf, receiptWith, brings, delivered, deliveredAs, deliveredNumber, receiveNumber, deliveredState, receiptNumber}
+use Rattle.monitor.specs.Receive.{Receipt, receiptOf, receiptWith, delivered, deliveredAs, deliveredNumber, receiveNumber, deliveredState, receiptNumber}
 use Rattle.monitor.specs.Receive.{receiveState}
 use Rattle.monitor.specs.Ask.{askNumber, fewestNumber, wide, answerSize, fewestSize, askedBytes, askOutput, fewestBytes, fewestOutput}
-use Rattle.monitor.proofs.MessageCalls.{delays-fit, read-words-in, words-in-taken, length-rewritten-bytes}
+use Rattle.monitor.proofs.MessageCalls.{read-words-in, words-in-taken, length-rewritten-bytes}
 use Rattle.monitor.proofs.CallLaws.{length-written-bytes}
-use Rattle.monitor.proofs.FormKept.{heard-in, delivered-ok, receive-passed}
+use Rattle.monitor.proofs.FormKept.{delivered-ok, receive-passed}
 use Rattle.runs.specs.Demand1.{Exported, returned, lentBytes, leftBytes, listed, Test, firstFailing, wordsFail, countFails, endsFail}
 use Rattle.runs.specs.Demand1.{layoutSize, tests, Demand1, ofDelivered, endsFormSize, namesWritten, outputTests, deliveryTests, test, tooShort, monitorSetUp}
 use Rattle.runs.specs.Demand1.{receiptTests, monitorReceiveWithReadings}
@@ -192,27 +190,10 @@ written-size s position =
     let own = num ownAt 4 s in
     omega (arith, length-written-bytes s position, length-message-more own (namesOf (epochsIn epochsAt s) (wanted own (d .terms))) (down (d .left)) (up (d .right)) (d .terms))
 
--- what comes behind a test matters only where it lets pass
-refuse-same : (b : Bool) (number m n : ℕ) → (T (not b) → m ≡ n) → refuse b number m ≡ refuse b number n
-refuse-same true number m n h = refl
-refuse-same false number m n h = h tt
-
-lent-same : (s : List ℕ) (m n : ℕ) → (T (inForm s) → m ≡ n) → lent s m ≡ lent s n
-unfolding lent
-lent-same s m n h = refuse-same (ltb (length s) stateSize) 24 _ _ (λ _. go (inForm s) h)
-  where
-    go : (b : Bool) → (T b → m ≡ n) → refuse (not b) 25 m ≡ refuse (not b) 25 n
-    go true f = f tt
-    go false f = refl
-
 -- the tests of a lent state
 lent-nest : (s : List ℕ) (n : ℕ) → lent s n ≡ refuse (tooShort stateSize s) 24 (refuse (not (inForm s)) 25 n)
 unfolding lent
 lent-nest s n = refl
-
-age-number : (s : List ℕ) (reading : ℕ) → returned (monitorAge s reading) ≡ firstFailing (tests (monitorAge s reading))
-unfolding tests firstFailing ageNumber ageRefusal stateOf
-age-number s reading = lent-same s _ _ (λ t. rw (passes-both (stateOf s) reading (form-ok s t))) ∙ lent-nest s _
 
 -- a receipt, with readings or without
 receive-nest : (s : List ℕ) (g : Receipt)
@@ -223,15 +204,9 @@ receive-nest : (s : List ℕ) (g : Receipt)
 unfolding receiveNumber delivered deliveredNumber deliveredAs firstFailing receiptRefusal ofDelivered
 receive-nest s g =
     let st = stateOf s in
-    ap (λ (k : ℕ). lent s k) (refuse-same (delaysFail (g .least) (g .greatest)) 21 _ _ (λ d. refuse-same (readingsFail (g .readings)) 40 _ _ (λ f.
-    read-first (g .message) (λ r. deliveredNumber st (deliveredAs g r)) (deliveryTests st (delivered g)) (λ n. refl)
-    (λ s′ l r n e. rw e (brought _ (heard-in (g .least) (g .greatest) (g .readings) (g .message) (delays-fit (g .least) (g .greatest) (T-false _ d) .0) f e))))))
+    ap (λ (k : ℕ). lent s (refuse (delaysFail (g .least) (g .greatest)) 21 (refuse (readingsFail (g .readings)) 40 k)))
+    (read-first (g .message) (λ r. deliveredNumber st (deliveredAs g r)) (deliveryTests st (delivered g)) (λ n. refl) (λ s′ l r n e. rw e))
     ∙ lent-nest s _
-  where
-    brought : (d : Delivery) → Heard d → receiptRefusal (stateOf s) d ≡ firstFailing (deliveryTests (stateOf s) (brings d))
-    brought d h =
-        let st = stateOf s in
-        ap (λ (b : Bool). refuse (fromSelf st d) 18 (refuse b 30 (refuse (termsFail st d) 31 (refuse (overfills st d) 32 0)))) (grown-both st d h)
 
 receive-number : (s : List ℕ) (least greatest : ℕ) (m : List ℕ)
     → returned (monitorReceive s least greatest m) ≡ firstFailing (tests (monitorReceive s least greatest m))
@@ -246,7 +221,7 @@ receive-with-number s least greatest t drift m = receive-nest s (receiptWith lea
 number-first : (c : Exported) → returned c ≡ firstFailing (tests c)
 unfolding tests firstFailing setUpNumber setUpRefusal ageNumber ageRefusal askNumber fewestNumber writeNumber lent layoutSize stateOf
 number-first (monitorSetUp s u) = refl
-number-first (monitorAge s reading) = age-number s reading
+number-first (monitorAge s reading) = refl
 number-first (monitorReceive s least greatest m) = receive-number s least greatest m
 number-first (monitorReceiveWithReadings s least greatest t drift m) = receive-with-number s least greatest t drift m
 number-first (monitorAsk s limit out) = refl

@@ -3,8 +3,8 @@
 -- kin of the crate `monitor`); an accepted message is one that reads as a message, and so does what is written of it (`rewrite-read-bytes` and
 -- its kin). The numbers that are read fit 8 bytes each. Assumes nothing.
 use Prim.Native.Nat.{ℕ, _^_, _≤_, _<_}
-use mathlib.Core.Path.{_≡_, refl, sym, ap, subst, _∙_}
-use mathlib.Core.Bool.{true, _&&_}
+use mathlib.Core.Path.{_≡_, refl, sym, ap, _∙_}
+use mathlib.Core.Bool.{true}
 use mathlib.Core.List.{List, [], _∷_}
 use native.Mathlib.Omega.{arith}
 use borrow.Author.Tests.{le-ltb}
@@ -15,12 +15,11 @@ use Rattle.numbers.proofs.NumberLaws.{take-put}
 use Rattle.predicates.specs.Lists.{all}
 use Rattle.predicates.proofs.ListLaws.{both}
 use Rattle.ends.specs.Ends.{down, up}
-use Rattle.message.specs.Words.{masks}
-use Rattle.message.specs.Read.{isEnds, termWords}
+use Rattle.message.specs.Read.{termWords}
 use Rattle.message.specs.declared.Reading.{Reading}
 use Rattle.message.specs.declared.Reading.the-variants.{Message, Refused}
 use Rattle.radio.specs.Names.{wanted, namesOf}
-use Rattle.radio.specs.Read.{opening, epochWords}
+use Rattle.radio.specs.Read.{epochWords}
 use Rattle.radio.proofs.ReadLaws.{refused-above}
 use Rattle.state.specs.Layout.{ownAt, headOf, datumAt, joined}
 use Rattle.state.specs.Refusal.{after}
@@ -28,10 +27,10 @@ use Rattle.monitor.specs.Messages.{readBytes, wordsIn, answered, readingBytes, 
 use Rattle.monitor.specs.Calls.{writtenBytes, writeNumber, writeOutput}
 use Rattle.monitor.specs.Ask.{wide, Shows}
 use Rattle.monitor.proofs.MessageCalls.{read-words-in}
-use Rattle.monitor.proofs.CallLaws.{Held, held-out, write-form, write-held, write-front, write-reads, write-terms, write-epochs, write-accepted}
+use Rattle.monitor.proofs.CallLaws.{held-out, write-form, write-held, write-front, write-reads, write-terms, write-epochs}
 use Rattle.monitor.proofs.Demand2.{rewrite-same-bytes, rewrite-ends-bytes, rewrite-read-bytes, rewrite-terms-bytes, rewrite-epochs-bytes}
 use Rattle.runs.specs.Demand1.{layoutSize}
-use Rattle.runs.specs.Demand2.{termsIn, namesIn, inEndsForm, Says, writtenIn, WrittenReads, rewrittenIn, SaysAs, Rewrites, RewrittenReads, Demand2}
+use Rattle.runs.specs.Demand2.{termsIn, namesIn, Says, writtenIn, WrittenReads, rewrittenIn, SaysAs, Rewrites, RewrittenReads, Demand2}
 use Rattle.runs.proofs.Answers.{Small, shown}
 use Rattle.runs.proofs.Demand1.{written-size, rewritten-size}
 

@@ -19,7 +19,7 @@ use Rattle.message.specs.Write.{endWords, front, body, messageWords}
 use Rattle.state.specs.Layout.{stateSize, zeros}
 use Rattle.entries.specs.Entries.{explained, learn, withdrawnEntries}
 use Rattle.steps.specs.Steps.{disjoint, learnt, unexplained, same, meet, met, without, betters, stored, heldAfter, settled, received, blamed, swept, judged, tooMany}
-use Rattle.steps.specs.Withdrawn.{withdrawnDatum, withdrawnData, withdrawn}
+use Rattle.steps.specs.Withdrawn.{withdrawnData, withdrawn}
 use Rattle.engine.specs.Ageing.{leastAdvance, greatestAdvance, slow, fast, widened, aged}
 use Rattle.engine.specs.Receiving.{grown}
 use Rattle.engine.specs.Hearing.{spokenBy, risen, late, cleared, hearing, heeded, arrived}

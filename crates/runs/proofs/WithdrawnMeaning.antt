@@ -2,7 +2,7 @@
 -- names withdrawn. The idea: each predicate is made true by s exactly if it was by both (`withdraw-holds`), and what became true claims nothing.
 -- Assumes nothing.
 use Prim.Native.Nat.{ℕ}
-use mathlib.Core.Path.{_≡_, sym, subst}
+use mathlib.Core.Path.{sym, subst}
 use mathlib.Core.Logic.{_↔_, _⊎_, ⊎-elim}
 use mathlib.Core.Bool.{Bool, not}
 use mathlib.Core.List.{List, map}

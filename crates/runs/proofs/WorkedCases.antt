@@ -27,7 +27,7 @@ use Rattle.state.proofs.StateLaws.{length-state, encode-form, decode-encode}
 use Rattle.state.proofs.LentLaws.{refuse-none, lent-next}
 use Rattle.entries.specs.Entries.{explained, learn, withdrawnEntries}
 use Rattle.steps.specs.Steps.{disjoint, learnt, unexplained, same, meet, met, without, betters, stored, heldAfter, settled, received, blamed, swept, judged, tooMany}
-use Rattle.steps.specs.Withdrawn.{withdrawnDatum, withdrawnData, withdrawn}
+use Rattle.steps.specs.Withdrawn.{withdrawnData, withdrawn}
 use Rattle.steps.proofs.ReceiveLaws.{same-out}
 use Rattle.engine.specs.Ageing.{leastAdvance, greatestAdvance, slow, fast, widened, aged}
 use Rattle.engine.specs.Receiving.{grown}

@@ -8,7 +8,6 @@ use mathlib.Core.List.{List, [], _∷_, _++_, map}
 use lib.ListN.{length, getD, take, drop}
 use lib.Dec.{T, ltb, leb, eqb}
 use Rattle.numbers.specs.Numbers.{Bytes, num, wordsOf}
-use Rattle.predicates.specs.Lists.{any}
 use Rattle.predicates.specs.Predicates.{isTrue, isNormal}
 use Rattle.epochs.specs.Epochs.{NotAbove, epochsIn}
 use Rattle.message.specs.Words.{payload, masks, endsLimit}
@@ -19,14 +18,13 @@ use Rattle.clocks.specs.declared.Triple.{Triple}
 use Rattle.clocks.specs.declared.Readings.the-variants.{Without, With}
 use Rattle.clocks.specs.Clocks.{fails}
 use Rattle.state.specs.Model.{State}
-use Rattle.state.specs.Layout.{stateSize, ownAt, heldAt, entriesAt, clocksAt, epochsAt, headOf, storeOf, stateOf, datumAt}
+use Rattle.state.specs.Layout.{stateSize, ownAt, heldAt, entriesAt, clocksAt, epochsAt, headOf, stateOf, datumAt}
 use Rattle.state.specs.Form.{inForm}
 use Rattle.state.specs.Refusal.{refuse}
-use Rattle.engine.specs.Ageing.{slow, fast, aged}
-use Rattle.engine.specs.Receiving.{Delivery, grown}
+use Rattle.engine.specs.Receiving.{Delivery}
 use Rattle.engine.specs.Hearing.{spokenBy, arrived}
 use Rattle.engine.specs.Calls.{Setup}
-use Rattle.engine.specs.Refusals.{ownFails, epochFails, driftFails, readingFails, goesBack, anEndPasses, delaysFail, fromSelf, growsPast, termsFail, overfills}
+use Rattle.engine.specs.Refusals.{ownFails, epochFails, driftFails, readingFails, goesBack, agesPast, delaysFail, fromSelf, growsPast, termsFail, overfills}
 use Rattle.monitor.specs.Messages.{readNumber, readOutput, rewriteNumber, rewriteOutput}
 use Rattle.monitor.specs.Calls.{setUpNumber, setUpState, ageNumber, ageState, noDatumAt, writeNumber, writeOutput}
 use Rattle.monitor.specs.Receive.{Receipt, receiptOf, receiptWith, Delivered, refused, brings, delivered, receiveNumber, receiveState}
@@ -169,7 +167,7 @@ ofDelivered f (brings d) = f d
 abbrev pub deliveryTests : State → Delivered → List Test
 deliveryTests st d =
     test (ofDelivered (fromSelf st) d) 18
-    ∷ test (ofDelivered (λ g. anEndPasses (grown (st .head) g)) d) 30
+    ∷ test (ofDelivered (growsPast st) d) 30
     ∷ test (ofDelivered (termsFail st) d) 31
     ∷ test (ofDelivered (overfills st) d) 32
     ∷ []
@@ -218,7 +216,7 @@ tests (monitorAge s reading) =
     stateTests s
     ++ (test (readingFails reading) 3
     ∷ test (goesBack (headOf s) reading) 20
-    ∷ test (any anEndPasses (aged (slow (headOf s) reading) (fast (headOf s) reading) (storeOf s) .held)) 30
+    ∷ test (agesPast (stateOf s) reading) 30
     ∷ [])
 tests (monitorReceive s least greatest m) =
     stateTests s ++ (test (delaysFail least greatest) 21 ∷ receiptTests s (receiptOf least greatest m))

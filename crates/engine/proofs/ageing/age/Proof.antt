@@ -46,7 +46,7 @@ tested c =
     let at-if2 = at-hi .before .before .before in
     let a = at-if2 .before .before .before .before .before in
     age-tests (a .args .state .now) (a .args .reading) _ _ (at-if2 .before .get64 .ensures .0) (at-hi .before .get32 .ensures .0)
-    _ _ (at-hi .greatest-advance .ensures .0) (at-if2 .before .before .before .if1 .left) (at-if2 .if2 .left) (c .stays-below .ensures)
+    (a .pre .1) _ _ (at-hi .greatest-advance .ensures .0) (at-if2 .before .before .before .if1 .left) (at-if2 .if2 .left) (c .stays-below .ensures)
 
 returns-3 : tie.Need-returns-3
 unfolding after

@@ -172,7 +172,7 @@ returns-2 c =
     let g = c .before .before in
     let a = start (from-other g) in
     let past = ltb-false (countOf (g .grow .result .right)) endLimit (sym (c .before .storable .ensures) ∙ not-true _ (c .if2 .taken)) in
-    (sym (receipt-end (bytes-at a) (given a) (other (from-other g)) (omega (arith, right-grown g))), refl)
+    (sym (receipt-end (bytes-at a) (given a) (other (from-other g)) (heard a) (omega (arith, right-grown g))), refl)
 
 returns-3 : tie.Need-returns-3
 unfolding after
@@ -180,7 +180,7 @@ returns-3 c =
     let f = c .before .before in
     let a = start-of-form f in
     let e = below (at-hear f) in
-    (sym (receipt-terms (bytes-at a) (given a) (other (from-other (at-grow e))) (below-limit e) (omega (arith, long f, c .if3 .taken))), refl)
+    (sym (receipt-terms (bytes-at a) (given a) (other (from-other (at-grow e))) (heard a) (below-limit e) (omega (arith, long f, c .if3 .taken))), refl)
 
 heed-requires : tie.Need-heed-requires
 heed-requires c κs = omega (arith, start-of-form (at-form (c .before)) .pre .1 .0 .2)
@@ -228,7 +228,7 @@ number c =
     let a = start-of-form f in
     let e = below (at-hear f) in
     counts-there (bytes-at a) (given a) _ _ _ _ (new-arrived f) (violation-there c) (risen-heard (at-hear f)) (c .take .ensures .0)
-    ∙ sym (receipt-counts (bytes-at a) (given a) (other (from-other (at-grow e))) (below-limit e) (omega (arith, long f, narrow (at-heed (c .before)) .if3 .left)))
+    ∙ sym (receipt-counts (bytes-at a) (given a) (other (from-other (at-grow e))) (heard a) (below-limit e) (omega (arith, long f, narrow (at-heed (c .before)) .if3 .left)))
 
 -- what is held and known of a taken one is right
 right : (c : tie.After-take) → c .take .result ≡ 0 → let a = start-of-take c in
