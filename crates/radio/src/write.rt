@@ -1,7 +1,7 @@
 // Rewriting in ends form, and the names that a written message gives.
 ghost use mathlib.Core.Path.{_≡_};
 ghost use Prim.Native.Nat.{_+_, _≤_, _<_};
-ghost use lib.ListN.{length, take};
+ghost use lib.ListN.{length};
 ghost use Rattle.numbers.specs.Numbers.{put};
 ghost use Rattle.epochs.specs.Epochs.{epochsMost, epochsIn};
 ghost use Rattle.radio.specs.Names.{namesOf};
@@ -25,11 +25,12 @@ pub fn rewrite(words: &[u32], out: &mut [u32]) -> Reading
     got
 }
 
-// Puts the names of the identifiers in the mask, under the epochs in the bytes from index `at` on, at the front of `names`, rising. Answers how many.
+// Puts the names of the identifiers in the mask, under the epochs in the bytes from index `at` on, at the front of `names`, rising; the rest of `names`
+// stays. Answers how many.
 pub fn known_names(s: &[u8], at: usize, mask: u32, names: &mut [u32]) -> usize
     requires { ⌜ (at + epochsMost ≤ length (now s)) × (epochsMost ≤ length (now names)) ⌝ }
     ensures { λ r. ⌜ (r ≡ length (namesOf (epochsIn at (now (s .entry))) mask)) × (r ≤ epochsMost) ⌝ }
-    ensures { λ r. ⌜ take r (now (names .exit)) ≡ namesOf (epochsIn at (now (s .entry))) mask ⌝ }
+    ensures { λ _. ⌜ now (names .exit) ≡ put 0 (namesOf (epochsIn at (now (s .entry))) mask) (now (names .entry)) ⌝ }
 {
     let mut r: usize = 0;
     let mut n: u32 = 0;

@@ -1,10 +1,12 @@
 -- `monitor::calls::datum_words` meets its contract: own name, ends and masks are read from the bytes, the names from the epochs, and what `write` makes of
 -- them are the words of the held datum (`words-written`). A state in form gives the ranges that `write` asks.
-use Prim.Native.Nat.{_≤_}
+use Prim.Native.Nat.{ℕ, _≤_}
 use mathlib.Core.Path.{_≡_, sym, ap, _∙_}
+use mathlib.Core.List.{List}
 use native.Mathlib.Omega.{arith}
 use lib.ListN.{take, length}
 use Rattle.numbers.specs.Numbers.{num}
+use Rattle.numbers.proofs.NumberLaws.{take-put}
 use Rattle.epochs.specs.Epochs.{epochsIn}
 use Rattle.radio.specs.Names.{wanted, namesOf}
 use Rattle.state.specs.Layout.{ownAt, epochsAt, datumAt}
@@ -24,20 +26,27 @@ terms : (c : tie.After-get-words) → let a = c .before .before .before .before 
     take (c .before .before .get322 .result) (c .get-words .last .1 .1 .0) ≡ datumAt (a .state .now) (a .position) .terms
 terms c = terms-taken _ _ (held c) _ _ _ (c .before .before .get322 .ensures .0) (c .get-words .ensures)
 
--- the names in use are those that it gives
 abbrev at-words : tie.After-known-names → tie.After-get-words
 at-words c = c .before .before .before .before .before
 
+-- the names in use are those that were put at the front
+front : (c : tie.After-known-names) → take (c .known-names .result) (c .known-names .last .1 .1 .1 .0)
+    ≡ namesOf (epochsIn epochsAt (at-words c .before .before .before .before .before .before .before .before .args .state .now)) (c .before .before .wanted .result)
+front c =
+    let told = c .known-names .ensures in
+    ap (λ (l : List ℕ). take (c .known-names .result) l) (told .1) ∙ take-put _ _ _ (sym (told .0 .0)) (omega (arith, told .0 .1))
+
+-- and those that it gives
 names : (c : tie.After-known-names) → let a = at-words c .before .before .before .before .before .before .before .before .args in
     take (c .known-names .result) (c .known-names .last .1 .1 .1 .0)
     ≡ namesOf (epochsIn epochsAt (a .state .now)) (wanted (num ownAt 4 (a .state .now)) (datumAt (a .state .now) (a .position) .terms))
 names c =
     let w = at-words c in
-    given-told _ _ (held w) _ _ _ _ (w .before .before .before .before .before .get32 .ensures .0) (terms w) (c .before .before .wanted .ensures) (c .known-names .ensures .1)
+    given-told _ _ (held w) _ _ _ _ (w .before .before .before .before .before .get32 .ensures .0) (terms w) (c .before .before .wanted .ensures) (front c)
 
 -- and so many
 counted : (c : tie.After-known-names) → c .known-names .result ≡ length (take (c .known-names .result) (c .known-names .last .1 .1 .1 .0))
-counted c = c .known-names .ensures .0 .0 ∙ sym (ap length (c .known-names .ensures .1))
+counted c = c .known-names .ensures .0 .0 ∙ sym (ap length (front c))
 
 -- so many terms
 long : (c : tie.After-get-words) → c .before .before .get322 .result ≡ length (take (c .before .before .get322 .result) (c .get-words .last .1 .1 .0))
