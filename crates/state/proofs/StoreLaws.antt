@@ -10,7 +10,7 @@ use mathlib.Core.Logic.{inl, inr, ⊎-elim}
 use native.Mathlib.Nat.{zero-add, suc-mul, eq-or-lt-of-le}
 use native.Mathlib.Numerals.{add-one}
 use native.Mathlib.Omega.{arith}
-use native.Mathlib.Decide.{ℕ-discrete, decLt}
+use native.Mathlib.Decide.{decLt}
 use lib.Dec.{T, leb, leb→le, le→leb, eqb, eqb→eq, eqb-refl}
 use lib.ListN.{length, getD, take, drop, set, length-append, length-take, length-drop, length-set, length-replicate, List·getD-append}
 use lib.Seq.{take-append-le, drop-at, drop-drop, getD-append-add, getD-drop}
@@ -23,7 +23,7 @@ use Rattle.state.specs.Form.{isZero, dataFit, entriesFit, inForm, datumO
 use Rattle.state.proofs.LayoutLaws.{all-tab, At, num-drop, length-joined, at-joined, length-datum, length-entry}
 use Rattle.state.proofs.PutLaws.{zero-behind, joined-last, put-swap, put-stands, drop-put}
 use Rattle.state.proofs.StateLaws.{held-count-le, entry-count-le, form-datum, datum-at-ok, length-datum-at, entry-at-ok, length-entry-at, datum-stands, entry-stands}
-use Rattle.state.specs.code.Tables.{Table, Columns, tableOf, table, columns, entryMasks, tableFrom, TableFits, ColumnsFit, rowOf, hasTerms, entriesIn, datumIn, dataIn, endsAt, EndsRead, DataStand, EntriesStand}
+use Rattle.state.specs.code.Tables.{Table, Columns, tableOf, table, columns, entryMasks, tableFrom, TableFits, ColumnsFit, rowOf, hasTerms, entriesIn, datumIn, dataIn, endsAt, DataStand, EntriesStand}
 use Rattle.state.specs.Model.{datum}
 use Rattle.numbers.proofs.NumberLaws.{tab-suc, tab-cong}
 use Rattle.predicates.proofs.ListLaws.{keep-append}
@@ -32,8 +32,7 @@ use Rattle.state.proofs.RowLaws.{row-full, table-room}
 use Rattle.state.specs.Model.{Datum}
 use Rattle.state.proofs.FormLaws.{length-filled, ends-split}
 use Rattle.ends.specs.declared.End.{End}
-use Rattle.ends.specs.Ends.{million, countOf, Split, BothSplit, endIn, withEnd, AllSplit}
-use Rattle.ends.proofs.EndLaws.{length-with, whole-with, millionths-with, whole-beside, millionths-beside}
+use Rattle.ends.specs.Ends.{million, countOf, Split, BothSplit, endNumbers, endIn, withEnd, AllSplit}
 
 -- ---- a loop that fills the front of an array
 
@@ -88,11 +87,26 @@ module _ {A : Type 0} (f : A → List ℕ) where
         let swap = put-swap at k (joined f xs) (f x) s₀ (omega (arith, w .sized)) in
         w .stored ∙ ap (λ (l : List ℕ). put at (joined f xs) l) (sym q) ∙ swap ∙ ap (λ (l : List ℕ). put k (f x) l) (sym (w .stored))
 
--- ---- the masks of rows, read
+-- ---- rows of one size, read
 
--- the masks of the first i rows stand one row behind the other
-abbrev pub Masks : ℕ → (ℕ → ℕ) → List ℕ → ℕ → List ℕ → List ℕ → Type 0
-Masks width place s i m₀ m = Written (λ p. p) width 0 (tab i (λ k. masksAt width (place k) s)) i m₀ m
+-- the first i rows stand at the front, one behind the other; the rest is as it was
+abbrev pub Laid : {A : Type 0} → (A → List ℕ) → ℕ → (ℕ → A) → ℕ → List ℕ → List ℕ → Type 0
+Laid g size f i s₀ s = Written g size 0 (tab i f) i s₀ s
+
+module _ {A : Type 0} (g : A → List ℕ) (size : ℕ) (f : ℕ → A) where
+  pub laid-none : (s : List ℕ) → Laid g size f 0 s s
+  unfolding tab
+  laid-none s = written-none g size 0 s
+
+  pub laid-next : (i : ℕ) (s₀ s u : List ℕ) → length (g (f i)) ≡ size → u ≡ put (i * size) (g (f i)) s → Laid g size f i s₀ s → Laid g size f (i + 1) s₀ u
+  laid-next i s₀ s u e q w = rw (tab-suc i f) (written-next g size 0 (tab i f) (f i) i (i * size) s₀ s u e (omega arith) q w)
+
+  pub laid-done : (n i : ℕ) (s₀ s : List ℕ) → i ≤ n → n ≤ i → n * size ≤ length s₀ → Laid g size f i s₀ s
+      → s ≡ joined g (tab n f) ++ drop (n * size) s₀
+  laid-done n i s₀ s h k l w =
+      let done : i ≡ n = omega arith in
+      let z : Laid g size f n s₀ s = rw done at w in
+      z .stored ∙ put-front (n * size) (joined g (tab n f)) s₀ (z .sized) l
 
 pub length-masks : (width at : ℕ) (s : List ℕ) → length (masksAt width at s) ≡ width
 unfolding masksAt
@@ -104,24 +118,11 @@ masks-fresh at s =
     let row = masksAt entryTerms at s in
     put-front entryTerms row (zeros entryTerms) (length-masks entryTerms at s) (omega arith) ∙ append-nil row
 
-module _ (width : ℕ) (place : ℕ → ℕ) (s : List ℕ) where
-  pub masks-none : (m : List ℕ) → Masks width place s 0 m m
-  unfolding tab
-  masks-none m = written-none (λ p. p) width 0 m
-
-  pub masks-next : (i : ℕ) (m₀ m u : List ℕ) → u ≡ put (i * width) (masksAt width (place i) s) m → Masks width place s i m₀ m
-      → Masks width place s (i + 1) m₀ u
-  masks-next i m₀ m u q w =
-      rw (tab-suc i (λ k. masksAt width (place k) s))
-      (written-next (λ p. p) width 0 (tab i (λ k. masksAt width (place k) s)) (masksAt width (place i) s) i (i * width) m₀ m u
-      (length-masks width (place i) s) (omega arith) q w)
-
-  pub masks-done : (n i : ℕ) (m₀ m : List ℕ) → i ≤ n → n ≤ i → n * width ≤ length m₀ → Masks width place s i m₀ m
-      → m ≡ joined (λ p. p) (tab n (λ k. masksAt width (place k) s)) ++ drop (n * width) m₀
-  masks-done n i m₀ m h k l w =
-      let done : i ≡ n = omega arith in
-      let z : Masks width place s n m₀ m = rw done at w in
-      z .stored ∙ put-front (n * width) (joined (λ p. p) (tab n (λ k. masksAt width (place k) s))) m₀ (z .sized) l
+-- one end more of a column
+pub end-laid : (f : ℕ → End) (i : ℕ) (e : End) (l₀ l u : List ℕ) → e ≡ f i → u ≡ withEnd l i e → Laid endNumbers 2 f i l₀ l
+    → Laid endNumbers 2 f (i + 1) l₀ u
+unfolding put
+end-laid f i e l₀ l u p q w = laid-next endNumbers 2 f i l₀ l u refl (q ∙ rw (p, add-one)) w
 
 -- ---- the rows that have terms, written
 
@@ -251,15 +252,19 @@ pub column-front : (f : ℕ → ℕ) (n i : ℕ) (s₀ s : List ℕ) → s ≡ t
 column-front f n i s₀ s e h =
     ap (λ l. getD l i 0) e ∙ List·getD-append (tab n f) (drop n s₀) 0 i (omega (arith, length-tab n f)) ∙ getD-tab n i f 0 h
 
-column-rest : (f : ℕ → ℕ) (n i : ℕ) (s₀ s : List ℕ) → s ≡ tab n f ++ drop n s₀ → n ≤ i → getD s i 0 ≡ getD s₀ i 0
-column-rest f n i s₀ s e h =
-    let place : i ≡ length (tab n f) + (i - n) = omega (arith, length-tab n f) in
-    let back : n + (i - n) ≡ i = omega arith in
-    ap (λ l. getD l i 0) e ∙ ap (λ (k : ℕ). getD (tab n f ++ drop n s₀) k 0) place ∙ getD-append-add (tab n f) (drop n s₀) (i - n) 0
-    ∙ getD-drop n s₀ (i - n) 0 ∙ ap (λ (k : ℕ). getD s₀ k 0) back
+module _ (a : List ℕ) (n : ℕ) (s₀ s : List ℕ) (long : length a ≡ n) (e : s ≡ a ++ drop n s₀) where
+  front-rest : (i : ℕ) → n ≤ i → getD s i 0 ≡ getD s₀ i 0
+  front-rest i h =
+      let place : i ≡ length a + (i - n) = omega arith in
+      let back : n + (i - n) ≡ i = omega arith in
+      ap (λ l. getD l i 0) e ∙ ap (λ (k : ℕ). getD (a ++ drop n s₀) k 0) place ∙ getD-append-add a (drop n s₀) (i - n) 0
+      ∙ getD-drop n s₀ (i - n) 0 ∙ ap (λ (k : ℕ). getD s₀ k 0) back
+
+  length-front : n ≤ length s₀ → length s ≡ length s₀
+  length-front h = ap length e ∙ rw (length-append, length-drop) (omega arith)
 
 pub length-column : (f : ℕ → ℕ) (n : ℕ) (s₀ s : List ℕ) → s ≡ tab n f ++ drop n s₀ → n ≤ length s₀ → length s ≡ length s₀
-length-column f n s₀ s e h = ap length e ∙ rw (length-append, length-tab, length-drop) (omega arith)
+length-column f n s₀ s = length-front (tab n f) n s₀ s (length-tab n f)
 
 -- the masks of n rows, all of one width
 module _ (width n : ℕ) (place : ℕ → ℕ) (s : List ℕ) where
@@ -301,45 +306,40 @@ module _ (width n : ℕ) (place : ℕ → ℕ) (s c₀ rest c m : List ℕ) (p :
     where
       small : (i : ℕ) → Dec (i < n) → getD c i 0 ≤ width
       small i (yes l) = omega (arith, column-front (λ j. num (place j) 4 s) n i c₀ c p l, few i l)
-      small i (no l) = omega (arith, column-rest (λ j. num (place j) 4 s) n i c₀ c p (omega arith), t .narrow i)
+      small i (no l) = omega (arith, front-rest (tab n (λ j. num (place j) 4 s)) n c₀ c (length-tab n (λ j. num (place j) 4 s)) p i (omega arith), t .narrow i)
 
--- a loop that reads ends into a column
-pub ends-none : (f : ℕ → End) (l : List ℕ) → EndsRead f 0 l l
-ends-none f l = record { long = refl; front = λ i h. absurd (omega arith); rest = λ i h. refl }
+-- n ends that were read into a column
+module _ (f : ℕ → End) (n : ℕ) (l₀ l : List ℕ) (e : l ≡ joined endNumbers (tab n f) ++ drop (n * 2) l₀) where
+  two-each : T (all (λ x. true) (tab n f))
+  two-each = all-tab (λ x. true) n f (λ i h. tt)
 
-pub ends-next : (f : ℕ → End) (i n : ℕ) (e : End) (l₀ l : List ℕ) → e ≡ f i → i < n → n * 2 ≤ length l₀ → EndsRead f i l₀ l → EndsRead f (i + 1) l₀ (withEnd l i e)
-ends-next f i n e l₀ l p h room w =
-    let k : i * 2 + 1 < length l = omega (arith, w .long) in
-    record {
-      long = length-with l i e ∙ w .long;
-      front = λ j m. here k j m (ℕ-discrete j i);
-      rest = λ j m. millionths-beside l i j e (λ q. omega arith) ∙ w .rest j (omega arith);
-    }
-  where
-    here : i * 2 + 1 < length l → (j : ℕ) → j < i + 1 → Dec (j ≡ i) → (getD (withEnd l i e) (j * 2) 0 ≡ f j .whole) × (getD (withEnd l i e) (j * 2 + 1) 0 ≡ f j .millionths)
-    here k j m (yes q) = rw (q, whole-with l i e k, millionths-with l i e k, p) (refl, refl)
-    here k j m (no q) =
-        let old = w .front j (omega arith) in
-        (whole-beside l i j e q ∙ old .0, millionths-beside l i j e q ∙ old .1)
+  length-ends : length (joined endNumbers (tab n f)) ≡ n * 2
+  length-ends = length-joined endNumbers (λ x. true) 2 (λ x t. refl) (tab n f) two-each ∙ rw length-tab
 
-pub ends-done : (f : ℕ → End) (n i : ℕ) (l₀ l : List ℕ) → i ≤ n → n ≤ i → EndsRead f i l₀ l → EndsRead f n l₀ l
-ends-done f n i l₀ l h k w = let e : i ≡ n = omega arith in rw e at w
+  numbers-read : (i : ℕ) → i < n → (getD l (i * 2) 0 ≡ f i .whole) × (getD l (i * 2 + 1) 0 ≡ f i .millionths)
+  numbers-read i h =
+      let there = rw (zero-add, getD-tab n i f (f 0) h) at (at-joined endNumbers (λ x. true) 2 (λ x t. refl) (f 0) 0 i (tab n f) l two-each (omega (arith, length-tab n f)) (drop (n * 2) l₀, e)) in
+      let first : i * 2 ≡ i * 2 + 0 = omega arith in (
+        ap (λ (k : ℕ). getD l k 0) first ∙ sym (getD-drop (i * 2) l 0 0) ∙ rw (there .1),
+        sym (getD-drop (i * 2) l 1 0) ∙ rw (there .1),
+      )
 
--- a column whose first ends were read
-module _ (f : ℕ → End) (n : ℕ) (l₀ l : List ℕ) (w : EndsRead f n l₀ l) where
   end-read : (i : ℕ) → i < n → endIn l i ≡ countOf (f i)
-  end-read i h = let k = w .front i h in rw (k .0, k .1)
+  end-read i h = let k = numbers-read i h in rw (k .0, k .1)
+
+  ends-long : n * 2 ≤ length l₀ → length l ≡ length l₀
+  ends-long = length-front (joined endNumbers (tab n f)) (n * 2) l₀ l length-ends e
 
   split-read : ((i : ℕ) → i < n → Split (f i)) → AllSplit l₀ → AllSplit l
   split-read new old i = go (decLt i n)
     where
       go : Dec (i < n) → getD l (i * 2 + 1) 0 < million
-      go (yes h) = omega (arith, w .front i h .1, new i h)
-      go (no h) = omega (arith, w .rest i (omega arith), old i)
+      go (yes h) = omega (arith, numbers-read i h .1, new i h)
+      go (no h) = omega (arith, front-rest (joined endNumbers (tab n f)) (n * 2) l₀ l length-ends e (i * 2 + 1) (omega arith), old i)
 
 -- n data that were read
-module _ (n : ℕ) (s l₀ r₀ c₀ m₀ l r c m : List ℕ) (e : EndsRead (λ i. endsAt s i .left) n l₀ l)
-    (f : EndsRead (λ i. endsAt s i .right) n r₀ r) (split : (i : ℕ) → i < n → BothSplit (endsAt s i)) (p : c ≡ tab n (λ i. num (datumPlace i + rowIn) 4 s) ++ drop n c₀)
+module _ (n : ℕ) (s l₀ r₀ c₀ m₀ l r c m : List ℕ) (e : l ≡ joined endNumbers (tab n (λ i. endsAt s i .left)) ++ drop (n * 2) l₀)
+    (f : r ≡ joined endNumbers (tab n (λ i. endsAt s i .right)) ++ drop (n * 2) r₀) (split : (i : ℕ) → i < n → BothSplit (endsAt s i)) (p : c ≡ tab n (λ i. num (datumPlace i + rowIn) 4 s) ++ drop n c₀)
     (q : m ≡ joined (λ x. x) (tab n (λ i. masksAt datumTerms (datumPlace i + rowIn) s)) ++ drop (n * 8) m₀)
     (few : (i : ℕ) → i < n → num (datumPlace i + rowIn) 4 s ≤ 8) where
   datum-read : (i : ℕ) → i < n → datumIn (columns l r c m) i ≡ datumAt s i
@@ -357,11 +357,11 @@ module _ (n : ℕ) (s l₀ r₀ c₀ m₀ l r c m : List ℕ) (e : EndsRead (λ 
   pub columns-read : (k : ℕ) → n ≤ k → ColumnsFit k (columns l₀ r₀ c₀ m₀) → ColumnsFit k (columns l r c m)
   columns-read k h t =
       let long : length m ≡ length m₀ =
-      ap length q ∙ rw (length-append, length-drop) (omega (arith, length-rows 8 n (λ i. datumPlace i + rowIn) s, t .table .long)) in
+      length-front (joined (λ x. x) (tab n (λ i. masksAt datumTerms (datumPlace i + rowIn) s))) (n * 8) m₀ m (length-rows 8 n (λ i. datumPlace i + rowIn) s) q (omega (arith, t .table .long)) in
       record {
         table = table-read 8 n (λ i. datumPlace i + rowIn) s c₀ (drop (n * 8) m₀) c m p q few k m₀ h long (t .table);
-        lefts-long = omega (arith, t .lefts-long, e .long);
-        rights-long = omega (arith, t .rights-long, f .long);
+        lefts-long = omega (arith, t .lefts-long, ends-long (λ i. endsAt s i .left) n l₀ l e (omega (arith, t .lefts-long)));
+        rights-long = omega (arith, t .rights-long, ends-long (λ i. endsAt s i .right) n r₀ r f (omega (arith, t .rights-long)));
         lefts-split = split-read (λ i. endsAt s i .left) n l₀ l e (λ i j. split i j .0) (t .lefts-split);
         rights-split = split-read (λ i. endsAt s i .right) n r₀ r f (λ i j. split i j .1) (t .rights-split);
       }
@@ -561,7 +561,7 @@ module _ (n : ℕ) (s : List ℕ) (t : T (inForm s)) (a : n ≡ entryCount s) (c
   table-standing k h f = table-read 16 n entryPlace s c₀ m c (entryMasks n s ++ m) p refl entries-few k (entryMasks n s ++ m) h refl f
 
 module _ (n : ℕ) (s : List ℕ) (t : T (inForm s)) (a : n ≡ heldCount s) (l₀ r₀ c₀ m₀ l r c m : List ℕ)
-    (e : EndsRead (λ i. endsAt s i .left) n l₀ l) (f : EndsRead (λ i. endsAt s i .right) n r₀ r)
+    (e : l ≡ joined endNumbers (tab n (λ i. endsAt s i .left)) ++ drop (n * 2) l₀) (f : r ≡ joined endNumbers (tab n (λ i. endsAt s i .right)) ++ drop (n * 2) r₀)
     (p : c ≡ tab n (λ i. num (datumPlace i + rowIn) 4 s) ++ drop n c₀)
     (q : m ≡ joined (λ x. x) (tab n (λ i. masksAt datumTerms (datumPlace i + rowIn) s)) ++ drop (n * 8) m₀) where
   data-few : (i : ℕ) → i < n → num (datumPlace i + rowIn) 4 s ≤ 8

@@ -7,6 +7,7 @@ ghost use lib.Dec.{T};
 ghost use lib.ListN.{length, getD, take, drop};
 ghost use Rattle.numbers.specs.Numbers.{num, bytes, put, tab};
 ghost use Rattle.predicates.specs.Lists.{padded};
+ghost use Rattle.ends.specs.Ends.{endNumbers};
 ghost use Rattle.epochs.specs.Epochs.{withdraw};
 ghost use Rattle.state.specs.Layout.{stateSize, ownAt, heldAt, knownAt, dataAt, dataMost, datumSize, datumTerms, rowIn};
 ghost use Rattle.state.specs.Layout.{entriesAt, entriesMost, entrySize, entryTerms, rowsMost};
@@ -14,7 +15,7 @@ ghost use Rattle.state.specs.Layout.{datumPlace, entryPlace, entryCount,
 ghost use Rattle.state.specs.Layout.{datumBytes, entryBytes, dataBytes, entriesBytes, joined, stateBytes};
 ghost use Rattle.state.specs.Form.{isZero, rowFits, inForm};
 ghost use Rattle.state.specs.code.Tables.{Columns, Table, table, columns, tableFrom, ColumnsFit, TableFits, DataStand, EntriesStand};
-ghost use Rattle.state.specs.code.Tables.{rowOf, entriesIn, datumIn, dataIn, storeIn, endsAt, EndsRead};
+ghost use Rattle.state.specs.code.Tables.{rowOf, entriesIn, datumIn, dataIn, storeIn, endsAt};
 
 // Reads the masks of the row at `at`, used or not, into the places from `from` on.
 pub fn get_masks(s: &[u8], at: usize, width: usize, masks: &mut [u32], from: usize)
@@ -39,8 +40,8 @@ pub fn get_data(
 )
     requires { ⌜ (stateSize ≤ length (now s)) × (n ≤ dataMost) × (n * 2 ≤ length (now lefts)) × (n * 2 ≤ length (now rights)) ⌝ }
     requires { ⌜ (n ≤ length (now counts)) × (n * datumTerms ≤ length (now masks)) ⌝ }
-    ensures { λ _. ⌜ EndsRead (λ i. endsAt (now (s .entry)) i .left) n (now (lefts .entry)) (now (lefts .exit)) ⌝ }
-    ensures { λ _. ⌜ EndsRead (λ i. endsAt (now (s .entry)) i .right) n (now (rights .entry)) (now (rights .exit)) ⌝ }
+    ensures { λ _. ⌜ now (lefts .exit) ≡ joined endNumbers (tab n (λ i. endsAt (now (s .entry)) i .left)) ++ drop (n * 2) (now (lefts .entry)) ⌝ }
+    ensures { λ _. ⌜ now (rights .exit) ≡ joined endNumbers (tab n (λ i. endsAt (now (s .entry)) i .right)) ++ drop (n * 2) (now (rights .entry)) ⌝ }
     ensures { λ _. ⌜ now (counts .exit) ≡ tab n (λ i. num (datumPlace i + rowIn) 4 (now (s .entry))) ++ drop n (now (counts .entry)) ⌝ }
     ensures { λ _. ⌜ now (masks .exit) ≡
         joined (λ p. p) (tab n (λ i. masksAt datumTerms (datumPlace i + rowIn) (now (s .entry)))) ++ drop (n * datumTerms) (now (masks .entry)) ⌝ }

@@ -11,7 +11,6 @@ use Rattle.predicates.specs.Lists.{keep}
 use Rattle.state.specs.Model.{Datum, datum, Store}
 use Rattle.state.specs.Layout.{datumTerms, entryTerms, datumPlace, entryPlace, rightIn, leftMillionthsIn, rightMillionthsIn, masksAt, joined}
 use Rattle.state.specs.Layout.{heldCount, entryCount, datumAt}
-use Rattle.ends.specs.declared.End.{End}
 use Rattle.ends.specs.declared.Ends.{Ends}
 use Rattle.ends.specs.Ends.{countOf, endIn, AllSplit}
 
@@ -107,12 +106,6 @@ withEnds i e s =
     put (datumPlace i + rightMillionthsIn) (bytes 4 (e .right .millionths))
     (put (datumPlace i + leftMillionthsIn) (bytes 4 (e .left .millionths))
     (put (datumPlace i + rightIn) (bytes 8 (e .right .whole)) (put (datumPlace i) (bytes 8 (e .left .whole)) s)))
-
--- the first n ends of a column have been read; the others are as they were
-pub record EndsRead (f : ℕ → End) (n : ℕ) (l₀ l : List ℕ) : Type 0 where
-  pub long : length l ≡ length l₀
-  pub front : (i : ℕ) → i < n → (getD l (i * 2) 0 ≡ f i .whole) × (getD l (i * 2 + 1) 0 ≡ f i .millionths)
-  pub rest : (i : ℕ) → n ≤ i → getD l (i * 2 + 1) 0 ≡ getD l₀ (i * 2 + 1) 0
 
 -- ---- rows that came from a state's bytes: each has been given up or is as the bytes have it
 
