@@ -203,7 +203,7 @@ fn put_last(
 }
 
 // Places an entry of one term: not added where an entry implies it, else those that it implies go, and it stands last. Answers how many rows
-// there are now.
+// there are now. What stands in the arrays for rows without terms, and behind the last row, is free.
 pub fn learn_term(
     s: &[u8],
     first: usize,
@@ -280,13 +280,12 @@ fn mark_at(s: &[u8], i: usize) -> u32
     predicates::marks::names_alone(&row)
 }
 
-// Makes the counts and the marks of the n entries in a state in form; what stands behind them is free.
+// Makes the counts and the marks of the n entries in a state in form; what stands behind them stays.
 pub fn mark_rows(s: &[u8], n: usize, counts: &mut [u32], marks: &mut [u32])
     requires { ⌜ (stateSize ≤ length (now s)) × T (inForm (now s)) × (n ≡ entryCount (now s)) ⌝ }
     requires { ⌜ (n ≤ length (now counts)) × (n ≤ length (now marks)) ⌝ }
     ensures { λ _. ⌜ now (counts .exit) ≡ tab n (λ i. num (entryPlace i) 4 (now (s .entry))) ++ drop n (now (counts .entry)) ⌝ }
-    ensures { λ _. ⌜ ((masks : List ℕ) → Marked n (tableFrom n (now (s .entry)) (now (counts .exit)) masks) (now (marks .exit)))
-        × (length (now (marks .exit)) ≡ length (now (marks .entry))) ⌝ }
+    ensures { λ _. ⌜ now (marks .exit) ≡ tab n (λ i. markOf (entryAt (now (s .entry)) i)) ++ drop n (now (marks .entry)) ⌝ }
 {
     let mut i: usize = 0;
     while i < n {

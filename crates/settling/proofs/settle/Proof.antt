@@ -12,6 +12,7 @@ use Rattle.state.proofs.RowLaws.{table-more}
 use Rattle.state.proofs.StateLaws.{entry-count-le}
 use Rattle.state.proofs.StoreLaws.{column-front, table-standing, entries-standing}
 use Rattle.entries.proofs.TableLaws.{left-given-up, table-given-up}
+use Rattle.entries.proofs.StandingLaws.{marks-standing}
 use Rattle.steps.specs.Steps.{learnt}
 use Rattle.settling.specs.code.Rows.{withTerm}
 use Rattle.settling.proofs.ColumnLaws.{columns-less, data-left, data-left-on}
@@ -37,7 +38,7 @@ learn-requires c κs =
         (a .pre .1 .0 .0, few a),
         (
           table-standing _ _ (a .pre .1 .0 .1) (a .pre .1 .0 .2) _ _ _ (marked .0) _ (omega arith) (a .pre .1 .1 .0),
-          ((p .0, p .1, omega (arith, p .2), p .3), (marked .1 .0 _, a .pre .1 .1 .1 .1 .0)),
+          ((p .0, p .1, omega (arith, p .2), p .3), (marks-standing _ _ (a .pre .1 .0 .1) (a .pre .1 .0 .2) _ _ _ _ _ (marked .0) (marked .1) (omega (arith, few a)), a .pre .1 .1 .1 .1 .0)),
         ),
       ),
     )

@@ -7,7 +7,6 @@ use Rattle.predicates.specs.code.Marks.{markOf}
 use Rattle.state.specs.Layout.{entryPlace, entryAt}
 use Rattle.state.proofs.StateLaws.{entry-count-le}
 use Rattle.state.proofs.StoreLaws.{Column, column-none, column-next, column-done}
-use Rattle.entries.proofs.StandingLaws.{marks-standing}
 use borrow.Author.Needs.{needs}
 use Rattle.entries.proofs.tables.mark_rows.Statement.{statement}
 use Rattle.entries.proofs.tables.mark_rows.Tie as tie
@@ -52,9 +51,8 @@ returns c =
     let head = c .before .loop in
     let a = c .before .before .before .before .before in
     let n = a .args .n in
-    let counted = column-done _ n (head .i) _ _ (head .inv .0) (c .loop-test .left) (a .pre .1 .0) (head .inv .1) in
-    let marked = column-done _ n (head .i) _ _ (head .inv .0) (c .loop-test .left) (a .pre .1 .1) (head .inv .2) in
-    (counted, (λ masks. marks-standing n (a .args .s .now) (a .pre .0 .1) (a .pre .0 .2) _ _ masks _ _ counted marked (a .pre .1 .1), head .inv .2 .long))
+    let done = c .loop-test .left in
+    (column-done _ n (head .i) _ _ (head .inv .0) done (a .pre .1 .0) (head .inv .1), column-done _ n (head .i) _ _ (head .inv .0) done (a .pre .1 .1) (head .inv .2))
 
 pub mark-rows-spec : {M : Type 1} → statement M
 mark-rows-spec =
