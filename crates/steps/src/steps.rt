@@ -64,7 +64,8 @@ fn learn_from(
     entries::tables::learn_sum(s, first, counts, masks, marks, n, q, p)
 }
 
-// Step 1: what the new datum and the held data teach, oldest first. Answers how many rows of entries there are now.
+// Step 1: what the new datum and the held data teach, oldest first. Answers how many rows of entries there are now. What stands in the arrays for
+// rows without terms, and behind the last row, is free.
 pub fn learn_all(
     lefts: &[u64],
     rights: &[u64],
@@ -85,7 +86,9 @@ pub fn learn_all(
     requires { ⌜ Marked (rows .known) (tableFrom (rows .known) (now s) (now counts) (now masks)) (now marks) × BothSplit new ⌝ }
     ensures { λ r. ⌜ (let t : Table = tableFrom (rows .known) (now (s .entry)) (now (counts .exit)) (now (masks .exit)) in
         (r ≤ rows .known + rows .held) × TableFits entryTerms r t × Marked r t (now (marks .exit))
-        × Left (rows .known) (now (counts .entry)) (now (counts .exit))) ⌝ }
+        × Left (rows .known) (now (counts .entry)) (now (counts .exit))
+        × (length (now (counts .exit)) ≡ length (now (counts .entry))) × (length (now (masks .exit)) ≡ length (now (masks .entry)))
+        × (length (now (marks .exit)) ≡ length (now (marks .entry)))) ⌝ }
     ensures { λ r. ⌜ (let c : Columns = columns (now (lefts .entry)) (now (rights .entry)) (now (held .entry)) (now (terms .entry)) in
         let old : Table = tableFrom (rows .known) (now (s .entry)) (now (counts .entry)) (now (masks .entry)) in
         entriesIn r (tableFrom (rows .known) (now (s .entry)) (now (counts .exit)) (now (masks .exit)))

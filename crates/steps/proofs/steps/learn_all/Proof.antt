@@ -105,7 +105,7 @@ returns : tie.Need-returns Inv-loop μ-loop
 returns c =
     let head = c .before .loop in
     let done : head .i ≡ c .before .before .before .before .before .before .before .before .before .before .before .args .rows .held = omega arith in
-    ((omega arith, head .inv .5, head .inv .8, head .inv .9), rw done at (head .inv .6))
+    ((omega arith, head .inv .5, head .inv .8, head .inv .9, head .inv .3, head .inv .4, head .inv .7), rw done at (head .inv .6))
 
 pub learn-all-spec : {M : Type 1} → statement M
 learn-all-spec =
