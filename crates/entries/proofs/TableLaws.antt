@@ -10,7 +10,7 @@ use native.Mathlib.Numerals.{add-one}
 use native.Mathlib.Omega.{arith}
 use native.Mathlib.Decide.{ℕ-discrete, decLt}
 use lib.ListN.{length, getD, take, drop, set, length-append, length-drop, length-set, List·getD-append}
-use lib.Seq.{sets, sets-eq, length-sets, take-at, drop-at, take-append-le, drop-append-le, length-take-le, getD-drop, getD-append-add, set-at, getD-set-same, getD-set-other, drop-cons}
+use lib.Seq.{sets, sets-eq, length-sets, take-at, drop-at, take-append-le, drop-append-le, length-take-le, set-at, getD-set-same, getD-set-other, drop-cons, ext-getD}
 use lib.Dec.{T, not-T}
 use Rattle.names.specs.Sets.{subset}
 use Rattle.numbers.specs.Numbers.{tab}
@@ -20,19 +20,15 @@ use Rattle.predicates.specs.Predicates.{holds, implies, normal}
 use Rattle.predicates.specs.code.Marks.{markOf, Apart}
 use Rattle.entries.specs.Entries.{explained, learn}
 use Rattle.state.specs.code.Tables.{table, TableFits, rowOf, hasTerms, entriesIn}
-use Rattle.entries.specs.code.Marks.{Marked, Left, givenUp}
+use Rattle.entries.specs.code.Marks.{Marked, Left, anyBelow, givenUp}
 use Rattle.predicates.proofs.ListLaws.{T-false, cond-ind, any-in, keep-append, any-append}
 use Rattle.predicates.proofs.IndexLaws.{take-in}
 use Rattle.predicates.proofs.PredicateLaws.{implies-normal}
 use Rattle.predicates.proofs.MarkLaws.{implies-not}
 use Rattle.state.proofs.RowLaws.{row-empty, table-less}
+use Rattle.state.proofs.StoreLaws.{front-rest}
 
 -- ---- a loop that looks for a row
-
--- some row below n passes
-unfoldable pub anyBelow : ℕ → (ℕ → Bool) → Bool
-anyBelow zero f = false
-anyBelow (suc n) f = anyBelow n f || f n
 
 pub any-below-next : (n : ℕ) (f : ℕ → Bool) → anyBelow n f ≡ false → f n ≡ false → anyBelow (n + 1) f ≡ false
 unfolding anyBelow
@@ -72,14 +68,12 @@ module _ (test : ℕ → Bool) (counts : List ℕ) where
   given-up-none = refl
 
   -- a row that has not been reached is as it was
-  pub given-up-at : (i : ℕ) → getD (givenUp i test counts) i 0 ≡ getD counts i 0
+  given-up-behind : (m i : ℕ) → m ≤ i → getD (givenUp m test counts) i 0 ≡ getD counts i 0
   unfolding givenUp
-  given-up-at i =
-      let f : ℕ → ℕ = λ k. cond (test k) 0 (getD counts k 0) in
-      let e : i ≡ length (tab i f) + 0 = omega (arith, length-tab i f) in
-      let z : i + 0 ≡ i = omega arith in
-      ap (λ (k : ℕ). getD (tab i f ++ drop i counts) k 0) e ∙ getD-append-add (tab i f) (drop i counts) 0 0
-      ∙ getD-drop i counts 0 0 ∙ ap (λ (k : ℕ). getD counts k 0) z
+  given-up-behind m = let f : ℕ → ℕ = λ k. cond (test k) 0 (getD counts k 0) in front-rest (tab m f) m counts (tab m f ++ drop m counts) (length-tab m f) refl
+
+  pub given-up-at : (i : ℕ) → getD (givenUp i test counts) i 0 ≡ getD counts i 0
+  given-up-at i = given-up-behind i i (omega arith)
 
   pub length-given-up : (i : ℕ) → i ≤ length counts → length (givenUp i test counts) ≡ length counts
   unfolding givenUp
@@ -114,6 +108,15 @@ module _ (test : ℕ → Bool) (counts : List ℕ) where
       let f : ℕ → ℕ = λ k. cond (test k) 0 (getD counts k 0) in
       List·getD-append (tab n f) (drop n counts) 0 i (omega (arith, length-tab n f)) ∙ getD-tab n i f 0 h
 
+  -- told row by row
+  pub given-up-is : (n : ℕ) (c : List ℕ) → n ≤ length counts → length c ≡ length counts → ((i : ℕ) → i < n → getD c i 0 ≡ cond (test i) 0 (getD counts i 0))
+      → ((i : ℕ) → n ≤ i → getD c i 0 ≡ getD counts i 0) → c ≡ givenUp n test counts
+  given-up-is n c h e front rest = ext-getD 0 c (givenUp n test counts) (e ∙ sym (length-given-up n h)) (λ i l. go i (decLt i n))
+    where
+      go : (i : ℕ) → Dec (i < n) → getD c i 0 ≡ getD (givenUp n test counts) i 0
+      go i (yes l) = front i l ∙ sym (given-up-count n i l)
+      go i (no l) = rest i (omega arith) ∙ sym (given-up-behind n i (omega arith))
+
 -- ---- rows that have been given up or are as they were
 
 pub left-given-up : (n : ℕ) (test : ℕ → Bool) (counts c : List ℕ) → c ≡ givenUp n test counts → Left n counts c
@@ -126,14 +129,6 @@ pub left-learnt : (n v : ℕ) (test : ℕ → Bool) (counts a b : List ℕ) → 
 left-learnt n v test counts a b p q i h f =
     let same : getD b i 0 ≡ getD a i 0 = rw q (getD-set-other a n i v 0 (λ e. omega arith)) in
     same ∙ left-given-up n test counts a p i h (λ z. f (same ∙ z))
-
--- one row
-pub left-zero : (n r : ℕ) (counts : List ℕ) → r < length counts → Left n counts (set counts r 0)
-left-zero n r counts h i l f = go (ℕ-discrete i r)
-  where
-    go : Dec (i ≡ r) → getD (set counts r 0) i 0 ≡ getD counts i 0
-    go (yes p) = absurd (f (ap (λ (k : ℕ). getD (set counts r 0) k 0) p ∙ getD-set-same counts r 0 0 h))
-    go (no p) = getD-set-other counts r i 0 0 p
 
 pub left-trans : (n : ℕ) (a b c : List ℕ) → Left n a b → Left n b c → Left n a c
 left-trans n a b c p q i l f = q i l f ∙ p i l (λ z. f (q i l f ∙ z))
@@ -250,16 +245,6 @@ unfolding explained
 explained-normal [] p = refl
 explained-normal (e ∷ es) p = ap₂ (λ (a b : Bool). a || b) (implies-normal e p) (explained-normal es p)
 
--- what lies behind the rows that were given up
-given-up-behind : (m i : ℕ) (test : ℕ → Bool) (counts : List ℕ) → m ≤ i → getD (givenUp m test counts) i 0 ≡ getD counts i 0
-unfolding givenUp
-given-up-behind m i test counts h =
-    let f : ℕ → ℕ = λ k. cond (test k) 0 (getD counts k 0) in
-    let e : i ≡ length (tab m f) + (i - m) = omega (arith, length-tab m f) in
-    let z : m + (i - m) ≡ i = omega arith in
-    ap (λ (k : ℕ). getD (tab m f ++ drop m counts) k 0) e ∙ getD-append-add (tab m f) (drop m counts) (i - m) 0
-    ∙ getD-drop m counts (i - m) 0 ∙ ap (λ (k : ℕ). getD counts k 0) z
-
 pub table-given-up : (w n m : ℕ) (test : ℕ → Bool) (counts masks : List ℕ) → TableFits w n (table counts masks) → m ≤ n → TableFits w n (table (givenUp m test counts) masks)
 table-given-up w n m test counts masks t h =
     record { counted = omega (arith, t .counted, length-given-up test counts m (omega (arith, t .counted))); long = t .long; narrow = small }
@@ -270,7 +255,7 @@ table-given-up w n m test counts masks t h =
 
     below : (i : ℕ) → Dec (i < m) → getD (givenUp m test counts) i 0 ≤ w
     below i (yes p) = subst (λ (x : ℕ). x ≤ w) (sym (given-up-count test counts m i p)) (bound (test i) (getD counts i 0) (t .narrow i))
-    below i (no p) = subst (λ (x : ℕ). x ≤ w) (sym (given-up-behind m i test counts (omega arith))) (t .narrow i)
+    below i (no p) = subst (λ (x : ℕ). x ≤ w) (sym (given-up-behind test counts m i (omega arith))) (t .narrow i)
 
     small : (i : ℕ) → getD (givenUp m test counts) i 0 ≤ w
     small i = below i (decLt i m)

@@ -1,14 +1,13 @@
 -- Rows of predicates in flat arrays: a row lies within its array, it is a part of it, and it has terms or has been given up.
 -- No contract cites this file. Assumes nothing.
 use Prim.Native.Nat.{ℕ, _+_, _*_, _-_, _≤_, _<_}
-use mathlib.Core.Path.{_≡_, refl, sym, subst}
+use mathlib.Core.Path.{_≡_, refl}
 use mathlib.Core.Bool.{true, false}
 use mathlib.Core.List.{List, [], _∷_}
 use native.Mathlib.Nat.{mul-le-mul-right, suc-mul}
-use native.Mathlib.Decide.{ℕ-discrete, decLt}
 use native.Mathlib.Omega.{arith}
-use lib.ListN.{length, getD, take, drop, set, length-drop, length-set}
-use lib.Seq.{length-take-le, getD-set-same, getD-set-other, set-out}
+use lib.ListN.{length, getD, take, drop, length-drop}
+use lib.Seq.{length-take-le}
 use Rattle.state.specs.code.Tables.{table, TableFits, rowOf, hasTerms}
 
 -- a row lies within its array
@@ -39,7 +38,7 @@ pub row-length : (w i : ℕ) (counts masks : List ℕ) → i * w + getD counts i
 unfolding rowOf
 row-length w i counts masks h = length-take-le (getD counts i 0) (drop (i * w) masks) (omega (arith, length-drop (i * w) masks))
 
--- ---- a table of more or fewer rows, and one with a row given up
+-- ---- a table of more or fewer rows
 
 pub table-less : (w n m : ℕ) (counts masks : List ℕ) → TableFits w n (table counts masks) → m ≤ n → TableFits w m (table counts masks)
 table-less w n m counts masks t h =
@@ -47,12 +46,3 @@ table-less w n m counts masks t h =
 
 pub table-more : (w n k : ℕ) (counts masks : List ℕ) → TableFits w n (table counts masks) → k ≤ length counts → k * w ≤ length masks → TableFits w k (table counts masks)
 table-more w n k counts masks t a b = record { counted = a; long = b; narrow = t .narrow }
-
-pub table-zero : (w n i : ℕ) (counts masks : List ℕ) → TableFits w n (table counts masks) → TableFits w n (table (set counts i 0) masks)
-table-zero w n i counts masks t =
-    record { counted = omega (arith, t .counted, length-set counts i 0); long = t .long; narrow = λ k. go k (ℕ-discrete k i) (decLt i (length counts)) }
-  where
-    go : (k : ℕ) → Dec (k ≡ i) → Dec (i < length counts) → getD (set counts i 0) k 0 ≤ w
-    go k (yes p) (yes q) = subst (λ (j : ℕ). getD (set counts i 0) j 0 ≤ w) (sym p) (omega (arith, getD-set-same counts i 0 0 q))
-    go k (yes p) (no q) = subst (λ (l : List ℕ). getD l k 0 ≤ w) (sym (set-out counts i 0 (omega arith))) (t .narrow k)
-    go k (no p) q = omega (arith, getD-set-other counts i k 0 0 p, t .narrow k)

@@ -253,7 +253,7 @@ column-front f n i s₀ s e h =
     ap (λ l. getD l i 0) e ∙ List·getD-append (tab n f) (drop n s₀) 0 i (omega (arith, length-tab n f)) ∙ getD-tab n i f 0 h
 
 module _ (a : List ℕ) (n : ℕ) (s₀ s : List ℕ) (long : length a ≡ n) (e : s ≡ a ++ drop n s₀) where
-  front-rest : (i : ℕ) → n ≤ i → getD s i 0 ≡ getD s₀ i 0
+  pub front-rest : (i : ℕ) → n ≤ i → getD s i 0 ≡ getD s₀ i 0
   front-rest i h =
       let place : i ≡ length a + (i - n) = omega arith in
       let back : n + (i - n) ≡ i = omega arith in

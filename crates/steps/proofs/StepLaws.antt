@@ -7,9 +7,10 @@ use mathlib.Core.Logic.{_⊎_, inl, inr}
 use mathlib.Core.List.{List, [], _∷_, _++_, append-assoc, append-nil}
 use native.Mathlib.Nat.{add-zero, add-suc}
 use native.Mathlib.Omega.{arith}
+use native.Mathlib.Decide.{ℕ-discrete, decLt}
 use borrow.Author.Tests.{le-ltb, lt-leb, eq-eqb, ne-eqb, eqb-true}
 use lib.Dec.{T, leb, ltb, ltb→lt, eqb}
-use lib.ListN.{length, getD, drop, set, length-append, drop-of-length-le}
+use lib.ListN.{length, getD, drop, set, length-append, length-set, drop-of-length-le}
 use lib.Seq.{getD-set-same, getD-set-other}
 use Rattle.numbers.specs.Numbers.{tab}
 use Rattle.predicates.specs.Lists.{any, keep}
@@ -22,11 +23,12 @@ use Rattle.state.specs.Model.{Datum, datum}
 use Rattle.steps.specs.Steps.{disjoint, learnt, same, meet, met, without, betters}
 use Rattle.entries.specs.Entries.{learn}
 use Rattle.state.specs.code.Tables.{table, entryMasks, tableFrom, TableFits, columns, rowOf, hasTerms, datumIn, dataIn}
-use Rattle.steps.specs.code.Rows.{FirstRow}
+use Rattle.steps.specs.code.Rows.{FirstRow, isFirst}
 use Rattle.numbers.proofs.NumberLaws.{tab-suc, tab-cong}
 use Rattle.predicates.proofs.ListLaws.{both-l, both-r, or-cases, true-T, keep-append}
 use Rattle.state.proofs.RowLaws.{table-more}
-use Rattle.entries.proofs.TableLaws.{anyBelow, any-below-none, any-kept}
+use Rattle.entries.specs.code.Marks.{anyBelow, givenUp}
+use Rattle.entries.proofs.TableLaws.{any-below-none, any-below-here, any-kept, given-up-is}
 
 -- ---- equal lists of terms
 
@@ -133,6 +135,26 @@ module _ (n : Datum) where
   pub without-here : (x : Datum) (ys : List Datum) → same (x .terms) (n .terms) ≡ true → without (n .terms) (x ∷ ys) ≡ ys
   unfolding without
   without-here x ys e = rw e
+
+-- the first row that passes is the one row given up, if there is one
+module _ (n : ℕ) (test : ℕ → Bool) (r : ℕ) (f : FirstRow n test r) (counts : List ℕ) (long : n ≤ length counts) where
+  first-before : (i : ℕ) → i < r → isFirst test i ≡ false
+  unfolding isFirst
+  first-before i h = rw (f .earlier i h)
+
+  pub first-none : r ≡ n → counts ≡ givenUp n (isFirst test) counts
+  first-none e = given-up-is (isFirst test) counts n counts long refl (λ i h. rw (first-before i (omega arith))) (λ i h. refl)
+
+  pub first-given-up : r < n → set counts r 0 ≡ givenUp n (isFirst test) counts
+  unfolding isFirst
+  first-given-up near =
+      given-up-is (isFirst test) counts n (set counts r 0) long (length-set counts r 0) (λ i h. go i (ℕ-discrete i r) (decLt i r))
+      (λ i h. getD-set-other counts r i 0 0 (λ e. omega arith))
+    where
+      go : (i : ℕ) → Dec (i ≡ r) → Dec (i < r) → getD (set counts r 0) i 0 ≡ cond (isFirst test i) 0 (getD counts i 0)
+      go i (yes e) l = rw (e, f .found near, any-below-none r test (f .earlier)) (getD-set-same counts r 0 0 (omega arith))
+      go i (no e) (yes l) = getD-set-other counts r i 0 0 e ∙ rw (first-before i l)
+      go i (no e) (no l) = getD-set-other counts r i 0 0 e ∙ rw (any-below-here i r test (omega arith) (f .found near), and-false)
 
 tab-add : {A : Type 0} (m n : ℕ) (f : ℕ → A) → tab (m + n) f ≡ tab m f ++ tab n (λ j. f (m + j))
 unfolding tab

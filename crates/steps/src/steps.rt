@@ -15,7 +15,7 @@ ghost use Rattle.state.specs.Layout.{stateSize, entriesMost, datumTerms, entryT
 ghost use Rattle.state.specs.code.Tables.{Table, Columns, table, tableFrom, columns, tableOf, TableFits, ColumnsFit};
 ghost use Rattle.state.specs.code.Tables.{rowOf, hasTerms, entriesIn, datumOf, datumIn, dataIn};
 ghost use Rattle.entries.specs.code.Marks.{Marked, Left, givenUp};
-ghost use Rattle.steps.specs.code.Rows.{FirstRow};
+ghost use Rattle.steps.specs.code.Rows.{FirstRow, isFirst};
 use super::Rows;
 use ends::Ends;
 ghost use Rattle.steps.specs.Steps.{disjoint as Steps·disjoint, learnt};
@@ -230,7 +230,8 @@ pub fn meet(
     ensures { λ _. ⌜ (let old : Columns = columns (now (lefts .entry)) (now (rights .entry)) (now (held .entry)) (now (terms .entry)) in
         dataIn h (columns (now (lefts .entry)) (now (rights .entry)) (now (held .exit)) (now (terms .entry)))
         ≡ without (now (p .entry)) (dataIn h old)) ⌝ }
-    ensures { λ _. ⌜ TableFits datumTerms h (table (now (held .exit)) (now (terms .entry))) × Left h (now (held .entry)) (now (held .exit)) ⌝ }
+    ensures { λ _. ⌜ (let t : Table = table (now (held .entry)) (now (terms .entry)) in
+        now (held .exit) ≡ givenUp h (isFirst (λ i. Steps·same (rowOf datumTerms t i) (now (p .entry)))) (now (held .entry))) ⌝ }
 {
     let i = find_same(held, terms, h, p);
     if i == h {

@@ -18,25 +18,32 @@ use Rattle.settling.proofs.place.Tie as tie
 meet-requires : tie.Need-meet-requires
 meet-requires c κs = let a = c .before .before .before .before .before .before .before .before .before in ((columns-less _ _ _ (a .pre .0) (omega arith), a .pre .1 .3), a .pre .1 .0)
 
+-- the columns when step 3 has given a row up
+met-fits : (c : tie.After-meet) → let a = c .before .before .before .before .before .before .before .before .before .before .args in ColumnsFit (a .h) (columns (a .lefts .now) (a .rights .now) (c .meet .last .1 .1 .0) (a .terms .now))
+met-fits c =
+    let a = c .before .before .before .before .before .before .before .before .before .before in
+    let fits = columns-less (a .args .h + 1) (a .args .h) _ (a .pre .0) (omega arith) in
+    record {
+      table = rw (c .meet .ensures .1 .1) (table-given-up 8 _ _ _ _ _ (fits .table) (omega arith));
+      lefts-long = fits .lefts-long;
+      rights-long = fits .rights-long;
+      lefts-split = fits .lefts-split;
+      rights-split = fits .rights-split;
+    }
+
 bettered-requires : tie.Need-bettered-requires
-bettered-requires c κs =
-    let fits = c .before .before .before .before .before .before .before .before .before .before .before .before .before .before .before .before .pre .0 in
-    let met = c .before .before .before .before .before .before .meet .ensures in
-    (record { table = met .1 .1 .0; lefts-long = omega (arith, fits .lefts-long); rights-long = omega (arith, fits .rights-long); lefts-split = fits .lefts-split; rights-split = fits .rights-split }, met .0 .1)
+bettered-requires c κs = let at-meet = c .before .before .before .before .before .before in (met-fits at-meet, at-meet .meet .ensures .0 .1)
 
 returns : tie.Need-returns
 returns c =
-    let fits = c .before .before .before .before .before .before .before .before .before .before .before .before .before .before .before .before .before .before .pre .0 in
-    let met = c .before .before .before .before .before .before .before .before .meet .ensures in (
-      (omega arith, record { table = met .1 .1 .0; lefts-long = omega (arith, fits .lefts-long); rights-long = omega (arith, fits .rights-long); lefts-split = fits .lefts-split; rights-split = fits .rights-split }, data-left _ _ _ _ _ _ (met .1 .1 .1)),
+    let at-meet = c .before .before .before .before .before .before .before .before in
+    let met = at-meet .meet .ensures in (
+      (omega arith, met-fits at-meet, data-left _ _ _ _ _ _ (left-given-up _ _ _ _ (met .1 .1))),
       rw (← (met .0 .0), ← (met .1 .0)) (stored-kept _ _ (sym (c .before .bettered .ensures) ∙ c .if1 .taken)),
     )
 
 drop-bettered-requires : tie.Need-drop-bettered-requires
-drop-bettered-requires c κs =
-    let fits = c .before .before .before .before .before .before .before .before .before .before .before .before .before .before .before .before .before .before .before .before .before .before .pre .0 in
-    let met = c .before .before .before .before .before .before .before .before .before .before .before .before .meet .ensures in
-    (record { table = met .1 .1 .0; lefts-long = omega (arith, fits .lefts-long); rights-long = omega (arith, fits .rights-long); lefts-split = fits .lefts-split; rights-split = fits .rights-split }, met .0 .1)
+drop-bettered-requires c κs = let at-meet = c .before .before .before .before .before .before .before .before .before .before .before .before in (met-fits at-meet, at-meet .meet .ensures .0 .1)
 
 -- the columns have room for one more row still
 room : (c : tie.After-drop-bettered) → let a = c .before .before .before .before .before .before .before .before .before .before .before .before .before .before .before .before .before .before .before .before .before .before .before .args in
@@ -44,7 +51,7 @@ room : (c : tie.After-drop-bettered) → let a = c .before .before .before .befo
 room c =
     let start = c .before .before .before .before .before .before .before .before .before .before .before .before .before .before .before .before .before .before .before .before .before .before .before in
     let fits = start .pre .0 in
-    let more = table-more 8 _ (start .args .h + 1) _ _ (c .before .before .before .before .before .before .before .before .before .before .before .before .before .meet .ensures .1 .1 .0) (omega (arith, fits .table .counted)) (fits .table .long) in
+    let more = table-more 8 _ (start .args .h + 1) _ _ (met-fits (c .before .before .before .before .before .before .before .before .before .before .before .before .before) .table) (omega (arith, fits .table .counted)) (fits .table .long) in
     record {
       table = rw (c .drop-bettered .ensures) (table-given-up 8 _ _ _ _ _ more (omega arith));
       lefts-long = fits .lefts-long;
@@ -68,9 +75,8 @@ left : (c : tie.After-drop-bettered) → let a = c .before .before .before .befo
     Left (a .h) (a .held .now) (c .drop-bettered .last .1 .1 .0)
 left c =
     let at-meet = c .before .before .before .before .before .before .before .before .before .before .before .before .before in
-    let met = at-meet .meet .ensures .1 .1 in
     left-trans _ (at-meet .before .before .before .before .before .before .before .before .before .before .args .held .now) (at-meet .meet .last .1 .1 .0) (c .drop-bettered .last .1 .1 .0)
-    (met .1) (left-given-up _ _ _ _ (c .drop-bettered .ensures))
+    (left-given-up _ _ _ _ (at-meet .meet .ensures .1 .1)) (left-given-up _ _ _ _ (c .drop-bettered .ensures))
 
 add-datum-requires : tie.Need-add-datum-requires
 add-datum-requires c κs = (room (c .before .before .before .before .before .before), c .before .before .before .before .before .before .before .before .before .before .before .before .before .before .before .before .before .before .before .before .before .before .before .before .before .before .before .before .before .pre .1 .1)

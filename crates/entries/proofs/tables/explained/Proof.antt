@@ -10,7 +10,8 @@ use lib.Seq.{length-take-le}
 use Rattle.predicates.specs.Predicates.{implies}
 use Rattle.state.specs.code.Tables.{tableFrom, entryMasks, rowOf, hasTerms}
 use Rattle.state.proofs.RowLaws.{table-less}
-use Rattle.entries.proofs.TableLaws.{anyBelow, any-below-next, any-below-none, any-below-here, rows-apart, explained-rows}
+use Rattle.entries.specs.code.Marks.{anyBelow}
+use Rattle.entries.proofs.TableLaws.{any-below-next, any-below-none, any-below-here, rows-apart, explained-rows}
 use borrow.Author.Needs.{needs}
 use Rattle.entries.proofs.tables.explained.Statement.{statement}
 use Rattle.entries.proofs.tables.explained.Tie as tie

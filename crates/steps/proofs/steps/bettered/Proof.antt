@@ -6,7 +6,8 @@ use mathlib.Core.Bool.{false, _&&_}
 use native.Mathlib.Omega.{arith}
 use Rattle.steps.specs.Steps.{betters}
 use Rattle.state.specs.code.Tables.{table, columns, rowOf, hasTerms, datumOf, datumIn}
-use Rattle.entries.proofs.TableLaws.{anyBelow, any-below-next, any-below-here}
+use Rattle.entries.specs.code.Marks.{anyBelow}
+use Rattle.entries.proofs.TableLaws.{any-below-next, any-below-here}
 use Rattle.state.proofs.RowLaws.{table-room}
 use Rattle.steps.proofs.StepLaws.{bettered-rows}
 use borrow.Author.Needs.{needs}

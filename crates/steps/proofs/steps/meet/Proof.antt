@@ -1,14 +1,12 @@
 -- `steps::steps::meet` meets its contract: no row has the predicate and nothing changes, or the first one that has is given up and met.
 use Prim.Native.Nat.{ℕ, _<_, min, max}
-use mathlib.Core.Path.{refl, sym, ap, ap₂, _∙_}
+use mathlib.Core.Path.{sym, ap, ap₂, _∙_}
 use native.Mathlib.Omega.{arith}
 use lib.ListN.{length}
 use Rattle.steps.specs.Steps.{meet}
 use Rattle.state.specs.Model.{datum}
 use Rattle.state.specs.code.Tables.{datumOf, datumIn}
-use Rattle.steps.proofs.StepLaws.{meet-none, meet-met, meet-without}
-use Rattle.state.proofs.RowLaws.{table-zero}
-use Rattle.entries.proofs.TableLaws.{left-zero}
+use Rattle.steps.proofs.StepLaws.{meet-none, meet-met, meet-without, first-none, first-given-up}
 use borrow.Author.Needs.{needs}
 use Rattle.steps.proofs.steps.meet.Statement.{statement}
 use Rattle.steps.proofs.steps.meet.Tie as tie
@@ -20,7 +18,7 @@ returns : tie.Need-returns
 returns c =
     let a = c .before .before .before .before .before .before .before .before in
     let none = meet-none (a .args .h) (a .args .lefts .now) (a .args .rights .now) (a .args .held .now) (a .args .terms .now) (datumOf (a .args .new) (a .args .p .now)) _ (c .before .find-same .ensures) (c .if1 .taken) in
-    ((sym (none .0), a .pre .0 .1), (sym (none .1), (a .pre .0 .0 .table, λ i l f. refl)))
+    ((sym (none .0), a .pre .0 .1), (sym (none .1), first-none _ _ _ (c .before .find-same .ensures) _ (a .pre .0 .0 .table .counted) (c .if1 .taken)))
 
 returns-2 : tie.Need-returns-2
 unfolding meet datumIn
@@ -40,7 +38,7 @@ returns-2 c =
       ),
       (
         meet-without (a .args .h) (a .args .lefts .now) (a .args .rights .now) (a .args .held .now) (a .args .terms .now) n _ r near long (a .pre .1),
-        (table-zero 8 _ _ _ _ (a .pre .0 .0 .table), left-zero (a .args .h) (at-find .find-same .result) (a .args .held .now) long),
+        first-given-up _ _ _ r _ (a .pre .0 .0 .table .counted) near,
       ),
     )
 
