@@ -1,4 +1,5 @@
 // The least set of failed names of all (document 01, "Fewest failures"): over the left ends, and over every predicate where there is no end.
+ghost use mathlib.Core.Path.{_≡_};
 ghost use Prim.Native.Nat.{_≤_};
 ghost use lib.ListN.{length};
 ghost use Rattle.search.specs.code.Search.{Rows, rowsOf};
@@ -6,7 +7,7 @@ ghost use Rattle.search.specs.code.LeftEnds.{Ready, LeastSet};
 
 // The least set within the limit that explains every claim, or those whose interval lacks the left end of one of rows n to `rows`; 2^29, the
 // mask of no set, where there is none. Of each stretch of ends the last is tried, which needs the fewest claims; where there is an end, every claim
-// is more than it needs.
+// is more than it needs. The search lists rows in `listed`; what it leaves there is free.
 fn least_set(
     lefts: &[u64],
     rights: &[u64],
@@ -25,6 +26,7 @@ fn least_set(
         Ready n rows (now lefts) (now rights) t (now order) × (rows ≤ length (now listed))) ⌝ }
     ensures { λ r. ⌜ (let t : Rows = rowsOf (now (counts .entry)) (now (masks .entry)) (now (several .entry)) (now (singles .entry)) in
         LeastSet n rows (now (lefts .entry)) (now (rights .entry)) t (now (order .entry)) limit free r) ⌝ }
+    ensures { λ _. ⌜ length (now (listed .exit)) ≡ length (now (listed .entry)) ⌝ }
 {
     if n == rows {
         return super::search::predicate_step(
@@ -69,7 +71,7 @@ fn least_set(
     }
 }
 
-// The same set. Every end needs the entries, so where no set within the limit explains these, no end is tried.
+// The same set. Every end needs the entries, so where no set within the limit explains these, no end is tried. What is left in `listed` is free.
 pub fn least_within(
     lefts: &[u64],
     rights: &[u64],
@@ -88,6 +90,7 @@ pub fn least_within(
         Ready n rows (now lefts) (now rights) t (now order) × (rows ≤ length (now listed))) ⌝ }
     ensures { λ r. ⌜ (let t : Rows = rowsOf (now (counts .entry)) (now (masks .entry)) (now (several .entry)) (now (singles .entry)) in
         LeastSet n rows (now (lefts .entry)) (now (rights .entry)) t (now (order .entry)) limit free r) ⌝ }
+    ensures { λ _. ⌜ length (now (listed .exit)) ≡ length (now (listed .entry)) ⌝ }
 {
     let known = super::stretches::list_entries(order, rows, n, listed);
     let some = super::search::predicate_step(

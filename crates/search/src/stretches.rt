@@ -222,7 +222,7 @@ fn latest(
 }
 
 // From the stretch whose last end a set explains to the first end in it that some set explains. A set that explains an end explains all ends before
-// it down to the latest of those that it leaves false.
+// it down to the latest of those that it leaves false. What is left in `listed` is free.
 fn first_in_stretch(
     lefts: &[u64],
     rights: &[u64],
@@ -285,7 +285,7 @@ fn first_in_stretch(
     Reached { end, set }
 }
 
-// The first of the left ends of rows n to `rows` that some set within the limit explains, with the set.
+// The first of the left ends of rows n to `rows` that some set within the limit explains, with the set. What is left in `listed` is free.
 pub fn first_end(
     lefts: &[u64],
     rights: &[u64],

@@ -84,7 +84,7 @@ returns : tie.Need-returns Inv-loop μ-loop
 returns c =
     let head = c .before .before .before .before .before .before .before .before .before .before .before .before .before in
     let inv = head .loop .inv in
-    floor-found (inv .2) (omega arith) (rw (inv .3) at (c .before .before .before .least-within .ensures)) (inv .4) (c .before .if1 .taken) _ (c .count .ensures .0)
+    floor-found (inv .2) (omega arith) (rw (inv .3) at (c .before .before .before .least-within .ensures .0)) (inv .4) (c .before .if1 .taken) _ (c .count .ensures .0)
     ∙ fewest-keyed _ (inv .5)
 
 loop-again : tie.Need-loop-again Inv-loop μ-loop
@@ -95,7 +95,7 @@ loop-again c =
       omega arith,
       inv .2,
       inv .3,
-      floor-next (inv .2) (omega arith) (rw (inv .3) at (c .before .before .least-within .ensures)) (inv .4) (c .if1 .left),
+      floor-next (inv .2) (omega arith) (rw (inv .3) at (c .before .before .least-within .ensures .0)) (inv .4) (c .if1 .left),
       inv .5,
     )
 

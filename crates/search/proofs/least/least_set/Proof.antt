@@ -26,8 +26,7 @@ predicate-step-requires c κs =
     let a = c .before .before .before .before .before .before .before .before .before in (ready-rows (a .pre .0), omega arith, omega (arith, ones-empty))
 
 returns : tie.Need-returns Inv-loop μ-loop
-returns c =
-    least-alone _ _ _ _ _ _ _ _ (c .before .if1 .taken) _ (c .predicate-step .ensures)
+returns c = (least-alone _ _ _ _ _ _ _ _ (c .before .if1 .taken) _ (c .predicate-step .ensures), refl)
 
 loop-holds : tie.Need-loop-holds Inv-loop μ-loop
 loop-holds c = (refl, least-begin _ _ _ _ _ _ _ _)
@@ -44,7 +43,7 @@ returns-2 : tie.Need-returns-2 Inv-loop μ-loop
 returns-2 c =
     let head = c .before .before in
     let a = head .before .before .before .before .before .before .before .before .before .before in
-    least-in _ _ _ _ _ _ _ _ (a .pre .0) _ _ _ (head .loop .inv .1) (c .before .next-end .ensures) (c .if2 .taken) (head .before .if1 .left)
+    (least-in _ _ _ _ _ _ _ _ (a .pre .0) _ _ _ (head .loop .inv .1) (c .before .next-end .ensures) (c .if2 .taken) (head .before .if1 .left), head .loop .inv .0)
 
 stretch-end-requires : tie.Need-stretch-end-requires Inv-loop μ-loop
 stretch-end-requires c κs =

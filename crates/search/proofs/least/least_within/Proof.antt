@@ -1,4 +1,5 @@
 -- `search::least::least_within` meets its contract: a search for the entries, and the ends only where it finds a set.
+use mathlib.Core.Path.{_∙_}
 use native.Mathlib.Omega.{arith}
 use Rattle.names.proofs.SetLaws.{ones-empty}
 use Rattle.search.proofs.EndSteps.{kept-rows, kept-preds}
@@ -20,7 +21,12 @@ returns c =
     let a = at-list .before .before .before .before .before .before .before .before .before .before in
     let out = at-list .list-entries .ensures in
     let same = kept-preds _ _ _ _ _ _ _ _ (a .pre .0) (a .pre .1) _ _ (out .0) (out .1) (out .2) in
-    least-unknown _ _ _ _ _ _ _ _ (a .pre .0) _ (rw same at (c .before .predicate-step .ensures)) (c .if1 .taken)
+    (least-unknown _ _ _ _ _ _ _ _ (a .pre .0) _ (rw same at (c .before .predicate-step .ensures)) (c .if1 .taken), at-list .list-entries .kept .1 .1 .1 .0)
+
+returns-2 : tie.Need-returns-2
+returns-2 c =
+    let at-set = c .before .before in
+    (at-set .least-set .ensures .0, at-set .least-set .ensures .1 ∙ at-set .before .before .before .before .before .before .before .list-entries .kept .1 .1 .1 .0)
 
 pub least-within-spec : {M : Type 1} → statement M
 least-within-spec =
@@ -32,4 +38,4 @@ least-within-spec =
     returns
     (λ c κs. search needs)
     (λ c. search needs)
-    (λ c. search needs))
+    returns-2)
