@@ -525,14 +525,95 @@ fn epochs_of_receipts_refused_32_are_not_heard() {
     assert_eq!((state.held.len(), state.epochs[7]), (MOST_DATA, 1));
     assert_eq!(state.held[MOST_DATA - 1], Datum::of(0, 10, &[ONE, one(7)]));
     // And all places for entries, as with a violation.
-    let pairs = (11..NAMES).flat_map(|n| (11..n).map(move |m| Predicate::of(&[one(m), one(n)])));
     let mut before = fresh();
-    before.entries = pairs.take(MOST_ENTRIES).collect();
+    before.entries = pairs(MOST_ENTRIES).collect();
     before.clocks[2] = saved([(0, 0, 0); 3]);
     let blamed = Some(Readings::of(0, 9, 0, 0));
     refused(&before, &receipt(sent(2, 0, 10, &[ONE]).at(&[(1, 1)]), blamed), 32);
     let (state, _) = taken(&before, &receipt(sent(2, 0, 10, &[one(11)]).at(&[(11, 1)]), blamed));
     assert!(state.entries.len() < MOST_ENTRIES && state.entries.contains(&Predicate::of(&[TWO])));
+}
+
+/// The receipt brings the mended 1, whose withdrawal changes data and entries, and is then refused 32
+/// for too many of one kind, by both programs: every byte is as before. Gives what the withdrawal
+/// alone leaves, which a message that says nothing but the epoch shows.
+fn refused_32_once_withdrawn(before: &State, call: &Call, too_many: Branch) -> State {
+    let (withdrawn, _) = taken(before, &receipt(mended(1, 1), None));
+    assert!(withdrawn.held != before.held && withdrawn.entries != before.entries, "{before:?}");
+    refused(before, call, 32);
+    let (_, bytes, _, branches) = tried(call, &before.bytes(), 0);
+    assert!(bytes == before.bytes(), "{call:?} in {before:?}");
+    let changed = [Branch::DatumRewritten, Branch::EntryRewritten, Branch::FewerTerms, too_many];
+    assert!(changed.iter().all(|&branch| branches.has(branch)), "{call:?} in {before:?}");
+    withdrawn
+}
+
+/// So many entries of two names each, all from 11 on; none implies another.
+fn pairs(count: usize) -> impl Iterator<Item = Predicate> {
+    let all = (11..NAMES).flat_map(|n| (11..n).map(move |m| Predicate::of(&[one(m), one(n)])));
+    all.take(count)
+}
+
+#[test]
+fn epochs_refused_32_for_data_after_a_withdrawal_change_no_byte() {
+    // All places for data are in use. Without the old 1 two data lose names or a term, none goes.
+    let mut before = fresh();
+    before.held = (6..4 + MOST_DATA as u32).map(|n| Datum::of(0, 10, &[one(n)])).collect();
+    before.held.push(Datum::of(0, 9, &[TWO, ONE_AND_THREE]));
+    before.held.push(Datum::of(0, 20, &[ONE_AND_THREE, THREE | one(4)]));
+    before.entries =
+        vec![Predicate::of(&[ONE, TWO]), Predicate::of(&[ONE | one(21), TWO | one(21)])];
+    before.clocks[1] = saved([(0, 0, 0); 3]);
+    let readings = [None, Some(Readings::of(9, 5_000_000, 0, 0))];
+    for message in [sent(1, 0, 10, &[]), sent(4, 0, 10, &[ONE]), sent(4, 0, 10, &[ONE | TWO])] {
+        for readings in readings {
+            let call = receipt(message.clone().at(&[(1, 1)]), readings);
+            let withdrawn = refused_32_once_withdrawn(&before, &call, Branch::TooManyData);
+            assert_eq!((withdrawn.held.len(), withdrawn.entries.len()), (MOST_DATA, 1));
+            assert_eq!(withdrawn.held[MOST_DATA - 1], Datum::of(0, 20, &[THREE]));
+            // With one place more it is taken, and heard.
+            let mut room = before.clone();
+            room.held.remove(0);
+            let (state, _) = taken(&room, &call);
+            assert_eq!((state.held.len(), state.epochs[1]), (MOST_DATA, 1));
+            assert_eq!(state.held[..MOST_DATA - 1], withdrawn.held[1..]);
+        }
+    }
+}
+
+#[test]
+fn epochs_refused_32_for_entries_after_a_withdrawal_change_no_byte() {
+    // All places for entries are in use. Without the old 1 a datum and an entry go, others lose
+    // names; then three data are disjoint from the new one.
+    let mut before = fresh();
+    let rows: [&[Term]; 4] = [&[one(6)], &[ONE], &[one(7)], &[TWO, ONE_AND_THREE]];
+    before.held = rows.map(|p| Datum::of(0, 10, p)).to_vec();
+    before.entries = vec![Predicate::of(&[ONE, TWO]), Predicate::of(&[ONE | one(9), TWO | one(9)])];
+    before.entries.extend(pairs(MOST_ENTRIES - 2));
+    for message in [sent(1, 50, 60, &[]), sent(4, 50, 60, &[ONE])] {
+        let call = receipt(message.at(&[(1, 1)]), None);
+        let withdrawn = refused_32_once_withdrawn(&before, &call, Branch::TooManyEntries);
+        assert_eq!((withdrawn.held.len(), withdrawn.entries.len()), (3, MOST_ENTRIES - 1));
+        // With two places more it is taken, and heard.
+        let mut room = before.clone();
+        room.entries.truncate(MOST_ENTRIES - 2);
+        let (state, _) = taken(&room, &call);
+        assert_eq!((state.entries.len(), state.epochs[1]), (MOST_ENTRIES, 1));
+    }
+    // The place for a violation's entry is missing where the rise frees none.
+    before.entries.remove(0);
+    before.entries.extend(pairs(MOST_ENTRIES - 1).last());
+    before.clocks[2] = saved([(0, 0, 0); 3]);
+    let blamed = Some(Readings::of(0, 9, 0, 0));
+    for terms in [&[ONE][..], &[ONE | one(5)]] {
+        let call = receipt(sent(2, 0, 10, terms).at(&[(1, 1)]), blamed);
+        let withdrawn = refused_32_once_withdrawn(&before, &call, Branch::TooManyEntries);
+        assert_eq!((withdrawn.held.len(), withdrawn.entries.len()), (3, MOST_ENTRIES));
+        let mut room = before.clone();
+        room.entries.pop();
+        let (state, _) = taken(&room, &call);
+        assert_eq!((state.entries.len(), state.epochs[1]), (MOST_ENTRIES, 1));
+    }
 }
 
 /// The table's rows on words, as receipts.
