@@ -6,7 +6,7 @@
 //! both programs, `random` and `samples` make the seeded inputs, `timing` takes times. `book` has
 //! what demand 3 says of a whole run, without any state, and `booked` runs that are made beside it;
 //! `every_set` has asking as the paper words it, which `asking` is a fast form of, and `ranks` has
-//! ends by their order alone.
+//! ends by their order alone. `hotel` is a simulation that uses the engine as hosts do.
 
 pub mod ageing;
 pub mod asking;
@@ -20,6 +20,7 @@ pub mod engine;
 pub mod epochs;
 pub mod every_set;
 pub mod hearing;
+pub mod hotel;
 pub mod instants;
 pub mod lent;
 pub mod listing;
