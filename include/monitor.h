@@ -87,8 +87,9 @@ extern "C" {
  *  states and on states made and climbed for depth. Measured and not proved, so leave some room. Not counted is what the loader takes if it
  *  looks memcpy or memset up at the first call (link with -z now, or statically, and it does not).
  *  It is counted to the lowest byte that a call writes. By the calling convention the 128 bytes below the stack pointer (the red zone) belong to the
- *  running function: an interrupt on the same stack must leave them. On a signal stack the kernel's frame comes first, up to 3.4 kB with wide
- *  registers (getauxval(AT_MINSIGSTKSZ) tells): 10,240 bytes do not suffice there for receiving, and 16,384 suffice for every call. */
+ *  running function: an interrupt on the same stack must leave them. On a signal stack the kernel's frame comes first, up to 3.4 kB where this was
+ *  measured (getauxval(AT_MINSIGSTKSZ) tells; with wider registers it is more): there 10,240 bytes do not suffice for receiving, and 16,384
+ *  suffice for every call. */
 #define MONITOR_STACK_SET_UP 64
 #define MONITOR_STACK_AGE 320
 #define MONITOR_STACK_RECEIVE 9472

@@ -11,7 +11,7 @@ use lib.Dec.{T, T-not, not-T, leb, leb→le, nleb→lt, eqb, eqb→eq, eqb-refl}
 use lib.Pow.{pow-pos}
 use lib.Count.{ones}
 use lib.IntN.{ℤ, pos, negsuc}
-use Rattle.names.specs.Sets.{union, has}
+use Rattle.names.specs.Sets.{setUnion, has}
 use Rattle.names.proofs.SetLaws.{digit-single-same, union-left, union-right, union-above, ones-empty, ones-none, ones-above, has-in, has-mono, has-not-union, has-empty, has-single}
 use Rattle.predicates.specs.Lists.{all, In}
 use Rattle.predicates.specs.Predicates.{holds}
@@ -20,7 +20,7 @@ use Rattle.state.specs.Model.{Datum, Store, State}
 use Rattle.asking.specs.declared.Answer.{Answer}
 use Rattle.asking.specs.declared.Answer.the-variants.{Contradicted, Open, Between}
 use Rattle.asking.specs.Instants.{Within, InAll, Fine, Allowed, Counts, Gives}
-use Rattle.asking.specs.Asking.{interval, cut, common, active, leaves, setsOf, sets, either, leftBy, exact, rounded, answer}
+use Rattle.asking.specs.Asking.{interval, cut, common, active, leaves, setsOf, setsWithin, either, leftBy, exact, rounded, answer}
 use Rattle.asking.proofs.InstantLaws.{within-none, within-wider, within-meet, inall-between}
 
 -- ---- instants give one answer
@@ -142,7 +142,7 @@ module _ (own : ℕ) where
 
   -- the listed sets with the name n
   abbrev higher : ℕ → ℕ → List ℕ
-  higher n limit = map (λ u. union (2 ^ n) u) (setsOf own n limit)
+  higher n limit = map (λ u. setUnion (2 ^ n) u) (setsOf own n limit)
 
   empty-small : (n limit s : ℕ) → s ≡ 0 → Small n limit s
   empty-small n limit s e = (omega (arith, pow-pos n), omega (arith, ap ones e, ones-empty), rw e (has-empty own))
@@ -162,16 +162,16 @@ module _ (own : ℕ) where
           let t = s - 2 ^ n in
           let less : t < 2 ^ n = omega arith in
           let sum : s ≡ 2 ^ n + t = omega arith in
-          let whole : s ≡ union (2 ^ n) t = sum ∙ sym (union-above n t less) in
-          let named : T (has n s) = rw whole (has-mono n (2 ^ n) (union (2 ^ n) t) (union-left (2 ^ n) t) (has-in n (2 ^ n) (digit-single-same n))) in
+          let whole : s ≡ setUnion (2 ^ n) t = sum ∙ sym (union-above n t less) in
+          let named : T (has n s) = rw whole (has-mono n (2 ^ n) (setUnion (2 ^ n) t) (union-left (2 ^ n) t) (has-in n (2 ^ n) (digit-single-same n))) in
           let other : T (not (has own t)) =
-          not-T (has own t) (λ i. T-not (has own s) (h .2) (rw whole (has-mono own t (union (2 ^ n) t) (union-right (2 ^ n) t) i)))
+          not-T (has own t) (λ i. T-not (has own s) (h .2) (rw whole (has-mono own t (setUnion (2 ^ n) t) (union-right (2 ^ n) t) i)))
           in
           let rest = high (less, omega (arith, ap ones sum, ones-above n t less), other) in
           in-r s (setsOf own n (suc limit)) (cond (eqb n own) [] (higher n limit))
           (cond-ind (λ (us : List ℕ). In s us) (eqb n own) [] (higher n limit)
           (λ e. absurd (T-not (has own s) (h .2) (subst (λ (m : ℕ). T (has m s)) (eqb→eq n own e) named)))
-          (λ _. subst (λ (u : ℕ). In u (higher n limit)) (sym whole) (map-in (λ u. union (2 ^ n) u) (setsOf own n limit) t rest)))
+          (λ _. subst (λ (u : ℕ). In u (higher n limit)) (sym whole) (map-in (λ u. setUnion (2 ^ n) u) (setsOf own n limit) t rest)))
 
   setsOf-out : (n limit s : ℕ) → In s (setsOf own n limit) → Small n limit s
   unfolding setsOf
@@ -182,11 +182,11 @@ module _ (own : ℕ) where
   setsOf-out (suc n) (suc limit) s m =
       ⊎-elim (λ i. let r = setsOf-out n (suc limit) s i in (omega arith, r .1, r .2))
       (cond-ind (λ (us : List ℕ). In s us → Small (suc n) (suc limit) s) (eqb n own) [] (higher n limit) (λ _ i. absurd i)
-      (λ e i. top e (setsOf-out n limit) (map-out (λ u. union (2 ^ n) u) (setsOf own n limit) s i)))
+      (λ e i. top e (setsOf-out n limit) (map-out (λ u. setUnion (2 ^ n) u) (setsOf own n limit) s i)))
       (in-cases s (setsOf own n (suc limit)) (cond (eqb n own) [] (higher n limit)) m)
     where
       top : T (not (eqb n own)) → ((t : ℕ) → In t (setsOf own n limit) → Small n limit t)
-          → (t : ℕ) × In t (setsOf own n limit) × (s ≡ union (2 ^ n) t) → Small (suc n) (suc limit) s
+          → (t : ℕ) × In t (setsOf own n limit) × (s ≡ setUnion (2 ^ n) t) → Small (suc n) (suc limit) s
       top e rest r =
           let t = r .0 in
           let low = rest t (r .1) in
@@ -199,12 +199,12 @@ module _ (own : ℕ) where
             rw (r .2) (has-not-union own (2 ^ n) t other (low .2)),
           )
 
-pub allowed-in : (limit own s : ℕ) → Allowed limit own s → In s (sets own limit)
-unfolding sets
+pub allowed-in : (limit own s : ℕ) → Allowed limit own s → In s (setsWithin own limit)
+unfolding setsWithin
 allowed-in limit own s a = setsOf-in own 29 limit s (a .names, a .few, a .others)
 
-pub allowed-out : (limit own s : ℕ) → In s (sets own limit) → Allowed limit own s
-unfolding sets
+pub allowed-out : (limit own s : ℕ) → In s (setsWithin own limit) → Allowed limit own s
+unfolding setsWithin
 allowed-out limit own s m = let r = setsOf-out own 29 limit s m in record { names = r .0; few = r .1; others = r .2 }
 
 -- ---- the answer
@@ -212,11 +212,11 @@ allowed-out limit own s m = let r = setsOf-out own 29 limit s m in record { name
 pub answer-given : (limit : ℕ) (st : State) → Gives (Counts limit st) (exact limit st)
 unfolding exact
 answer-given limit st =
-    gives-same (λ x. (s : ℕ) × In s (sets (st .head .own) limit) × Fine s (st .store) x) (Counts limit st)
-    (leftBy (sets (st .head .own) limit) (st .store))
+    gives-same (λ x. (s : ℕ) × In s (setsWithin (st .head .own) limit) × Fine s (st .store) x) (Counts limit st)
+    (leftBy (setsWithin (st .head .own) limit) (st .store))
     (λ x h. (h .0, allowed-out limit (st .head .own) (h .0) (h .1), h .2))
     (λ x h. (h .0, allowed-in limit (st .head .own) (h .0) (h .1), h .2))
-    (leftBy-given (sets (st .head .own) limit) (st .store))
+    (leftBy-given (setsWithin (st .head .own) limit) (st .store))
 
 pub answer-is : (limit : ℕ) (st : State) (a : Answer) → Gives (Counts limit st) a → a ≡ exact limit st
 answer-is limit st a h = gives-one (Counts limit st) a (exact limit st) h (answer-given limit st)

@@ -13,7 +13,7 @@ use lib.Dec.{T, not-T, leb, leb→le}
 use lib.ListN.{length, getD, take}
 use Rattle.numbers.specs.Numbers.{tab}
 use Rattle.numbers.proofs.NumberLaws.{length-tab, getD-tab}
-use Rattle.names.specs.Sets.{subset, union}
+use Rattle.names.specs.Sets.{subset, setUnion}
 use Rattle.names.specs.code.Parts.{others}
 use Rattle.names.proofs.SetLaws.{empty-subset, subset-trans, union-right, union-least, subset-refl}
 use Rattle.names.proofs.PartLaws.{others-in, others-lt, others-out}
@@ -35,14 +35,14 @@ use Rattle.predicates.proofs.IndexLaws.{in-take, take-in, at-in, in-at}
 
 pub fits-allowed : (limit own u : ℕ) (ps : List (List ℕ)) → Fits limit 0 (others own) ps u → Allowed limit own u
 fits-allowed limit own u ps f =
-    let h : T (subset u (others own)) = subset-trans u (union 0 (others own)) (others own) (f .within) (union-least 0 (others own) (others own) (empty-subset (others own)) (subset-refl (others own))) in
+    let h : T (subset u (others own)) = subset-trans u (setUnion 0 (others own)) (others own) (f .within) (union-least 0 (others own) (others own) (empty-subset (others own)) (subset-refl (others own))) in
     record { names = others-lt own u h; few = f .few; others = others-out own u h }
 
 pub allowed-fits : (limit own u : ℕ) (ps : List (List ℕ)) → Allowed limit own u → T (all (holds u) ps) → Fits limit 0 (others own) ps u
 allowed-fits limit own u ps a h =
     record {
       above = empty-subset u;
-      within = subset-trans u (others own) (union 0 (others own)) (others-in own u (a .names) (a .others)) (union-right 0 (others own));
+      within = subset-trans u (others own) (setUnion 0 (others own)) (others-in own u (a .names) (a .others)) (union-right 0 (others own));
       few = a .few;
       holding = h;
     }

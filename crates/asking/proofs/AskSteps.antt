@@ -25,7 +25,8 @@ use Rattle.state.specs.Form.{inForm}
 use Rattle.state.proofs.StateLaws.{length-held, length-entries, form-ok}
 use Rattle.state.proofs.StoreLaws.{column-front, length-column}
 use Rattle.asking.specs.declared.Answer.the-variants.{Contradicted, Open, Between}
-use Rattle.asking.specs.Asking.{interval, greatestLeft, leastRight, exact, answer}
+use Rattle.asking.specs.Asking.{interval, exact, answer}
+use Rattle.asking.specs.code.Plain.{greatestLeft, leastRight}
 use Rattle.asking.specs.code.Claims.{inside, neededAt, everything, Explained}
 use Rattle.search.specs.code.Search.{Rows, Fits, Best, preds}
 use Rattle.claims.specs.code.Tables.{entryClaim, claimAt, Loaded, Bounded, claimLeft, claimRight}

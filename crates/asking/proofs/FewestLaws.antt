@@ -21,7 +21,7 @@ use Rattle.asking.specs.declared.Answer.the-variants.{Contradicted, Open
 use Rattle.asking.specs.declared.Fewest.{Fewest}
 use Rattle.asking.specs.declared.Fewest.the-variants.{Over, Few}
 use Rattle.asking.specs.Instants.{Fine, Allowed, Counts, Gives}
-use Rattle.asking.specs.Asking.{leaves, sets, exact, rounded, answer}
+use Rattle.asking.specs.Asking.{leaves, setsWithin, exact, rounded, answer}
 use Rattle.asking.specs.code.Claims.{neededAt, everything}
 use Rattle.asking.specs.Fewest.{notContradicted, works, smaller, best, choose, fewest, Works, Smaller, FewestOf}
 use Rattle.asking.proofs.AnswerLaws.{leaves-given, allowed-in, allowed-out, answer-given}
@@ -130,9 +130,9 @@ unfolding fewest
 fewest-is st =
     let k = st .store in
     let own = st .head .own in
-    choose-fewest (Works st) (keep (works k) (sets own 4))
-    (λ s m. let r = keep-out (works k) (sets own 4) s m in works-in st s (allowed-out 4 own s (r .0)) (r .1))
-    (λ s w. keep-in (works k) (sets own 4) s (allowed-in 4 own s (w .0)) (works-out st s w))
+    choose-fewest (Works st) (keep (works k) (setsWithin own 4))
+    (λ s m. let r = keep-out (works k) (setsWithin own 4) s m in works-in st s (allowed-out 4 own s (r .0)) (r .1))
+    (λ s w. keep-in (works k) (setsWithin own 4) s (allowed-in 4 own s (w .0)) (works-out st s w))
 
 -- rounding keeps that an instant counts
 rounded-same : (st : State) → notContradicted (answer 0 st) ≡ notContradicted (exact 0 st)

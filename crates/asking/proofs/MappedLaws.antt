@@ -21,7 +21,7 @@ use Rattle.claims.specs.code.Keys.{scaleOf, stepOf, downBy, upBy, keyOf, mapEnd
 use Rattle.claims.proofs.KeyLaws.{Keyed, scale-last, key-less, key-down, key-up, held-keyed}
 use Rattle.asking.specs.declared.Answer.{Answer}
 use Rattle.asking.specs.declared.Answer.the-variants.{Contradicted, Open, Between}
-use Rattle.asking.specs.Asking.{interval, cut, common, active, leaves, sets, either, leftBy, exact, rounded, answer}
+use Rattle.asking.specs.Asking.{interval, cut, common, active, leaves, setsWithin, either, leftBy, exact, rounded, answer}
 use Rattle.asking.specs.Fewest.{notContradicted, works, fewest, Works, FewestOf}
 use Rattle.asking.specs.code.Claims.{termsOf, everything}
 use Rattle.asking.specs.declared.Fewest.{Fewest}
@@ -170,7 +170,7 @@ module _ (s : List ℕ) (t : T (inForm s)) where
 
   exact-keyed : (limit : ℕ) → Follows key Stored rises (exact limit (keyedState s)) (exact limit (stateOf s))
   unfolding exact keyedState keyed stateOf
-  exact-keyed limit = map-left key Stored rises (storeOf s) stored (sets (stateOf s .head .own) limit)
+  exact-keyed limit = map-left key Stored rises (storeOf s) stored (setsWithin (stateOf s .head .own) limit)
 
   module _ (limit : ℕ) where
     pub answer-keyed : (scale : Scale) → scale ≡ scaleOf s → (b : Answer) → b ≡ exact limit (keyedState s) → unkeyed scale b ≡ answer limit (stateOf s)

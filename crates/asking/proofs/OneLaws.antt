@@ -14,7 +14,7 @@ use lib.Count.{ones}
 use lib.Dec.{T, T-not, not-T, leb, ltb}
 use lib.IntN.{ℤ, pos}
 use lib.ListN.{length}
-use Rattle.names.specs.Sets.{subset, union, minus}
+use Rattle.names.specs.Sets.{subset, setUnion, minus}
 use Rattle.names.specs.code.Parts.{shared, leastName}
 use Rattle.names.proofs.SetLaws.{subset-refl, subset-empty, subset-trans, subset-out, digits-ext, digit-empty, digit-union, digit-lt, union-left, union-right, ones-mono, ones-none, ones-empty}
 use Rattle.names.proofs.PartLaws.{shared-left, shared-right, shared-greatest, subset-same, single-part, digit-minus, minus-add, minus-subset, least-name-in, least-name-one, least-name-least}
@@ -30,7 +30,8 @@ use Rattle.search.specs.code.LeftEnds.{noEnd}
 use Rattle.asking.specs.declared.Answer.{Answer}
 use Rattle.asking.specs.declared.Answer.the-variants.{Contradicted, Between}
 use Rattle.asking.specs.Instants.{Within, InAll, Gives}
-use Rattle.asking.specs.Asking.{interval, greatestLeft, leastRight, active}
+use Rattle.asking.specs.Asking.{interval, active}
+use Rattle.asking.specs.code.Plain.{greatestLeft, leastRight}
 use Rattle.asking.specs.code.One.{masksOf, commonNames, allNames, OneOf, Hull}
 use Rattle.asking.proofs.InstantLaws.{within-none, within-wider}
 use Rattle.asking.proofs.AnswerLaws.{common-given}
@@ -96,15 +97,15 @@ all-names-above : (names : ℕ) (ds : List Datum) → T (subset names (allNames 
 unfolding allNames masksOf
 all-names-above names [] = subset-refl names
 all-names-above names (d ∷ ds) =
-    subset-trans names (union names (singles (d .terms))) _ (union-left names (singles (d .terms))) (all-names-above (union names (singles (d .terms))) ds)
+    subset-trans names (setUnion names (singles (d .terms))) _ (union-left names (singles (d .terms))) (all-names-above (setUnion names (singles (d .terms))) ds)
 
 pub all-names-in : (names : ℕ) (ds : List Datum) (d : Datum) → In d ds → T (subset (singles (d .terms)) (allNames names (masksOf ds)))
 unfolding allNames masksOf
 all-names-in names [] d m = absurd m
 all-names-in names (e ∷ ds) d (inl q) =
-    subst (λ (c : Datum). T (subset (singles (c .terms)) (allNames (union names (singles (e .terms))) (masksOf ds)))) (sym q)
-    (subset-trans (singles (e .terms)) (union names (singles (e .terms))) _ (union-right names (singles (e .terms))) (all-names-above (union names (singles (e .terms))) ds))
-all-names-in names (e ∷ ds) d (inr m) = all-names-in (union names (singles (e .terms))) ds d m
+    subst (λ (c : Datum). T (subset (singles (c .terms)) (allNames (setUnion names (singles (e .terms))) (masksOf ds)))) (sym q)
+    (subset-trans (singles (e .terms)) (setUnion names (singles (e .terms))) _ (union-right names (singles (e .terms))) (all-names-above (setUnion names (singles (e .terms))) ds))
+all-names-in names (e ∷ ds) d (inr m) = all-names-in (setUnion names (singles (e .terms))) ds d m
 
 -- ---- what one set leaves
 
@@ -238,8 +239,8 @@ module _ (names rest : ℕ) (within : T (subset rest names)) where
   -- a name is done or to come
   pub walk-cases : (v : ℕ) → OneOf names v → OneOf (minus names rest) v ⊎ OneOf rest v
   walk-cases v o =
-      let whole : names ≡ union (minus names rest) rest =
-      digits-ext names (union (minus names rest) rest) (λ n.
+      let whole : names ≡ setUnion (minus names rest) rest =
+      digits-ext names (setUnion (minus names rest) rest) (λ n.
       omega (arith, digit-union (minus names rest) rest n, digit-minus names rest n, subset-out rest names within n, digit-lt names n)) in
       ⊎-elim (λ h. inl (o .0, h)) (λ h. inr (o .0, h)) (single-part v (minus names rest) rest (o .0) (subst (λ (x : ℕ). T (subset v x)) whole (o .1)))
 
@@ -265,10 +266,10 @@ module _ (names rest : ℕ) (within : T (subset rest names)) where
     pub walk-within : T (subset next names)
     walk-within = rw after (subset-trans (minus rest c) rest names (minus-subset rest c) within)
 
-    done : minus names next ≡ union (minus names rest) c
+    done : minus names next ≡ setUnion (minus names rest) c
     done =
         rw after
-        (digits-ext (minus names (minus rest c)) (union (minus names rest) c) (λ n.
+        (digits-ext (minus names (minus rest c)) (setUnion (minus names rest) c) (λ n.
         omega (arith, digit-minus names (minus rest c) n, digit-minus rest c n, digit-minus names rest n, digit-union (minus names rest) c n, subset-out c rest c-in n, subset-out rest names within n, digit-lt names n)))
 
     pub walk-old : (v : ℕ) → OneOf (minus names rest) v → OneOf (minus names next) v

@@ -18,7 +18,7 @@ use lib.ListN.{length, getD, take, drop, length-map, drop-of-length-le}
 use lib.Seq.{take-at, drop-cons}
 use Rattle.numbers.specs.Numbers.{num, tab}
 use Rattle.numbers.proofs.NumberLaws.{getD-tab, length-tab, tab-ext, above-zero}
-use Rattle.names.specs.Sets.{noSet, subset, union, has, minus}
+use Rattle.names.specs.Sets.{noSet, subset, setUnion, has, minus}
 use Rattle.names.specs.code.Parts.{shared, others, leastName}
 use Rattle.names.proofs.SetLaws.{ones-none, ones-empty, has-empty, has-single, subset-le, subset-empty, subset-trans, subset-out, digits-ext, digit-empty, digit-union, digit-lt}
 use Rattle.names.proofs.PartLaws.{others-in, others-lt, others-out, shared-greatest, shared-right, shared-left, digit-shared, digit-minus, minus-subset, single-part, least-name-in, least-name-one}
@@ -40,7 +40,8 @@ use Rattle.claims.specs.code.Tables.{entryClaim, claimAt, claimLeft, claimRight
 use Rattle.claims.specs.code.Degrees.{deciding}
 use Rattle.claims.proofs.TableLaws.{datum-claim}
 use Rattle.claims.proofs.KeyLaws.{key-low, held-keyed, mapped-entry}
-use Rattle.asking.specs.Asking.{greatestLeft, leastRight, active, exact, answer}
+use Rattle.asking.specs.Asking.{active, exact, answer}
+use Rattle.asking.specs.code.Plain.{greatestLeft, leastRight}
 use Rattle.asking.specs.declared.Answer.the-variants.{Contradicted, Open, Between}
 use Rattle.asking.specs.code.One.{masksOf, commonNames, allNames, InArrays, OneOf, Lacking, AtMostOne, Hull, LeastLeaving, FewestOne}
 use Rattle.asking.specs.Instants.{Within, InAll, Allowed, Counts}
@@ -64,7 +65,7 @@ module _ (masks : List ℕ) (i : ℕ) where
   unfolding commonNames
   common-done h names = rw (drop-of-length-le masks {i = i} h)
 
-  pub all-turn : i < length masks → (names : ℕ) → allNames (union names (getD masks i 0)) (drop (i + 1) masks) ≡ allNames names (drop i masks)
+  pub all-turn : i < length masks → (names : ℕ) → allNames (setUnion names (getD masks i 0)) (drop (i + 1) masks) ≡ allNames names (drop i masks)
   unfolding allNames
   all-turn h names = rw (drop-next masks i h)
 
@@ -214,9 +215,9 @@ module _ (held : List Datum) {lefts rights masks : List ℕ} (kept : InArrays he
         back v x (inl t) i = (v, inl (rw (sym q) (or-l plain (not (eqb m 0)) (t .0)), t .1), i)
         back v x (inr o) i = ⊎-elim (λ h. (v, inr (o .0, h), i)) fresh (single-part v (shared names some) (minus names some) (o .0) (subst (λ (n : ℕ). T (subset v n)) whole (o .1)))
           where
-            whole : names ≡ union (shared names some) (minus names some)
+            whole : names ≡ setUnion (shared names some) (minus names some)
             whole =
-                digits-ext names (union (shared names some) (minus names some)) (λ n.
+                digits-ext names (setUnion (shared names some) (minus names some)) (λ n.
                 omega (arith, digit-union (shared names some) (minus names some) n, digit-shared names some n, digit-minus names some n, digit-lt names n, digit-lt some n))
 
             fresh : T (subset v (minus names some)) → (u : ℕ) × AtMostOne b (shared names some) u × InAll u held x

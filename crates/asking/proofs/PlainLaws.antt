@@ -21,7 +21,8 @@ use Rattle.predicates.proofs.IndexLaws.{all-mono}
 use Rattle.state.proofs.StateLaws.{state-out}
 use Rattle.asking.specs.declared.Answer.{Answer}
 use Rattle.asking.specs.declared.Answer.the-variants.{Contradicted, Open, Between}
-use Rattle.asking.specs.Asking.{interval, cut, common, greatestLeft, leastRight, active, leaves, setsOf, sets, either, leftBy, exact}
+use Rattle.asking.specs.Asking.{interval, cut, common, active, leaves, setsOf, setsWithin, either, leftBy, exact}
+use Rattle.asking.specs.code.Plain.{greatestLeft, leastRight}
 use Rattle.asking.specs.code.Claims.{everything}
 use Rattle.asking.proofs.ClaimLaws.{claims-in, claims-out}
 use Rattle.state.specs.Layout.{entryTerms}
@@ -77,7 +78,7 @@ either-none (Between l r) = refl
 
 -- it is the only one
 answer-leaves : (st : State) → exact 0 st ≡ leaves 0 (st .store)
-unfolding exact sets setsOf leftBy
+unfolding exact setsWithin setsOf leftBy
 answer-leaves st = either-none (leaves 0 (st .store))
 
 pub all-active : (ds : List Datum) → ((d : Datum) → In d ds → T (not (holds 0 (d .terms)))) → active 0 ds ≡ ds

@@ -10,7 +10,7 @@ use native.Mathlib.Omega.{arith}
 use lib.Dec.{T, T-not, leb, leb→le, le→leb, ltb, ltb→lt}
 use lib.Count.{ones}
 use lib.ListN.{length}
-use Rattle.names.specs.Sets.{subset, union, noSet}
+use Rattle.names.specs.Sets.{subset, setUnion, noSet}
 use Rattle.names.specs.code.Parts.{others}
 use Rattle.names.proofs.SetLaws.{empty-subset, union-left, union-right, union-least, ones-union, ones-empty}
 use Rattle.names.proofs.PartLaws.{others-in, others-lt, others-out}
@@ -84,15 +84,15 @@ module _ (limit : ℕ) (st : State) (ok : T (stateOk st)) where
       let named = both-r (ltb 0 (w .0)) _ fits in
       let inside = others-in own (w .0) (ltb→lt (w .0) noSet (both-l (ltb (w .0) noSet) _ named)) (both-r (ltb (w .0) noSet) _ named) in
       record {
-        set = union (rest .set) (w .0);
+        set = setUnion (rest .set) (w .0);
         few = omega (arith, ones-union (rest .set) (w .0), rest .few, w .2);
         free = union-least (rest .set) (w .0) (others own) (rest .free) inside;
-        holding = λ i h. each rest (w .0) (holds-in (union (rest .set) (w .0)) p (w .0) (w .1) (union-right (rest .set) (w .0))) i h (decLt i m);
+        holding = λ i h. each rest (w .0) (holds-in (setUnion (rest .set) (w .0)) p (w .0) (w .1) (union-right (rest .set) (w .0))) i h (decLt i m);
       }
     where
-      each : (rest : Picked m) (t : ℕ) → T (holds (union (rest .set) t) (claimAt k m .terms)) → (i : ℕ) → i < suc m → Dec (i < m) → T (holds (union (rest .set) t) (claimAt k i .terms))
-      each rest t last i h (yes b) = holds-mono (rest .set) (union (rest .set) t) (claimAt k i .terms) (union-left (rest .set) t) (rest .holding i b)
-      each rest t last i h (no b) = let e : m ≡ i = omega arith in subst (λ (j : ℕ). T (holds (union (rest .set) t) (claimAt k j .terms))) e last
+      each : (rest : Picked m) (t : ℕ) → T (holds (setUnion (rest .set) t) (claimAt k m .terms)) → (i : ℕ) → i < suc m → Dec (i < m) → T (holds (setUnion (rest .set) t) (claimAt k i .terms))
+      each rest t last i h (yes b) = holds-mono (rest .set) (setUnion (rest .set) t) (claimAt k i .terms) (union-left (rest .set) t) (rest .holding i b)
+      each rest t last i h (no b) = let e : m ≡ i = omega arith in subst (λ (j : ℕ). T (holds (setUnion (rest .set) t) (claimAt k j .terms))) e last
 
   pub affordable-open : (rows : ℕ) → rows ≡ every → leb rows limit && allBelow rows (degreeWithin k 1) ≡ true → Open ≡ answer limit st
   affordable-open rows e h =

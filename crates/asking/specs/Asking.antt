@@ -4,7 +4,7 @@ use Prim.Native.Nat.{ℕ, zero, suc, _^_, min, max}
 use mathlib.Core.Bool.{not, cond}
 use mathlib.Core.List.{List, [], _∷_, _++_, map}
 use lib.Dec.{leb, eqb}
-use Rattle.names.specs.Sets.{union}
+use Rattle.names.specs.Sets.{setUnion}
 use Rattle.predicates.specs.Lists.{all, keep}
 use Rattle.predicates.specs.Predicates.{holds}
 use Rattle.ends.specs.Ends.{down, up}
@@ -29,16 +29,6 @@ unfoldable pub common : List Datum → Answer
 common [] = Open
 common (d ∷ ds) = cut d (common ds)
 
--- the greatest of m and the left ends
-unfoldable pub greatestLeft : ℕ → List Datum → ℕ
-greatestLeft m [] = m
-greatestLeft m (d ∷ ds) = greatestLeft (max m (d .left)) ds
-
--- the least of m and the right ends
-unfoldable pub leastRight : ℕ → List Datum → ℕ
-leastRight m [] = m
-leastRight m (d ∷ ds) = leastRight (min m (d .right)) ds
-
 -- the data whose predicate the set leaves false
 unfoldable pub active : ℕ → List Datum → List Datum
 active s ds = keep (λ d. not (holds s (d .terms))) ds
@@ -54,11 +44,11 @@ leaves s k = cond (all (holds s) (k .entries)) (common (active s (k .held))) Con
 unfoldable pub setsOf : ℕ → ℕ → ℕ → List ℕ
 setsOf own zero limit = 0 ∷ []
 setsOf own (suc n) zero = 0 ∷ []
-setsOf own (suc n) (suc limit) = setsOf own n (suc limit) ++ cond (eqb n own) [] (map (λ s. union (2 ^ n) s) (setsOf own n limit))
+setsOf own (suc n) (suc limit) = setsOf own n (suc limit) ++ cond (eqb n own) [] (map (λ s. setUnion (2 ^ n) s) (setsOf own n limit))
 
 -- "A name is 0 to 28."
-unfoldable pub sets : ℕ → ℕ → List ℕ
-sets own limit = setsOf own 29 limit
+unfoldable pub setsWithin : ℕ → ℕ → List ℕ
+setsWithin own limit = setsOf own 29 limit
 
 -- the instants of either: "gaps belong to it"
 unfoldable pub either : Answer → Answer → Answer
@@ -74,7 +64,7 @@ leftBy (s ∷ ss) k = either (leaves s k) (leftBy ss k)
 
 -- with the ends as they are held, in millionths
 unfoldable pub exact : ℕ → State → Answer
-exact limit st = leftBy (sets (st .head .own) limit) (st .store)
+exact limit st = leftBy (setsWithin (st .head .own) limit) (st .store)
 
 -- "Answers and messages round the left end down and the right end up" (document 02, W-205)
 abbrev pub rounded : Answer → Answer

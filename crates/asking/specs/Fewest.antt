@@ -15,7 +15,7 @@ use Rattle.asking.specs.declared.Answer.the-variants.{Contradicted, Open
 use Rattle.asking.specs.declared.Fewest.{Fewest}
 use Rattle.asking.specs.declared.Fewest.the-variants.{Over, Few}
 use Rattle.asking.specs.Instants.{Fine, Allowed}
-use Rattle.asking.specs.Asking.{leaves, sets}
+use Rattle.asking.specs.Asking.{leaves, setsWithin}
 
 -- ---- computed
 
@@ -42,7 +42,7 @@ choose (s ∷ ss) = Few (ones (best s ss)) (best s ss)
 
 -- "among sets of at most 4 names"
 unfoldable pub fewest : State → Fewest
-fewest st = choose (keep (works (st .store)) (sets (st .head .own) 4))
+fewest st = choose (keep (works (st .store)) (setsWithin (st .head .own) 4))
 
 -- ---- what it means
 

@@ -11,7 +11,8 @@ ghost use Rattle.state.specs.Layout.{stateOf, stateSize};
 ghost use Rattle.state.specs.Form.{inForm};
 ghost use Rattle.state.specs.Model.{Datum};
 ghost use Rattle.search.specs.code.LeftEnds.{noEnd};
-ghost use Rattle.asking.specs.Asking.{active, greatestLeft, leastRight, answer};
+ghost use Rattle.asking.specs.Asking.{active, answer};
+ghost use Rattle.asking.specs.code.Plain.{greatestLeft, leastRight};
 ghost use Rattle.asking.specs.code.One.{commonNames, allNames, InArrays, Lacking, AtMostOne, Hull, LeastLeaving, FewestOne};
 use super::Answer;
 

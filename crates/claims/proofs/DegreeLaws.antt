@@ -14,7 +14,7 @@ use lib.Count.{ones}
 use lib.ListN.{length, getD, take, drop}
 use lib.Seq.{take-suc, take-all}
 use Rattle.numbers.specs.Numbers.{num}
-use Rattle.names.specs.Sets.{subset, union}
+use Rattle.names.specs.Sets.{subset, setUnion}
 use Rattle.names.specs.code.Parts.{shared}
 use Rattle.names.proofs.SetLaws.{test-ext, subset-empty}
 use Rattle.names.proofs.PartLaws.{shared-left}
@@ -64,7 +64,7 @@ module _ (at : ℕ) (s : List ℕ) (few : num at 4 s ≤ rowWidth) where
         let inside : i < length row = omega (arith, length-row at s few) in
         ap singles (rw term (rw add-one (take-suc row i 0 inside)))
 
-    pub single-more : isSingle t ≡ true → union names t ≡ singles (take (i + 1) row)
+    pub single-more : isSingle t ≡ true → setUnion names t ≡ singles (take (i + 1) row)
     single-more k = sym (longer ∙ singles-last (take i row) t ∙ rw (k, w))
 
     pub single-other : isSingle t ≡ false → names ≡ singles (take (i + 1) row)

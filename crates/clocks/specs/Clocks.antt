@@ -18,12 +18,9 @@ use Rattle.clocks.specs.declared.Readings.the-variants.{Without, With}
 abbrev pub tripleLimit : ℕ
 tripleLimit = 2 ^ 43
 
+-- "drift above 1,000" is refused, the own one (2) and a sender's (40)
 abbrev pub driftMost : ℕ
 driftMost = 1_000
-
--- own and sender's drift added
-abbrev pub driftsMost : ℕ
-driftsMost = driftMost + driftMost
 
 abbrev pub Fits : Triple → Type 0
 Fits t = (t .there < tripleLimit) × (t .here < tripleLimit) × (t .half < tripleLimit)

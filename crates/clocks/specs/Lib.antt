@@ -1,3 +1,4 @@
 pub mod Clocks
 pub mod Places
 pub mod Worked
+pub mod code

@@ -4,7 +4,8 @@ ghost use mathlib.Core.Path.{_≡_};
 ghost use Prim.Native.Nat.{_+_, _*_, _≤_, _<_};
 ghost use Rattle.clocks.specs.Clocks.{apart as Clocks·apart, strays as Clocks·strays, fails as Clocks·fails};
 ghost use Rattle.clocks.specs.Clocks.{ahead as Clocks·ahead, behind as Clocks·behind, three, violates as Clocks·violates};
-ghost use Rattle.clocks.specs.Clocks.{aheadOf, behindOf, Fits, tripleLimit, driftsMost, readingsFail};
+ghost use Rattle.clocks.specs.Clocks.{aheadOf, behindOf, Fits, tripleLimit, readingsFail};
+ghost use Rattle.clocks.specs.code.Drifts.{driftsMost};
 
 pub mod place;
 

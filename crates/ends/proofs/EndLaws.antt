@@ -1,7 +1,7 @@
 -- Laws of ends in two numbers (`specs.Ends`): comparing the whole microseconds first, and then the millionths, compares the counts.
 -- Assumes nothing.
 use Prim.Native.Nat.{ℕ, _+_, _*_, _/_, _%_, _<_}
-use mathlib.Core.Path.{_≡_, sym, ap, subst, _∙_}
+use mathlib.Core.Path.{_≡_, sym, subst, _∙_}
 use mathlib.Core.List.{List}
 use mathlib.Core.Bool.{_&&_, _||_, not}
 use native.Mathlib.Decide.{ℕ-discrete, decLt}
@@ -10,7 +10,8 @@ use lib.Dec.{ltb, leb, eqb}
 use lib.ListN.{length, getD, set, length-set}
 use lib.Seq.{getD-set-same, getD-set-other}
 use borrow.Author.Tests.{lt-ltb, le-ltb, lt-leb, le-leb, eq-eqb, ne-eqb}
-use Rattle.ends.specs.Ends.{million, count, countOf, Split, endIn, withEnd, AllSplit}
+use Rattle.ends.specs.Ends.{million, count, countOf, Split}
+use Rattle.ends.specs.code.Columns.{endIn, withEnd, AllSplit}
 use Rattle.ends.specs.declared.End.{End}
 
 module _ (w x p q : ℕ) (a : p < million) (b : q < million) where

@@ -1,8 +1,6 @@
 -- Ends with their millionths (document 02, W-205): "Each end now keeps its millionths of a microsecond, 0 to 999,999". The model counts in millionths,
 -- one number an end; code and bytes have two, the whole microseconds and the millionths. Assumes nothing: these are definitions.
 use Prim.Native.Nat.{ℕ, _+_, _*_, _/_, _<_}
-use mathlib.Core.List.{List, [], _∷_}
-use lib.ListN.{getD, set}
 use Rattle.ends.specs.declared.End.{End}
 use Rattle.ends.specs.declared.Ends.{Ends}
 
@@ -30,19 +28,3 @@ down x = x / million
 
 abbrev pub up : ℕ → ℕ
 up x = (x + 999_999) / million
-
--- ---- ends in a column, a flat array: end i has its whole microseconds at 2 i and its millionths behind them
-
--- the two numbers of an end, as a column has them
-abbrev pub endNumbers : End → List ℕ
-endNumbers e = e .whole ∷ e .millionths ∷ []
-
-abbrev pub endIn : List ℕ → ℕ → ℕ
-endIn l i = count (getD l (i * 2) 0) (getD l (i * 2 + 1) 0)
-
--- the column with e as its end i
-abbrev pub withEnd : List ℕ → ℕ → End → List ℕ
-withEnd l i e = set (set l (i * 2) (e .whole)) (i * 2 + 1) (e .millionths)
-
-abbrev pub AllSplit : List ℕ → Type 0
-AllSplit l = (i : ℕ) → getD l (i * 2 + 1) 0 < million

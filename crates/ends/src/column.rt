@@ -2,7 +2,8 @@
 ghost use mathlib.Core.Path.{_≡_};
 ghost use Prim.Native.Nat.{_+_, _*_, _<_};
 ghost use lib.ListN.{length};
-ghost use Rattle.ends.specs.Ends.{countOf, Split, BothSplit, endIn, withEnd, AllSplit};
+ghost use Rattle.ends.specs.Ends.{countOf, Split, BothSplit};
+ghost use Rattle.ends.specs.code.Columns.{endIn, withEnd, AllSplit};
 use super::End;
 use super::Ends;
 

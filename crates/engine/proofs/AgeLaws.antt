@@ -12,7 +12,8 @@ use lib.Dec.{T, leb, ltb, ltb→lt}
 use Rattle.predicates.specs.Lists.{any, all, allBelow}
 use Rattle.numbers.specs.Numbers.{num, tab}
 use Rattle.ends.specs.Ends.{million, count}
-use Rattle.state.specs.Model.{Datum, Store, endLimit, readingLimit, driftMost}
+use Rattle.state.specs.Model.{Datum, Store, endLimit, readingLimit}
+use Rattle.clocks.specs.Clocks.{driftMost}
 use Rattle.state.specs.Layout.{datumAt, heldCount, headOf, storeOf, stateOf, driftAt, readingAt}
 use Rattle.state.specs.Form.{inForm}
 use Rattle.predicates.proofs.IndexLaws.{below-out}

@@ -8,7 +8,7 @@ use native.Mathlib.Omega.{arith}
 use lib.Dec.{T, eqb, leb, leb→le, le→leb}
 use lib.ListN.{length, getD}
 use Rattle.numbers.proofs.NumberLaws.{length-tab, getD-tab, tab-ext}
-use Rattle.names.specs.Sets.{union, has}
+use Rattle.names.specs.Sets.{setUnion, has}
 use Rattle.names.proofs.SetLaws.{has-empty, has-mono, has-union-none, union-left, union-right}
 use Rattle.predicates.specs.Lists.{all}
 use Rattle.predicates.proofs.ListLaws.{both, both-l, both-r, true-T, T-true, T-false, cond-ind}
@@ -28,13 +28,13 @@ use Rattle.engine.specs.code.Hearing.{heardHead}
 
 -- ---- a name of a union is in one of both
 
-pub has-union-l : (n s t : ℕ) → has n s ≡ true → has n (union s t) ≡ true
-has-union-l n s t e = T-true (has n (union s t)) (has-mono n s (union s t) (union-left s t) (true-T (has n s) e))
+pub has-union-l : (n s t : ℕ) → has n s ≡ true → has n (setUnion s t) ≡ true
+has-union-l n s t e = T-true (has n (setUnion s t)) (has-mono n s (setUnion s t) (union-left s t) (true-T (has n s) e))
 
-pub has-union-r : (n s t : ℕ) → has n t ≡ true → has n (union s t) ≡ true
-has-union-r n s t e = T-true (has n (union s t)) (has-mono n t (union s t) (union-right s t) (true-T (has n t) e))
+pub has-union-r : (n s t : ℕ) → has n t ≡ true → has n (setUnion s t) ≡ true
+has-union-r n s t e = T-true (has n (setUnion s t)) (has-mono n t (setUnion s t) (union-right s t) (true-T (has n t) e))
 
-pub has-union-neither : (n s t : ℕ) → has n s ≡ false → has n t ≡ false → has n (union s t) ≡ false
+pub has-union-neither : (n s t : ℕ) → has n s ≡ false → has n t ≡ false → has n (setUnion s t) ≡ false
 has-union-neither n s t e f = has-union-none n s t (subst (λ (b : Bool). T (not b)) (sym f) tt) ∙ e
 
 -- ---- the places

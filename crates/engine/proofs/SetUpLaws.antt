@@ -12,7 +12,8 @@ use Rattle.clocks.specs.Places.{placeSize, savedBytes}
 use Rattle.numbers.specs.Numbers.{bytes, put}
 use Rattle.numbers.proofs.NumberLaws.{length-bytes, put-set}
 use Rattle.epochs.specs.Epochs.{epochMost, epochsMost}
-use Rattle.state.specs.Model.{nameMost, driftMost, readingLimit}
+use Rattle.state.specs.Model.{nameMost, readingLimit}
+use Rattle.clocks.specs.Clocks.{driftMost}
 use Rattle.state.specs.Layout.{stateSize, ownAt, driftAt, readingAt, heldAt, knownAt, dataAt, dataMost, datumSize, entriesAt, entriesMost, entrySize, clocksAt, clocksMost, epochsAt, zeros, joined, dataBytes, entriesBytes, parts, stateBytes}
 use Rattle.state.proofs.PartLaws.{cutFrom, begins-any, part-stored}
 use Rattle.engine.specs.Calls.{Setup, begun, setUp}

@@ -7,7 +7,8 @@ use lib.Dec.{eqb, leb, ltb}
 use lib.ListN.{length}
 use Rattle.predicates.specs.Lists.{any}
 use Rattle.epochs.specs.Epochs.{epochMost}
-use Rattle.state.specs.Model.{Datum, Head, Store, State, nameMost, driftMost, endLimit, readingLimit}
+use Rattle.state.specs.Model.{Datum, Head, Store, State, nameMost, endLimit, readingLimit}
+use Rattle.clocks.specs.Clocks.{driftMost}
 use Rattle.state.specs.Layout.{datumTerms}
 use Rattle.state.specs.Refusal.{refuse}
 use Rattle.engine.specs.Ageing.{slow, fast, aged}

@@ -1,18 +1,19 @@
 -- The laws of epochs by identifier. `digit-older` carries them: an identifier is among the older ones exactly if its epoch is below the other.
 -- Assumes nothing.
-use Prim.Native.Nat.{ℕ, zero, suc, _+_, _*_, _/_, _%_, _≤_, _<_, _^_, max}
+use Prim.Native.Nat.{ℕ, zero, suc, _+_, _/_, _≤_, _<_, max}
 use mathlib.Core.Path.{_≡_, refl, sym, ap, ap₂, subst, _∙_}
 use mathlib.Core.Logic.{_⊎_, inl, inr, ⊎-elim}
 use mathlib.Core.Bool.{Bool, true, false, not, _&&_, cond}
 use mathlib.Core.List.{List, [], _∷_, _++_}
 use native.Mathlib.Omega.{arith}
 use native.Mathlib.Decide.{ℕ-discrete}
-use lib.Dec.{T, T-not, eqb, eqb-refl, ltb, ltb→lt, nltb→le, eqb→eq}
-use lib.ListN.{length, getD, set, take, drop, length-set, length-append, take-append-drop, List·getD-eq-default}
+use lib.Dec.{T, T-not, eqb, eqb-refl, ltb, ltb→lt, nltb→le}
+use lib.ListN.{length, getD, set, take, drop, length-set, length-append, take-append-drop}
 use lib.Seq.{slice, sets, length-sets, take-take, set-getD, sets-eq, getD-set-same, getD-set-other, take-suc, length-slice, length-take-le, take-at, drop-at, getD-drop, getD-take}
 use Rattle.numbers.specs.Numbers.{put}
 use Rattle.numbers.proofs.NumberLaws.{put-set, length-tab, getD-tab, tab-ext}
-use Rattle.names.specs.Sets.{union, digit}
+use Rattle.names.specs.Sets.{setUnion}
+use Rattle.names.specs.code.Parts.{digit}
 use Rattle.names.proofs.SetLaws.{digit-zero, digit-suc, digit-empty, digit-union, digits-ext, digit-single-same, digit-single-other, union-none}
 use Rattle.predicates.proofs.ListLaws.{split, cond-ind}
 use Rattle.epochs.specs.Epochs.{epochsMost, epochsIn, identifierOf, epochOf, digitOf, older, raised, NotAbove, told, spoken}
@@ -112,9 +113,9 @@ module _ (ks es : List ℕ) (fits : length es ≤ length ks) where
       older-same es (raised ks es) es ks (λ n h. omega (arith, h, getD-raised ks es n fits)) (λ n h. omega (arith, h, getD-raised ks es n fits))
 
   -- what is older once es are heard: what was older, and what they withdraw
-  pub older-raised : (fs : List ℕ) → NotAbove fs ks → older fs (raised ks es) ≡ union (older fs ks) (older ks es)
+  pub older-raised : (fs : List ℕ) → NotAbove fs ks → older fs (raised ks es) ≡ setUnion (older fs ks) (older ks es)
   older-raised fs below-known =
-      digits-ext (older fs (raised ks es)) (union (older fs ks) (older ks es)) (λ n.
+      digits-ext (older fs (raised ks es)) (setUnion (older fs ks) (older ks es)) (λ n.
       let r = getD-raised ks es n fits in
       let b = below-known n in
       let x = digit-older fs (raised ks es) n in
@@ -195,8 +196,8 @@ spoken-ahead own ws ks named (suc i) j h k =
 
 -- a mask that differs from another by one identifier at most
 one-more : (x y : ℕ) (b : Bool) (n : ℕ) → ((m : ℕ) → (m ≡ n → ⊥) → digit x m ≡ digit y m) → digit y n ≡ 0 → digit x n ≡ digitOf b
-    → x ≡ union y (bitWhere b n)
-one-more x y b n others none here = digits-ext x (union y (bitWhere b n)) (λ m. digit-at m (ℕ-discrete m n) ∙ sym (digit-union y (bitWhere b n) m))
+    → x ≡ setUnion y (bitWhere b n)
+one-more x y b n others none here = digits-ext x (setUnion y (bitWhere b n)) (λ m. digit-at m (ℕ-discrete m n) ∙ sym (digit-union y (bitWhere b n) m))
   where
     same : (b : Bool) → digit (bitWhere b n) n ≡ digitOf b
     same true = digit-single-same n
@@ -215,7 +216,7 @@ module _ (ks es : List ℕ) (n e : ℕ) (inside : n < length es) (agree : getD e
   alike : (a b : ℕ) → a ≡ b → digitOf (ltb a b) ≡ 0
   alike a b q = ⊎-elim (λ x. absurd (omega (arith, x .0, q))) (λ x. x .1) (below a b)
 
-  pub risen-set : older ks (set es n e) ≡ union (older ks es) (bitWhere (ltb (getD ks n 0) e) n)
+  pub risen-set : older ks (set es n e) ≡ setUnion (older ks es) (bitWhere (ltb (getD ks n 0) e) n)
   risen-set =
       one-more
       (older ks (set es n e))
@@ -226,7 +227,7 @@ module _ (ks es : List ℕ) (n e : ℕ) (inside : n < length es) (agree : getD e
       (digit-older ks es n ∙ alike (getD ks n 0) (getD es n 0) (sym agree))
       (digit-older ks (set es n e) n ∙ ap (λ (x : ℕ). digitOf (ltb (getD ks n 0) x)) (getD-set-same es n e 0 inside))
 
-  pub late-set : older (set es n e) ks ≡ union (older es ks) (bitWhere (ltb e (getD ks n 0)) n)
+  pub late-set : older (set es n e) ks ≡ setUnion (older es ks) (bitWhere (ltb e (getD ks n 0)) n)
   late-set =
       one-more
       (older (set es n e) ks)
@@ -255,26 +256,26 @@ module _ (own : ℕ) (ws ks : List ℕ) (named : Named ws) (long : length ks ≡
   known = spoken-ahead own ws ks named i i (omega arith) more
 
   pub risen-turn : older ks (spoken own (take (i + 1) ws) ks)
-      ≡ union (older ks now-heard) (bitWhere (not (eqb at own) && ltb (getD ks at 0) (epochOf (getD ws i 0))) at)
+      ≡ setUnion (older ks now-heard) (bitWhere (not (eqb at own) && ltb (getD ks at 0) (epochOf (getD ws i 0))) at)
   unfolding told
   risen-turn =
       ap (λ (l : List ℕ). older ks l) (spoken-next own ws ks i more)
       ∙ go (eqb at own)
     where
       go : (b : Bool) → older ks (cond b now-heard (set now-heard at (epochOf (getD ws i 0))))
-          ≡ union (older ks now-heard) (bitWhere (not b && ltb (getD ks at 0) (epochOf (getD ws i 0))) at)
+          ≡ setUnion (older ks now-heard) (bitWhere (not b && ltb (getD ks at 0) (epochOf (getD ws i 0))) at)
       go true = sym (union-none (older ks now-heard))
       go false = risen-set ks now-heard at (epochOf (getD ws i 0)) within known
 
   pub late-turn : older (spoken own (take (i + 1) ws) ks) ks
-      ≡ union (older now-heard ks) (bitWhere (not (eqb at own) && ltb (epochOf (getD ws i 0)) (getD ks at 0)) at)
+      ≡ setUnion (older now-heard ks) (bitWhere (not (eqb at own) && ltb (epochOf (getD ws i 0)) (getD ks at 0)) at)
   unfolding told
   late-turn =
       ap (λ (l : List ℕ). older l ks) (spoken-next own ws ks i more)
       ∙ go (eqb at own)
     where
       go : (b : Bool) → older (cond b now-heard (set now-heard at (epochOf (getD ws i 0)))) ks
-          ≡ union (older now-heard ks) (bitWhere (not b && ltb (epochOf (getD ws i 0)) (getD ks at 0)) at)
+          ≡ setUnion (older now-heard ks) (bitWhere (not b && ltb (epochOf (getD ws i 0)) (getD ks at 0)) at)
       go true = sym (union-none (older now-heard ks))
       go false = late-set ks now-heard at (epochOf (getD ws i 0)) within known
 

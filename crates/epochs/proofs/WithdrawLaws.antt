@@ -9,7 +9,7 @@ use native.Mathlib.Nat.{suc-add}
 use lib.Dec.{T, eqb, eqb→eq}
 use lib.ListN.{length, getD, set, take, drop, replicate, length-map, length-replicate, take-append-drop}
 use lib.Seq.{sets, sets-eq, length-take-le, take-at, drop-at}
-use Rattle.names.specs.Sets.{union, minus, subset}
+use Rattle.names.specs.Sets.{setUnion, minus, subset}
 use Rattle.names.specs.code.Parts.{shared}
 use Rattle.names.proofs.SetLaws.{union-left, union-none, subset-empty, empty-subset}
 use Rattle.names.proofs.PartLaws.{minus-in, minus-none}
@@ -21,13 +21,13 @@ use Rattle.predicates.proofs.PlaceLaws.{length-normal}
 use Rattle.epochs.specs.Epochs.{withdraw}
 
 -- without the names of r, term by term
-map-holds : (s r : ℕ) (p : List ℕ) → holds s (map (λ t. minus t r) p) ≡ holds (union s r) p
+map-holds : (s r : ℕ) (p : List ℕ) → holds s (map (λ t. minus t r) p) ≡ holds (setUnion s r) p
 unfolding holds
 map-holds s r [] = refl
 map-holds s r (t ∷ p) = ap₂ _||_ (minus-in t r s) (map-holds s r p)
 
 -- a set makes it true exactly if it does so together with the names that count as failed
-pub withdraw-holds : (s r : ℕ) (p : List ℕ) → holds s (withdraw r p) ≡ holds (union s r) p
+pub withdraw-holds : (s r : ℕ) (p : List ℕ) → holds s (withdraw r p) ≡ holds (setUnion s r) p
 unfolding withdraw
 withdraw-holds s r p = holds-normal s (map (λ t. minus t r) p) ∙ map-holds s r p
 
@@ -67,13 +67,13 @@ withdraw-zero p n = sym (normal-only p (map (λ t. minus t 0) p) n (λ s. sym (m
 pub withdraw-implies : (r : ℕ) (e p : List ℕ) → T (implies e p) → T (implies e (withdraw r p))
 withdraw-implies r e p h =
     implies-in e (withdraw r p) (λ s k.
-    subst (λ (b : Bool). T b) (sym (withdraw-holds s r p)) (holds-mono s (union s r) p (union-left s r) (implies-out e p h s k)))
+    subst (λ (b : Bool). T b) (sym (withdraw-holds s r p)) (holds-mono s (setUnion s r) p (union-left s r) (implies-out e p h s k)))
 
 -- what is true stays true
 pub withdraw-true : (r : ℕ) (p : List ℕ) → T (isTrue p) → T (isTrue (withdraw r p))
 unfolding isTrue
 withdraw-true r p h =
-    let k = holds-out 0 (withdraw r p) (subst (λ (b : Bool). T b) (sym (withdraw-holds 0 r p)) (true-holds (union 0 r) p h)) in
+    let k = holds-out 0 (withdraw r p) (subst (λ (b : Bool). T b) (sym (withdraw-holds 0 r p)) (true-holds (setUnion 0 r) p h)) in
     any-in (λ t. eqb t 0) (withdraw r p) (k .0) (k .1) (subst (λ (t : ℕ). T (eqb t 0)) (sym (subset-empty (k .0) (k .2))) tt)
 
 -- ---- in place

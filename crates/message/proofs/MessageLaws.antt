@@ -18,8 +18,8 @@ use Rattle.predicates.specs.Predicates.{isNormal}
 use Rattle.predicates.proofs.ListLaws.{both-l, both-r, T-true, true-T}
 use Rattle.predicates.proofs.LoopLaws.{drop-next}
 use Rattle.message.specs.Words.{payloadSize, endsLimit, termsMost, kindOf, payload, word, ofKind, masks, check}
-use Rattle.message.specs.Read.{isEnds, width, spanKinds, middle, kindsFit, checkFits, pair, span, readFrom, readWords, termWords}
-use Rattle.message.specs.Write.{endWords, front, body, messageWords, rewrittenAs, rewritten}
+use Rattle.message.specs.Read.{isEnds, width, spanKinds, middle, kindsFit, checkFits, pair, span, readFrom, readPlain, termWords}
+use Rattle.message.specs.Write.{endWords, front, body, messageWords, rewrittenPlainAs, rewrittenPlain}
 use Rattle.message.specs.declared.Interval.the-variants.{Span, Bad}
 use Rattle.message.specs.declared.Reading.{Reading}
 use Rattle.message.specs.declared.Reading.the-variants.{Message, Refused}
@@ -212,7 +212,7 @@ module _ (s l r : ℕ) (ts : List ℕ) where
   length-message = omega (arith, length-message-more s [] l r ts)
 
   module _ (a : s ≤ 28) (b : l ≤ r) (c : r < endsLimit) (d : length ts ≤ termsMost) (e : T (isNormal ts)) (m : Masks ts) where
-    pub read-write : readWords (messageWords s [] l r ts) ≡ Message s l r (length ts)
+    pub read-write : readPlain (messageWords s [] l r ts) ≡ Message s l r (length ts)
     read-write = read-in (taken-message s [] l r ts a b c d e m)
 
     pub terms-write : masks (termWords (Message s l r (length ts)) (messageWords s [] l r ts)) ≡ ts
@@ -352,45 +352,45 @@ module _ {s l r n : ℕ} (at : ℕ) (ws : List ℕ) (p : 0 < at) (e : readFrom a
 
 -- ---- rewriting
 
-module _ {s l r n : ℕ} (ws : List ℕ) (e : readWords ws ≡ Message s l r n) where
+module _ {s l r n : ℕ} (ws : List ℕ) (e : readPlain ws ≡ Message s l r n) where
   from : readFrom 1 ws ≡ Message s l r n
   from = from-in (read-out ws e)
 
-  rewritten-as : rewritten ws ≡ again 1 s l r ws
-  unfolding rewritten rewrittenAs
+  rewritten-as : rewrittenPlain ws ≡ again 1 s l r ws
+  unfolding rewrittenPlain rewrittenPlainAs
   rewritten-as = rw (e, terms-middle (read-out ws e), slice-empty 1 ws)
 
-  taken-rewritten : Taken 1 true (rewritten ws) s l r n
+  taken-rewritten : Taken 1 true (rewrittenPlain ws) s l r n
   taken-rewritten = rw rewritten-as (taken-again 1 ws (omega arith) from)
 
   -- an accepted message in ends form is rewritten as the same words
-  pub rewrite-ends : T (isEnds 1 ws) → rewritten ws ≡ ws
+  pub rewrite-ends : T (isEnds 1 ws) → rewrittenPlain ws ≡ ws
   rewrite-ends h = rewritten-as ∙ again-ends 1 ws (omega arith) from h
 
   -- any accepted message is rewritten in ends form, with the same sender, interval and terms
-  pub rewrite-form : T (isEnds 1 (rewritten ws))
+  pub rewrite-form : T (isEnds 1 (rewrittenPlain ws))
   rewrite-form = true-T _ (taken-rewritten .form)
 
-  pub rewrite-length : length (rewritten ws) ≡ n + 6
+  pub rewrite-length : length (rewrittenPlain ws) ≡ n + 6
   unfolding width
   rewrite-length = omega (arith, taken-rewritten)
 
-  pub rewrite-reads : readWords (rewritten ws) ≡ readWords ws
+  pub rewrite-reads : readPlain (rewrittenPlain ws) ≡ readPlain ws
   rewrite-reads = read-in taken-rewritten ∙ sym e
 
-  pub rewrite-terms : masks (termWords (readWords (rewritten ws)) (rewritten ws)) ≡ masks (termWords (readWords ws) ws)
+  pub rewrite-terms : masks (termWords (readPlain (rewrittenPlain ws)) (rewrittenPlain ws)) ≡ masks (termWords (readPlain ws) ws)
   rewrite-terms =
       let ts = masks (middle 1 (isEnds 1 ws) ws) in
-      let written : rewritten ws ≡ messageWords s [] l r ts = rw (rewritten-as, slice-empty 1 ws) in
+      let written : rewrittenPlain ws ≡ messageWords s [] l r ts = rw (rewritten-as, slice-empty 1 ws) in
       rw (rewrite-reads, e, terms-middle taken-rewritten, terms-middle (read-out ws e), written, middle-message s [] l r ts)
       (masks-terms ts (masks-lt _))
 
 -- what is rewritten, or the nothing of a refused message, is words below 2 ^ 32
-pub words-rewritten : (ws : List ℕ) → Words (rewritten ws)
-unfolding rewritten rewrittenAs
-words-rewritten ws = by (readWords ws) refl
+pub words-rewritten : (ws : List ℕ) → Words (rewrittenPlain ws)
+unfolding rewrittenPlain rewrittenPlainAs
+words-rewritten ws = by (readPlain ws) refl
   where
-    by : (x : Reading) → readWords ws ≡ x → Words (rewritten ws)
+    by : (x : Reading) → readPlain ws ≡ x → Words (rewrittenPlain ws)
     by (Refused k) e = rw e words-none
     by (Message s l r n) e =
         let t = read-out ws e in

@@ -1,5 +1,5 @@
 -- What a taken reading tells of its words, and the way back: `Taken` holds the facts, `from-out` and `from-in`
--- join them to `readFrom`, `read-out` and `read-in` to `readWords`. `Shaped` holds those that come before the check word.
+-- join them to `readFrom`, `read-out` and `read-in` to `readPlain`. `Shaped` holds those that come before the check word.
 -- The idea: each refusal that did not come is a fact. Kinds fix the top bits of every word, so a taken message needs no further bound on
 -- its words, and the words of kind 6 are those between the interval and the last. No contract cites this file. Assumes nothing.
 use Prim.Native.Nat.{ℕ, zero, suc, _+_, _*_, _-_, _/_, _≤_, _<_}
@@ -14,9 +14,9 @@ use borrow.Author.Tests.{le-ltb, le-leb, eq-eqb, ne-eqb}
 use Rattle.predicates.specs.Lists.{all, keep}
 use Rattle.predicates.specs.Predicates.{isNormal}
 use Rattle.predicates.proofs.ListLaws.{both-l, both-r, T-true, true-T, cond-ind}
-use Rattle.message.specs.Words.{endsLimit, termsMost, wordsLeast, wordsMost, kindOf, payload, word, ofKind, masks}
-use Rattle.message.specs.Read.{opens, senderOf, countOf, headWordFits, isEnds, width, start, spanKinds, middle, kindsFit, checkFits, pair}
-use Rattle.message.specs.Read.{span, withSpan, shapeRefusal, contents, refusedOr, readFrom, readWords, termWords}
+use Rattle.message.specs.Words.{endsLimit, termsMost, plainWordsLeast, plainWordsMost, kindOf, payload, word, ofKind, masks}
+use Rattle.message.specs.Read.{opens, senderOf, termCount, headWordFits, isEnds, width, start, spanKinds, middle, kindsFit, checkFits, pair}
+use Rattle.message.specs.Read.{span, withSpan, shapeRefusal, contents, refusedOr, readFrom, readPlain, termWords}
 use Rattle.message.specs.declared.Interval.{Interval}
 use Rattle.message.specs.declared.Interval.the-variants.{Span, Bad}
 use Rattle.message.specs.declared.Reading.{Reading}
@@ -28,7 +28,7 @@ pub record Taken (at : ℕ) (ends : Bool) (ws : List ℕ) (s l r n : ℕ) : Type
   pub size : length ws ≡ start at ends + n + 1
   pub head : getD ws 0 0 ≡ word 1 (s + 32 * n)
   pub sender : s ≡ senderOf (getD ws 0 0)
-  pub count : n ≡ countOf (getD ws 0 0)
+  pub count : n ≡ termCount (getD ws 0 0)
   pub sender-le : s ≤ 28
   pub count-le : n ≤ termsMost
   pub kinds : T (kindsFit at ends ws)
@@ -40,19 +40,19 @@ pub record Taken (at : ℕ) (ends : Bool) (ws : List ℕ) (s l r n : ℕ) : Type
 
 -- ---- the head
 
-head-out : (h : ℕ) → T (headWordFits h) → (h ≡ word 1 (senderOf h + 32 * countOf h)) × (senderOf h ≤ 28) × (countOf h ≤ termsMost)
+head-out : (h : ℕ) → T (headWordFits h) → (h ≡ word 1 (senderOf h + 32 * termCount h)) × (senderOf h ≤ 28) × (termCount h ≤ termsMost)
 unfolding headWordFits
 head-out h t =
     let a : T (eqb (kindOf h) 1) = search both-l depth 9 in
     let b : T (leb (senderOf h) 28) = search (both-l, both-r) depth 9 in
-    let c : T (leb (countOf h) termsMost) = search (both-l, both-r) depth 9 in
+    let c : T (leb (termCount h) termsMost) = search (both-l, both-r) depth 9 in
     let d : T (eqb (payload h / 1024) 0) = search (both-l, both-r) depth 9 in
     omega (arith, eqb→eq, leb→le)
 
 head-in : (h s n : ℕ) → h ≡ word 1 (s + 32 * n) → s ≤ 28 → n ≤ termsMost → headWordFits h ≡ true
 unfolding headWordFits
 head-in h s n e a b =
-    rw (eq-eqb (kindOf h) 1 (omega arith), le-leb (senderOf h) 28 (omega arith), le-leb (countOf h) termsMost (omega arith), eq-eqb (payload h / 1024) 0 (omega arith))
+    rw (eq-eqb (kindOf h) 1 (omega arith), le-leb (senderOf h) 28 (omega arith), le-leb (termCount h) termsMost (omega arith), eq-eqb (payload h / 1024) 0 (omega arith))
 
 -- ---- the kinds
 
@@ -95,7 +95,7 @@ span-fits at false ws =
 pub record Shaped (at : ℕ) (ws : List ℕ) : Type 0 where
   pub head : T (headWordFits (getD ws 0 0))
   pub form : T (opens at ws)
-  pub size : length ws ≡ start at (isEnds at ws) + countOf (getD ws 0 0) + 1
+  pub size : length ws ≡ start at (isEnds at ws) + termCount (getD ws 0 0) + 1
   pub kinds : T (kindsFit at (isEnds at ws) ws)
 
 -- a test that would refuse has failed
@@ -110,9 +110,9 @@ shape-out at ws e =
     let ends = isEnds at ws in
     let a = fitted (headWordFits w) 12 _ (omega arith) e in
     let b = fitted (opens at ws) 11 _ (omega arith) (a .1) in
-    let c = fitted (eqb (length ws) (start at ends + countOf w + 1)) 13 _ (omega arith) (b .1) in
+    let c = fitted (eqb (length ws) (start at ends + termCount w + 1)) 13 _ (omega arith) (b .1) in
     let d = fitted (kindsFit at ends ws) 14 0 (omega arith) (c .1) in
-    record { head = a .0; form = b .0; size = eqb→eq (length ws) (start at ends + countOf w + 1) (c .0); kinds = d .0 }
+    record { head = a .0; form = b .0; size = eqb→eq (length ws) (start at ends + termCount w + 1) (c .0); kinds = d .0 }
 
 pub shape-in : {at : ℕ} {ws : List ℕ} → Shaped at ws → shapeRefusal at ws ≡ 0
 unfolding shapeRefusal
@@ -120,7 +120,7 @@ shape-in {at} {ws} t =
     rw (
       T-true (headWordFits (getD ws 0 0)) (t .head),
       T-true (opens at ws) (t .form),
-      eq-eqb (length ws) (start at (isEnds at ws) + countOf (getD ws 0 0) + 1) (t .size),
+      eq-eqb (length ws) (start at (isEnds at ws) + termCount (getD ws 0 0) + 1) (t .size),
       T-true (kindsFit at (isEnds at ws) ws) (t .kinds),
     )
 
@@ -157,7 +157,7 @@ module _ {s l r n : ℕ} where
       let w = getD ws 0 0 in
       let ends = isEnds at ws in
       let d = passed (checkFits ws) 15 _ e in
-      let known = withSpan-out (senderOf w) (countOf w) (isNormal (masks (middle at ends ws))) (span at ends ws) (d .1) in
+      let known = withSpan-out (senderOf w) (termCount w) (isNormal (masks (middle at ends ws))) (span at ends ws) (d .1) in
       let top = head-out w (shaped .head) in
       let good : Fits (Span l r) = subst Fits (known .0) (span-fits at ends ws) in
       record {
@@ -182,9 +182,9 @@ module _ {s l r n : ℕ} where
       let both = passed-or (shapeRefusal at ws) (contents at ws) e in
       taken-out at ws (shape-out at ws (both .0)) (both .1)
 
-  pub read-out : (ws : List ℕ) → readWords ws ≡ Message s l r n → Taken 1 (isEnds 1 ws) ws s l r n
-  unfolding readWords
-  read-out ws e = from-out 1 ws (past (ltb (length ws) wordsLeast || ltb wordsMost (length ws)) 10 _ e)
+  pub read-out : (ws : List ℕ) → readPlain ws ≡ Message s l r n → Taken 1 (isEnds 1 ws) ws s l r n
+  unfolding readPlain
+  read-out ws e = from-out 1 ws (past (ltb (length ws) plainWordsLeast || ltb plainWordsMost (length ws)) 10 _ e)
 
 -- ---- from the facts to the reading
 
@@ -224,11 +224,11 @@ module _ {ends : Bool} {ws : List ℕ} {s l r n : ℕ} where
   unfolding readFrom
   from-in t = rw (taken-shaped t) (contents-in t)
 
-  pub read-in : Taken 1 ends ws s l r n → readWords ws ≡ Message s l r n
-  unfolding readWords
+  pub read-in : Taken 1 ends ws s l r n → readPlain ws ≡ Message s l r n
+  unfolding readPlain
   read-in t =
       let known = start-bounds 1 ends in
-      rw (le-ltb (length ws) wordsLeast (omega arith), le-ltb wordsMost (length ws) (omega arith)) (from-in t)
+      rw (le-ltb (length ws) plainWordsLeast (omega arith), le-ltb plainWordsMost (length ws) (omega arith)) (from-in t)
 
 -- ---- the words of one kind
 
@@ -348,14 +348,14 @@ above-contents at ws =
     let head = getD ws 0 0 in
     let ends = isEnds at ws in
     above-cond (not (checkFits ws)) 15 _ (omega arith)
-    (above-span (senderOf head) (countOf head) (isNormal (masks (middle at ends ws))) (span at ends ws))
+    (above-span (senderOf head) (termCount head) (isNormal (masks (middle at ends ws))) (span at ends ws))
 
-above : (ws : List ℕ) → Above (readWords ws)
-unfolding readWords readFrom
+above : (ws : List ℕ) → Above (readPlain ws)
+unfolding readPlain readFrom
 above ws =
-    above-cond (ltb (length ws) wordsLeast || ltb wordsMost (length ws)) 10 _ (omega arith)
+    above-cond (ltb (length ws) plainWordsLeast || ltb plainWordsMost (length ws)) 10 _ (omega arith)
     (above-or (shapeRefusal 1 ws) _ (above-contents 1 ws))
 
-pub refused-above : (ws : List ℕ) (number : ℕ) → readWords ws ≡ Refused number → 0 < number
+pub refused-above : (ws : List ℕ) (number : ℕ) → readPlain ws ≡ Refused number → 0 < number
 unfolding Above
 refused-above ws number e = subst (λ (r : Reading). Above r) e (above ws)

@@ -8,7 +8,7 @@ use lib.Seq.{slice}
 use lib.Dec.{ltb, leb, eqb}
 use Rattle.predicates.specs.Lists.{keep}
 use Rattle.predicates.specs.Predicates.{isNormal}
-use Rattle.message.specs.Words.{payloadSize, endsLimit, termsMost, wordsLeast, wordsMost, kindOf, payload, ofKind, masks, check}
+use Rattle.message.specs.Words.{payloadSize, endsLimit, termsMost, plainWordsLeast, plainWordsMost, kindOf, payload, ofKind, masks, check}
 use Rattle.message.specs.declared.Interval.{Interval}
 use Rattle.message.specs.declared.Interval.the-variants.{Span, Bad}
 use Rattle.message.specs.declared.Reading.{Reading}
@@ -19,12 +19,12 @@ use Rattle.message.specs.declared.Reading.the-variants.{Message, Refused
 abbrev pub senderOf : ℕ → ℕ
 senderOf head = head % 32
 
-abbrev pub countOf : ℕ → ℕ
-countOf head = head / 32 % 32
+abbrev pub termCount : ℕ → ℕ
+termCount head = head / 32 % 32
 
 -- 12: "head not of kind 1, sender above 28, term count above 8 or bits 10–28 not zero"
 unfoldable pub headWordFits : ℕ → Bool
-headWordFits head = eqb (kindOf head) 1 && (leb (senderOf head) 28 && (leb (countOf head) termsMost && eqb (payload head / 1024) 0))
+headWordFits head = eqb (kindOf head) 1 && (leb (senderOf head) 28 && (leb (termCount head) termsMost && eqb (payload head / 1024) 0))
 
 -- ---- the forms: "ends form: two words of kind 2 and two of kind 3; or centre form: two of kind 4, one of kind 5"
 -- The interval's first word is at place `at`: document 01 puts it right behind the head, at place 1.
@@ -95,7 +95,7 @@ shapeRefusal at ws =
     let ends = isEnds at ws in
     cond (not (headWordFits head)) 12
     (cond (not (opens at ws)) 11
-    (cond (not (eqb (length ws) (start at ends + countOf head + 1))) 13
+    (cond (not (eqb (length ws) (start at ends + termCount head + 1))) 13
     (cond (not (kindsFit at ends ws)) 14 0)))
 
 -- what a message of that shape says, or 15, 16 or 17
@@ -104,7 +104,7 @@ contents at ws =
     let head = getD ws 0 0 in
     let ends = isEnds at ws in
     cond (not (checkFits ws)) (Refused 15)
-    (withSpan (senderOf head) (countOf head) (isNormal (masks (middle at ends ws))) (span at ends ws))
+    (withSpan (senderOf head) (termCount head) (isNormal (masks (middle at ends ws))) (span at ends ws))
 
 -- the refusal of a number, or what comes next where it is 0
 abbrev pub refusedOr : ℕ → Reading → Reading
@@ -115,8 +115,8 @@ unfoldable pub readFrom : ℕ → List ℕ → Reading
 readFrom at ws = refusedOr (shapeRefusal at ws) (contents at ws)
 
 -- 10: "word count outside 5 to 14"; then the rest, the interval right behind the head
-unfoldable pub readWords : List ℕ → Reading
-readWords ws = cond (ltb (length ws) wordsLeast || ltb wordsMost (length ws)) (Refused 10) (readFrom 1 ws)
+unfoldable pub readPlain : List ℕ → Reading
+readPlain ws = cond (ltb (length ws) plainWordsLeast || ltb plainWordsMost (length ws)) (Refused 10) (readFrom 1 ws)
 
 -- "hands back the term words": the words of kind 6 of a message that is taken
 unfoldable pub termWords : Reading → List ℕ → List ℕ

@@ -19,14 +19,14 @@ abbrev pub termsMost : ℕ
 termsMost = 8
 
 -- "Ends form has 6 to 14 words, centre form 5 to 13": the fewest, the most, and the most in bytes
-abbrev pub wordsLeast : ℕ
-wordsLeast = 5
+abbrev pub plainWordsLeast : ℕ
+plainWordsLeast = 5
 
-abbrev pub wordsMost : ℕ
-wordsMost = 14
+abbrev pub plainWordsMost : ℕ
+plainWordsMost = 14
 
-abbrev pub bytesMost : ℕ
-bytesMost = wordsMost * 4
+abbrev pub plainBytesMost : ℕ
+plainBytesMost = plainWordsMost * 4
 
 -- ---- a word
 

@@ -3,7 +3,7 @@ use Prim.Native.Nat.{ℕ, _+_, _*_, _/_, _%_}
 use mathlib.Core.List.{List, [], _∷_, _++_, map}
 use lib.ListN.{length}
 use Rattle.message.specs.Words.{payloadSize, word, masks, check}
-use Rattle.message.specs.Read.{readWords, termWords}
+use Rattle.message.specs.Read.{readPlain, termWords}
 use Rattle.message.specs.declared.Reading.{Reading}
 use Rattle.message.specs.declared.Reading.the-variants.{Message, Refused}
 
@@ -26,9 +26,9 @@ messageWords sender more left right terms =
 
 -- "takes a message and writes it in ends form with the sender, interval and terms it has"; nothing of a refused one.
 -- No words stand between the head and the interval.
-unfoldable pub rewrittenAs : Reading → List ℕ → List ℕ
-rewrittenAs (Refused number) ws = []
-rewrittenAs (Message sender left right count) ws = messageWords sender [] left right (masks (termWords (Message sender left right count) ws))
+unfoldable pub rewrittenPlainAs : Reading → List ℕ → List ℕ
+rewrittenPlainAs (Refused number) ws = []
+rewrittenPlainAs (Message sender left right count) ws = messageWords sender [] left right (masks (termWords (Message sender left right count) ws))
 
-unfoldable pub rewritten : List ℕ → List ℕ
-rewritten ws = rewrittenAs (readWords ws) ws
+unfoldable pub rewrittenPlain : List ℕ → List ℕ
+rewrittenPlain ws = rewrittenPlainAs (readPlain ws) ws

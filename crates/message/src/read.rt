@@ -4,7 +4,7 @@ ghost use Prim.Native.Nat.{_+_, _≤_, _<_};
 ghost use lib.ListN.{length, getD};
 ghost use Rattle.message.specs.Words.{payloadSize, endsLimit, kindOf, payload as Words·payload, ofKind, check};
 ghost use Rattle.message.specs.Read.{headWordFits, width as Read·width, start, spanKinds, kindsFit, checkFits, pair as Read·pair};
-ghost use Rattle.message.specs.Read.{span as Read·span, shapeRefusal, contents as Read·contents, readWords, termWords, readingNumber};
+ghost use Rattle.message.specs.Read.{span as Read·span, shapeRefusal, contents as Read·contents, readPlain, termWords, readingNumber};
 use super::ENDS_LIMIT;
 use super::Interval;
 use super::PAYLOAD_SIZE;
@@ -188,7 +188,7 @@ pub fn contents(words: &[u32], at: usize) -> Reading
 
 // The message in the words, or its first refusal.
 pub fn read(words: &[u32]) -> Reading
-    ensures { λ r. ⌜ r ≡ readWords (now (words .entry)) ⌝ }
+    ensures { λ r. ⌜ r ≡ readPlain (now (words .entry)) ⌝ }
 {
     let n = words.len();
     if n < WORDS_LEAST {
@@ -216,7 +216,7 @@ pub fn refusal(got: Reading) -> u32
 
 // The term words of a message that was read: exactly its words of kind 6, as a part of the caller's slice.
 pub fn term_words(words: &[u32], got: Reading) -> &[u32]
-    requires { ⌜ got ≡ readWords (now words) ⌝ }
+    requires { ⌜ got ≡ readPlain (now words) ⌝ }
     ensures { λ r. ⌜ now r ≡ termWords got (now (words .entry)) ⌝ }
 {
     let Reading::Message(_, _, _, count) = got else {

@@ -4,9 +4,9 @@ ghost use mathlib.Core.List.{[], _∷_, map};
 ghost use Prim.Native.Nat.{_+_, _/_, _%_, _≤_, _<_};
 ghost use lib.ListN.{length};
 ghost use Rattle.numbers.specs.Numbers.{put};
-ghost use Rattle.message.specs.Words.{payloadSize, endsLimit, termsMost, wordsMost, word, masks};
-ghost use Rattle.message.specs.Read.{readWords};
-ghost use Rattle.message.specs.Write.{endWords, messageWords, rewritten};
+ghost use Rattle.message.specs.Words.{payloadSize, endsLimit, termsMost, plainWordsMost, word, masks};
+ghost use Rattle.message.specs.Read.{readPlain};
+ghost use Rattle.message.specs.Write.{endWords, messageWords, rewrittenPlain};
 use super::PAYLOAD_SIZE;
 use super::Reading;
 
@@ -67,9 +67,9 @@ pub fn write(out: &mut [u32], sender: u32, more: &[u32], left: u64, right: u64, 
 
 // Reads a message and, where it is taken, writes it in ends form; a refused one writes nothing.
 pub fn rewrite(words: &[u32], out: &mut [u32]) -> Reading
-    requires { ⌜ wordsMost ≤ length (now out) ⌝ }
-    ensures { λ r. ⌜ r ≡ readWords (now (words .entry)) ⌝ }
-    ensures { λ _. ⌜ now (out .exit) ≡ put 0 (rewritten (now (words .entry))) (now (out .entry)) ⌝ }
+    requires { ⌜ plainWordsMost ≤ length (now out) ⌝ }
+    ensures { λ r. ⌜ r ≡ readPlain (now (words .entry)) ⌝ }
+    ensures { λ _. ⌜ now (out .exit) ≡ put 0 (rewrittenPlain (now (words .entry))) (now (out .entry)) ⌝ }
 {
     let got = super::read::read(words);
     let Reading::Message(sender, left, right, _) = got else {

@@ -1,6 +1,6 @@
 -- The calls on messages alone, on plain values: bytes that cannot be a message's are read as no words, and what the exits of the calls leave.
 -- No contract cites this file. Assumes nothing.
-use Prim.Native.Nat.{ℕ, _+_, _*_, _/_, _%_, _^_, _≤_, _<_}
+use Prim.Native.Nat.{ℕ, _+_, _*_, _/_, _%_, _≤_, _<_}
 use mathlib.Core.Path.{_≡_, refl, sym, ap, _∙_}
 use mathlib.Core.Bool.{Bool, true, false, _||_, cond}
 use mathlib.Core.List.{List, [], _++_}
@@ -18,7 +18,6 @@ use Rattle.radio.specs.Read.{wordsMost, bytesMost, readWords, epochWords}
 use Rattle.radio.specs.Write.{rewritten, rewrittenAs}
 use Rattle.message.specs.declared.Reading.{Reading}
 use Rattle.message.specs.declared.Reading.the-variants.{Message, Refused}
-use Rattle.epochs.specs.Epochs.{epochsMost}
 use Rattle.epochs.specs.code.Known.{Named}
 use Rattle.radio.proofs.ReadLaws.{read-out, terms-middle, length-middle, epochs-few, refused-above}
 use Rattle.radio.proofs.MessageLaws.{rewrite-length}
@@ -26,7 +25,8 @@ use Rattle.radio.proofs.HeardNames.{heard-names}
 use Rattle.engine.specs.Refusals.{delayMost}
 use Rattle.state.specs.Refusal.{after}
 use Rattle.state.proofs.LentLaws.{after-refused}
-use Rattle.monitor.specs.Messages.{readBytes, wordsIn, rewrittenBytes}
+use Rattle.monitor.specs.Messages.{readBytes, rewrittenBytes}
+use Rattle.monitor.specs.code.Words.{wordsIn}
 use Rattle.state.specs.Model.{nameMost}
 
 -- more than 43 words, or none, are 10

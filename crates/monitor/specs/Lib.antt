@@ -2,3 +2,4 @@ pub mod Messages
 pub mod Calls
 pub mod Receive
 pub mod Ask
+pub mod code

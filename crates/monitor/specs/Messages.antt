@@ -6,7 +6,7 @@ use mathlib.Core.List.{List, [], _++_}
 use lib.ListN.{length}
 use lib.Dec.{ltb, eqb}
 use Rattle.numbers.specs.Numbers.{bytes, wordsOf, bytesOf}
-use Rattle.radio.specs.Read.{bytesMost, readWords}
+use Rattle.radio.specs.Read.{readWords}
 use Rattle.radio.specs.Write.{rewrittenAs}
 use Rattle.state.specs.Refusal.{after}
 use Rattle.message.specs.declared.Reading.{Reading}
@@ -15,10 +15,6 @@ use Rattle.message.specs.declared.Reading.the-variants.{Message, Refused}
 -- "four bytes make a word, little-endian, and a byte length that is not a multiple of 4 is number 10"
 unfoldable pub readBytes : List ℕ → Reading
 readBytes message = cond (eqb (length message % 4) 0) (readWords (wordsOf message)) (Refused 10)
-
--- the words in the bytes; none where the bytes are too many or leave a rest, and reading none is number 10 too
-unfoldable pub wordsIn : List ℕ → List ℕ
-wordsIn message = cond (eqb (length message % 4) 0) (cond (ltb bytesMost (length message)) [] (wordsOf message)) []
 
 -- the number of a call that reads a message and has `written` for its output: "Where an output is lent, 24 for it comes last"
 unfoldable pub answered : Reading → List ℕ → List ℕ → ℕ

@@ -6,7 +6,8 @@ ghost use Prim.Native.Nat.{_≤_};
 ghost use lib.ListN.{length, drop};
 ghost use Rattle.numbers.specs.Numbers.{bytes, put};
 ghost use Rattle.radio.specs.Read.{wordsMost};
-ghost use Rattle.monitor.specs.Messages.{wordsIn, readNumber, readOutput, rewriteNumber, rewriteOutput};
+ghost use Rattle.monitor.specs.Messages.{readNumber, readOutput, rewriteNumber, rewriteOutput};
+ghost use Rattle.monitor.specs.code.Words.{wordsIn};
 use message::Reading;
 
 pub mod calls;

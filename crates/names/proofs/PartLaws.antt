@@ -12,7 +12,8 @@ use borrow.Author.Tests.{eq-eqb}
 use lib.Arith.{bin-ind}
 use lib.Bits.{bitAnd, and-step, and-comm, and-self, and-le-l, and-mask, or-add-and}
 use lib.Count.{ones, ones-step}
-use Rattle.names.specs.Sets.{noSet, subset, union, has, digit, minus}
+use Rattle.names.specs.Sets.{noSet, subset, setUnion, has, minus}
+use Rattle.names.specs.code.Parts.{digit}
 use Rattle.names.specs.code.Parts.{shared, others, leastName}
 use Rattle.names.proofs.SetLaws.{test-ext, digit-lt, digit-single-same, digit-single-other, digit-zero, digit-suc, digit-and, digit-union, digit-empty, subset-and, and-subset, subset-out, subset-in, digits-ext, subset-trans, subset-antisym, subset-empty, subset-le, union-left, union-right, union-least, ones-empty, ones-none, ones-mono, ones-union, halves, has-in, has-out}
 
@@ -52,13 +53,13 @@ pub minus-mono : (u m s : ℕ) → T (subset u m) → T (subset (minus u s) (min
 minus-mono u m s h = subset-in (minus u s) (minus m s) (λ n. omega (arith, digit-minus u s n, digit-minus m s n, subset-out u m h n))
 
 -- without the names of r it lies in s exactly if it lies in both together
-pub minus-in : (t r s : ℕ) → subset (minus t r) s ≡ subset t (union s r)
+pub minus-in : (t r s : ℕ) → subset (minus t r) s ≡ subset t (setUnion s r)
 minus-in t r s =
     test-ext
     (subset (minus t r) s)
-    (subset t (union s r))
-    (λ h. subset-in t (union s r) (λ n. omega (arith, digit-minus t r n, digit-union s r n, digit-lt t n, subset-out (minus t r) s h n)))
-    (λ h. subset-in (minus t r) s (λ n. omega (arith, digit-minus t r n, digit-union s r n, digit-lt t n, subset-out t (union s r) h n)))
+    (subset t (setUnion s r))
+    (λ h. subset-in t (setUnion s r) (λ n. omega (arith, digit-minus t r n, digit-union s r n, digit-lt t n, subset-out (minus t r) s h n)))
+    (λ h. subset-in (minus t r) s (λ n. omega (arith, digit-minus t r n, digit-union s r n, digit-lt t n, subset-out t (setUnion s r) h n)))
 
 -- nothing is taken out where they share no name
 pub minus-none : (t r : ℕ) → shared t r ≡ 0 → minus t r ≡ t
@@ -70,8 +71,8 @@ pub minus-add : (s u : ℕ) → T (subset s u) → s + minus u s ≡ u
 unfolding minus
 minus-add s u h = let e : bitAnd u s ≡ s = and-comm u s ∙ subset-and s u h in omega (arith, subset-le s u h)
 
-pub union-add : (s t : ℕ) → union s t ≤ s + t
-unfolding union
+pub union-add : (s t : ℕ) → setUnion s t ≤ s + t
+unfolding setUnion
 union-add s t = omega (arith, or-add-and s t)
 
 -- ---- as many names
@@ -105,42 +106,42 @@ minus-apart u s c h k e =
 -- ---- one name more
 
 -- c being one name: of what holds it in two parts, one part holds it
-pub single-part : (c a b : ℕ) → ones c ≡ 1 → T (subset c (union a b)) → T (subset c a) ⊎ T (subset c b)
+pub single-part : (c a b : ℕ) → ones c ≡ 1 → T (subset c (setUnion a b)) → T (subset c a) ⊎ T (subset c b)
 single-part c a b e h = go (ℕ-discrete (shared c a) c)
   where
     -- no name of c is in a
     beside : shared c a ≡ 0 → T (subset c b)
     beside z =
         subset-in c b (λ n.
-        omega (arith, subset-out c (union a b) h n, digit-union a b n, digit-shared c a n, ap (λ (x : ℕ). digit x n) z, digit-empty n, digit-lt a n, digit-lt c n))
+        omega (arith, subset-out c (setUnion a b) h n, digit-union a b n, digit-shared c a n, ap (λ (x : ℕ). digit x n) z, digit-empty n, digit-lt a n, digit-lt c n))
 
     go : Dec (shared c a ≡ c) → T (subset c a) ⊎ T (subset c b)
     go (yes p) = inl (subst (λ (x : ℕ). T (subset x a)) p (shared-right c a))
     go (no p) = inr (beside (ones-none (shared c a) (omega (arith, e, ones-more (shared c a) c (shared-left c a) p))))
 
 -- t adds one name to s: a set that holds s and not t has none of t's names beyond s
-pub one-more : (s t u : ℕ) → ones (union s t) ≡ ones s + 1 → T (subset s u) → (T (subset t u) → ⊥) → T (subset (shared u t) s)
+pub one-more : (s t u : ℕ) → ones (setUnion s t) ≡ ones s + 1 → T (subset s u) → (T (subset t u) → ⊥) → T (subset (shared u t) s)
 one-more s t u e h f = go (decLe (ones w) (ones s))
   where
     w : ℕ
-    w = union s (shared u t)
+    w = setUnion s (shared u t)
 
-    w-in : T (subset w (union s t))
-    w-in = union-least s (shared u t) (union s t) (union-left s t) (subset-trans (shared u t) t (union s t) (shared-right u t) (union-right s t))
+    w-in : T (subset w (setUnion s t))
+    w-in = union-least s (shared u t) (setUnion s t) (union-left s t) (subset-trans (shared u t) t (setUnion s t) (shared-right u t) (union-right s t))
 
     go : Dec (ones w ≤ ones s) → T (subset (shared u t) s)
     go (yes k) =
         subst (λ (x : ℕ). T (subset (shared u t) x)) (sym (subset-same s w (union-left s (shared u t)) k)) (union-right s (shared u t))
     go (no k) =
-        let same : w ≡ union s t = subset-same w (union s t) w-in (omega arith) in
-        absurd (f (subset-trans t (union s t) u (union-right s t)
+        let same : w ≡ setUnion s t = subset-same w (setUnion s t) w-in (omega arith) in
+        absurd (f (subset-trans t (setUnion s t) u (union-right s t)
         (subst (λ (x : ℕ). T (subset x u)) same (union-least s (shared u t) u h (shared-left u t)))))
 
 -- so its names are free beside t's
-pub minus-free : (s t u free : ℕ) → T (subset u (union s free)) → T (subset (shared u t) s) → T (subset u (union s (minus free t)))
+pub minus-free : (s t u free : ℕ) → T (subset u (setUnion s free)) → T (subset (shared u t) s) → T (subset u (setUnion s (minus free t)))
 minus-free s t u free h k =
-    subset-in u (union s (minus free t)) (λ n.
-    omega (arith, subset-out u (union s free) h n, subset-out (shared u t) s k n, digit-union s free n, digit-union s (minus free t) n, digit-minus free t n, digit-shared u t n, digit-lt u n, digit-lt t n, digit-lt free n, digit-lt s n))
+    subset-in u (setUnion s (minus free t)) (λ n.
+    omega (arith, subset-out u (setUnion s free) h n, subset-out (shared u t) s k n, digit-union s free n, digit-union s (minus free t) n, digit-minus free t n, digit-shared u t n, digit-lt u n, digit-lt t n, digit-lt free n, digit-lt s n))
 
 -- ---- the least name
 
@@ -213,16 +214,16 @@ adds-none s t e = subset-in t s (λ n. omega (arith, digit-minus t s n, digit-em
 pub adds-some : (s t : ℕ) → (minus t s ≡ 0 → ⊥) → T (subset t s) → ⊥
 adds-some s t f h = f (digits-ext (minus t s) 0 (λ n. omega (arith, digit-minus t s n, digit-empty n, subset-out t s h n)))
 
-pub added : (s t : ℕ) → union s (minus t s) ≡ union s t
+pub added : (s t : ℕ) → setUnion s (minus t s) ≡ setUnion s t
 added s t =
-    digits-ext (union s (minus t s)) (union s t) (λ n.
+    digits-ext (setUnion s (minus t s)) (setUnion s t) (λ n.
     omega (arith, digit-union s (minus t s) n, digit-union s t n, digit-minus t s n, digit-lt s n, digit-lt t n))
 
 -- one name exactly where the least of what it adds is all of it
-pub adds-one : (s t : ℕ) → 0 < minus t s → minus t s ≡ leastName (minus t s) → ones (union s t) ≤ ones s + 1
+pub adds-one : (s t : ℕ) → 0 < minus t s → minus t s ≡ leastName (minus t s) → ones (setUnion s t) ≤ ones s + 1
 adds-one s t h e = omega (arith, ones-union s (minus t s), ap ones (added s t), ap ones e, least-name-one (minus t s) h)
 
-pub one-added : (s t : ℕ) → 0 < minus t s → ones (union s t) ≤ ones s + 1 → minus t s ≡ leastName (minus t s)
+pub one-added : (s t : ℕ) → 0 < minus t s → ones (setUnion s t) ≤ ones s + 1 → minus t s ≡ leastName (minus t s)
 one-added s t h few =
     subset-antisym (minus t s) c (subset-in (minus t s) c (λ n.
     omega (arith, digit-minus t s n, digit-union s c n, digit-union s t n, ap (λ (x : ℕ). digit x n) same, digit-lt s n, digit-lt t n, digit-lt c n)))
@@ -231,25 +232,25 @@ one-added s t h few =
     c : ℕ
     c = leastName (minus t s)
 
-    part : T (subset (union s c) (union s t))
+    part : T (subset (setUnion s c) (setUnion s t))
     part =
-        union-least s c (union s t) (union-left s t)
-        (subset-trans c t (union s t) (subset-trans c (minus t s) t (least-name-in (minus t s)) (minus-subset t s)) (union-right s t))
+        union-least s c (setUnion s t) (union-left s t)
+        (subset-trans c t (setUnion s t) (subset-trans c (minus t s) t (least-name-in (minus t s)) (minus-subset t s)) (union-right s t))
 
-    more : ones s < ones (union s c)
+    more : ones s < ones (setUnion s c)
     more =
-        ones-more s (union s c) (union-left s c) (λ q.
+        ones-more s (setUnion s c) (union-left s c) (λ q.
         minus-apart t s c (least-name-in (minus t s)) (subst (λ (x : ℕ). T (subset c x)) (sym q) (union-right s c)) (least-name-one (minus t s) h))
 
-    same : union s c ≡ union s t
-    same = subset-same (union s c) (union s t) part (omega (arith, more))
+    same : setUnion s c ≡ setUnion s t
+    same = subset-same (setUnion s c) (setUnion s t) part (omega (arith, more))
 
 -- what lies in a set and one name more, and lacks that name, lies in the set
-pub without-one : (s c x : ℕ) → ones c ≡ 1 → T (subset x (union s c)) → (T (subset c x) → ⊥) → T (subset x s)
+pub without-one : (s c x : ℕ) → ones c ≡ 1 → T (subset x (setUnion s c)) → (T (subset c x) → ⊥) → T (subset x s)
 without-one s c x one h f = adds-none s x (go (ℕ-discrete (minus x s) 0))
   where
     part : T (subset (minus x s) c)
-    part = subset-in (minus x s) c (λ n. omega (arith, digit-minus x s n, digit-union s c n, subset-out x (union s c) h n, digit-lt x n, digit-lt s n))
+    part = subset-in (minus x s) c (λ n. omega (arith, digit-minus x s n, digit-union s c n, subset-out x (setUnion s c) h n, digit-lt x n, digit-lt s n))
 
     go : Dec (minus x s ≡ 0) → minus x s ≡ 0
     go (yes e) = e

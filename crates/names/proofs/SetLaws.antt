@@ -12,7 +12,8 @@ use lib.Arith.{bin-ind, digits-mod}
 use lib.Pow.{shr-shr}
 use lib.Bits.{bitAnd, bitOr, and-step, or-step, and-shr, or-shr, or-zero-r, and-comm, and-self, and-le-r, or-shifted}
 use lib.Count.{ones, ones-step, ones-cat}
-use Rattle.names.specs.Sets.{subset, union, has, digit}
+use Rattle.names.specs.Sets.{subset, setUnion, has}
+use Rattle.names.specs.code.Parts.{digit}
 
 -- two tests that pass together are equal
 pub test-ext : (a b : Bool) → (T a → T b) → (T b → T a) → a ≡ b
@@ -37,8 +38,8 @@ digit-and a b n =
     ap (λ (x : ℕ). x % 2) (and-shr a b n ∙ and-step (a / 2 ^ n) (b / 2 ^ n))
     ∙ digits-mod (bitAnd (a / 2 ^ n / 2) (b / 2 ^ n / 2)) (omega arith)
 
-pub digit-union : (a b n : ℕ) → digit (union a b) n ≡ max (digit a n) (digit b n)
-unfolding union
+pub digit-union : (a b n : ℕ) → digit (setUnion a b) n ≡ max (digit a n) (digit b n)
+unfolding setUnion
 digit-union a b n =
     ap (λ (x : ℕ). x % 2) (or-shr a b n ∙ or-step (a / 2 ^ n) (b / 2 ^ n))
     ∙ digits-mod (bitOr (a / 2 ^ n / 2) (b / 2 ^ n / 2)) (omega arith)
@@ -110,29 +111,29 @@ subset-le s t h = le-trans (le-of-eq (sym (subset-and s t h))) (and-le-r s t)
 
 -- ---- the union is the least upper bound
 
-pub union-left : (s t : ℕ) → T (subset s (union s t))
-union-left s t = subset-in s (union s t) (λ n. omega (arith, digit-union s t n))
+pub union-left : (s t : ℕ) → T (subset s (setUnion s t))
+union-left s t = subset-in s (setUnion s t) (λ n. omega (arith, digit-union s t n))
 
-pub union-right : (s t : ℕ) → T (subset t (union s t))
-union-right s t = subset-in t (union s t) (λ n. omega (arith, digit-union s t n))
+pub union-right : (s t : ℕ) → T (subset t (setUnion s t))
+union-right s t = subset-in t (setUnion s t) (λ n. omega (arith, digit-union s t n))
 
-pub union-least : (s t u : ℕ) → T (subset s u) → T (subset t u) → T (subset (union s t) u)
-union-least s t u h k = subset-in (union s t) u (λ n. omega (arith, digit-union s t n, subset-out s u h n, subset-out t u k n))
+pub union-least : (s t u : ℕ) → T (subset s u) → T (subset t u) → T (subset (setUnion s t) u)
+union-least s t u h k = subset-in (setUnion s t) u (λ n. omega (arith, digit-union s t n, subset-out s u h n, subset-out t u k n))
 
-pub union-comm : (s t : ℕ) → union s t ≡ union t s
-union-comm s t = digits-ext (union s t) (union t s) (λ n. omega (arith, digit-union s t n, digit-union t s n))
+pub union-comm : (s t : ℕ) → setUnion s t ≡ setUnion t s
+union-comm s t = digits-ext (setUnion s t) (setUnion t s) (λ n. omega (arith, digit-union s t n, digit-union t s n))
 
-pub union-none : (s : ℕ) → union s 0 ≡ s
-unfolding union
+pub union-none : (s : ℕ) → setUnion s 0 ≡ s
+unfolding setUnion
 union-none s = or-zero-r s
 
-pub union-assoc : (s t u : ℕ) → union (union s t) u ≡ union s (union t u)
+pub union-assoc : (s t u : ℕ) → setUnion (setUnion s t) u ≡ setUnion s (setUnion t u)
 union-assoc s t u =
-    digits-ext (union (union s t) u) (union s (union t u)) (λ n.
-    omega (arith, digit-union (union s t) u n, digit-union s t n, digit-union s (union t u) n, digit-union t u n))
+    digits-ext (setUnion (setUnion s t) u) (setUnion s (setUnion t u)) (λ n.
+    omega (arith, digit-union (setUnion s t) u n, digit-union s t n, digit-union s (setUnion t u) n, digit-union t u n))
 
-pub union-left-comm : (s t u : ℕ) → union s (union t u) ≡ union t (union s u)
-union-left-comm s t u = sym (union-assoc s t u) ∙ ap (λ (x : ℕ). union x u) (union-comm s t) ∙ union-assoc t s u
+pub union-left-comm : (s t u : ℕ) → setUnion s (setUnion t u) ≡ setUnion t (setUnion s u)
+union-left-comm s t u = sym (union-assoc s t u) ∙ ap (λ (x : ℕ). setUnion x u) (union-comm s t) ∙ union-assoc t s u
 
 -- ---- counts
 
@@ -155,8 +156,8 @@ ones-mono =
     omega (arith, ones-step t, ones-step s, ih (s / 2) (k .0)))
 
 -- a union has no more names than both together
-pub ones-union : (a b : ℕ) → ones (union a b) ≤ ones a + ones b
-unfolding union
+pub ones-union : (a b : ℕ) → ones (setUnion a b) ≤ ones a + ones b
+unfolding setUnion
 ones-union =
     bin-ind (λ (a : ℕ). (b : ℕ) → ones (bitOr a b) ≤ ones a + ones b) (λ b. omega arith)
     (λ a ih b.
@@ -174,8 +175,8 @@ ones-none =
 
 -- ---- a name above all those of a set
 
-pub union-above : (n s : ℕ) → s < 2 ^ n → union (2 ^ n) s ≡ 2 ^ n + s
-unfolding union
+pub union-above : (n s : ℕ) → s < 2 ^ n → setUnion (2 ^ n) s ≡ 2 ^ n + s
+unfolding setUnion
 union-above n s h =
     let one : 1 * 2 ^ n ≡ 2 ^ n = omega arith in
     ap (λ (x : ℕ). bitOr x s) (sym one) ∙ or-shifted 1 n s h ∙ ap (λ (x : ℕ). x + s) one
@@ -220,22 +221,22 @@ pub has-mono : (n t s : ℕ) → T (subset t s) → T (has n t) → T (has n s)
 has-mono n t s h k = has-in n s (omega (arith, subset-out t s h n, has-out n t k, digit-lt s n))
 
 -- a name of a union is in one of the two: a union of sets without the own name is without it
-pub has-not-union : (n s t : ℕ) → T (not (has n s)) → T (not (has n t)) → T (not (has n (union s t)))
+pub has-not-union : (n s t : ℕ) → T (not (has n s)) → T (not (has n t)) → T (not (has n (setUnion s t)))
 has-not-union n s t f g =
-    not-T (has n (union s t)) (λ h. go (ℕ-discrete (digit s n) 1) (has-out n (union s t) h))
+    not-T (has n (setUnion s t)) (λ h. go (ℕ-discrete (digit s n) 1) (has-out n (setUnion s t) h))
   where
-    go : Dec (digit s n ≡ 1) → digit (union s t) n ≡ 1 → ⊥
+    go : Dec (digit s n ≡ 1) → digit (setUnion s t) n ≡ 1 → ⊥
     go (yes p) e = T-not (has n s) f (has-in n s p)
     go (no p) e = T-not (has n t) g (has-in n t (omega (arith, digit-union s t n, digit-lt s n, digit-lt t n)))
 
 -- a name that t does not hold
-pub has-union-none : (n s t : ℕ) → T (not (has n t)) → has n (union s t) ≡ has n s
+pub has-union-none : (n s t : ℕ) → T (not (has n t)) → has n (setUnion s t) ≡ has n s
 has-union-none n s t h =
     test-ext
-    (has n (union s t))
+    (has n (setUnion s t))
     (has n s)
-    (λ k. has-in n s (omega (arith, has-out n (union s t) k, digit-union s t n, none, digit-lt s n)))
-    (λ k. has-in n (union s t) (omega (arith, has-out n s k, digit-union s t n, digit-lt t n)))
+    (λ k. has-in n s (omega (arith, has-out n (setUnion s t) k, digit-union s t n, none, digit-lt s n)))
+    (λ k. has-in n (setUnion s t) (omega (arith, has-out n s k, digit-union s t n, digit-lt t n)))
   where
     none : digit t n ≡ 0
     none = go (ℕ-discrete (digit t n) 1)

@@ -1,6 +1,6 @@
 -- Sets of names (document 01, "Instants, names, predicates"): a mask in which the name n is the bit of value 2 ^ n.
 -- How many names a set holds is `lib.Count.ones`. Assumes nothing: these are definitions.
-use Prim.Native.Nat.{ℕ, _-_, _^_, _/_, _%_}
+use Prim.Native.Nat.{ℕ, _-_, _^_}
 use mathlib.Core.Bool.{Bool, not}
 use lib.Dec.{eqb}
 use lib.Bits.{bitAnd, bitOr}
@@ -14,8 +14,8 @@ unfoldable pub subset : ℕ → ℕ → Bool
 subset t s = eqb (bitAnd t s) t
 
 -- the names of s and those of t
-unfoldable pub union : ℕ → ℕ → ℕ
-union s t = bitOr s t
+unfoldable pub setUnion : ℕ → ℕ → ℕ
+setUnion s t = bitOr s t
 
 -- the names of s that are not in t
 unfoldable pub minus : ℕ → ℕ → ℕ
@@ -24,7 +24,3 @@ minus s t = s - bitAnd s t
 -- the name n is in s
 unfoldable pub has : ℕ → ℕ → Bool
 has n s = not (eqb (bitAnd s (2 ^ n)) 0)
-
--- the digit of name n: 1 if n is in s, else 0. The laws go through it; above them nothing mentions bits
-abbrev pub digit : ℕ → ℕ → ℕ
-digit s n = s / 2 ^ n % 2

@@ -4,7 +4,7 @@ ghost use mathlib.Core.Path.{_≡_};
 ghost use Prim.Native.Nat.{_<_, _≤_, _^_};
 ghost use lib.Count.{ones};
 ghost use lib.Dec.{leb};
-ghost use Rattle.names.specs.Sets.{subset as Sets·subset, union as Sets·union, has as Sets·has, minus as Sets·minus};
+ghost use Rattle.names.specs.Sets.{subset as Sets·subset, setUnion as Sets·union, has as Sets·has, minus as Sets·minus};
 ghost use Rattle.names.specs.code.Parts.{shared as Parts·shared, others as Parts·others, leastName};
 
 // The mask of no set: more than every set of names.

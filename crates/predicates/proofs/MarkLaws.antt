@@ -14,7 +14,8 @@ use lib.Bits.{and-zero-r, and-mask}
 use lib.Count.{ones}
 use lib.Dec.{T, T-not, not-T, eqb, eqb→eq, leb, leb→le, le→leb}
 use lib.ListN.{length, getD, drop, drop-of-length-le}
-use Rattle.names.specs.Sets.{subset, union, digit}
+use Rattle.names.specs.Sets.{subset, setUnion}
+use Rattle.names.specs.code.Parts.{digit}
 use Rattle.names.specs.code.Parts.{shared}
 use Rattle.names.proofs.SetLaws.{digit-union, and-subset, subset-empty, digit-empty, digits-ext, subset-trans, empty-subset, union-left, union-right, union-least, union-none, union-comm, ones-none, union-assoc}
 use Rattle.names.proofs.PartLaws.{digit-shared, shared-left, shared-right, subset-same}
@@ -36,20 +37,20 @@ single-inside s u e f = go (ℕ-discrete (ones (shared s u)) 0)
         let same : shared s u ≡ u = subset-same (shared s u) u (shared-right s u) (omega (arith, e, g)) in
         subst (λ (x : ℕ). T (subset x s)) same (shared-left s u)
 
-shared-neither : (s a b : ℕ) → shared s a ≡ 0 → shared s b ≡ 0 → shared s (union a b) ≡ 0
+shared-neither : (s a b : ℕ) → shared s a ≡ 0 → shared s b ≡ 0 → shared s (setUnion a b) ≡ 0
 shared-neither s a b p q =
-    digits-ext (shared s (union a b)) 0 (λ n.
-    omega (arith, digit-shared s (union a b) n, digit-union a b n, digit-shared s a n, digit-shared s b n, ap (λ (x : ℕ). digit x n) p, ap (λ (x : ℕ). digit x n) q, digit-empty n))
+    digits-ext (shared s (setUnion a b)) 0 (λ n.
+    omega (arith, digit-shared s (setUnion a b) n, digit-union a b n, digit-shared s a n, digit-shared s b n, ap (λ (x : ℕ). digit x n) p, ap (λ (x : ℕ). digit x n) q, digit-empty n))
 
 pub singles-holds : (s : ℕ) (p : List ℕ) → (shared s (singles p) ≡ 0 → ⊥) → T (holds s p)
 unfolding holds singles shared
 singles-holds s [] f = absurd (f (and-zero-r s))
 singles-holds s (u ∷ p) f =
-    cond-ind (λ (x : ℕ). (shared s x ≡ 0 → ⊥) → T (holds s (u ∷ p))) (eqb (ones u) 1) (union u (singles p)) (singles p)
+    cond-ind (λ (x : ℕ). (shared s x ≡ 0 → ⊥) → T (holds s (u ∷ p))) (eqb (ones u) 1) (setUnion u (singles p)) (singles p)
     (λ e g. either (eqb→eq (ones u) 1 e) g (singles-holds s p) (ℕ-discrete (shared s (singles p)) 0))
     (λ _ g. or-r (subset u s) (holds s p) (singles-holds s p g)) f
   where
-    either : ones u ≡ 1 → (shared s (union u (singles p)) ≡ 0 → ⊥) → ((shared s (singles p) ≡ 0 → ⊥) → T (holds s p))
+    either : ones u ≡ 1 → (shared s (setUnion u (singles p)) ≡ 0 → ⊥) → ((shared s (singles p) ≡ 0 → ⊥) → T (holds s p))
         → Dec (shared s (singles p) ≡ 0) → T (holds s (u ∷ p))
     either e g rest (yes z) = or-l (subset u s) (holds s p) (single-inside s u e (λ w. g (shared-neither s u (singles p) w z)))
     either e g rest (no h) = or-r (subset u s) (holds s p) (rest h)
@@ -59,9 +60,9 @@ singles-holds s (u ∷ p) f =
 singles-in : (t : ℕ) (p : List ℕ) → In t p → ones t ≡ 1 → T (subset t (singles p))
 unfolding singles
 singles-in t (u ∷ p) m e =
-    cond-ind (λ (x : ℕ). T (subset t x)) (eqb (ones u) 1) (union u (singles p)) (singles p)
-    (λ _. ⊎-elim (λ d. subst (λ (x : ℕ). T (subset t (union x (singles p)))) d (union-left t (singles p)))
-    (λ k. subset-trans t (singles p) (union u (singles p)) (singles-in t p k e) (union-right u (singles p))) m)
+    cond-ind (λ (x : ℕ). T (subset t x)) (eqb (ones u) 1) (setUnion u (singles p)) (singles p)
+    (λ _. ⊎-elim (λ d. subst (λ (x : ℕ). T (subset t (setUnion x (singles p)))) d (union-left t (singles p)))
+    (λ k. subset-trans t (singles p) (setUnion u (singles p)) (singles-in t p k e) (union-right u (singles p))) m)
     (λ n. ⊎-elim (λ d. absurd (T-not (eqb (ones u) 1) n (true-T (eqb (ones u) 1) (eq-eqb (ones u) 1 (ap ones (sym d) ∙ e))))) (λ k. singles-in t p k e) m)
 
 singles-least : (p : List ℕ) (s : ℕ) → ((t : ℕ) → In t p → ones t ≡ 1 → T (subset t s)) → T (subset (singles p) s)
@@ -69,7 +70,7 @@ unfolding singles
 singles-least [] s f = empty-subset s
 singles-least (u ∷ p) s f =
     let rest : T (subset (singles p) s) = singles-least p s (λ t m. f t (inr m)) in
-    cond-ind (λ (x : ℕ). T (subset x s)) (eqb (ones u) 1) (union u (singles p)) (singles p)
+    cond-ind (λ (x : ℕ). T (subset x s)) (eqb (ones u) 1) (setUnion u (singles p)) (singles p)
     (λ e. union-least u (singles p) s (f u (inl refl) (eqb→eq (ones u) 1 e)) rest) (λ _. rest)
 
 -- a set of one name contains no term, or the empty one, or that of its name
@@ -110,12 +111,12 @@ holds-mark s a r p e d f =
 -- ---- the loop
 
 -- the empty term adds no name
-singles-few : (t : ℕ) (p : List ℕ) → leb (ones t) 1 ≡ true → singles (t ∷ p) ≡ union t (singles p)
-unfolding singles union
+singles-few : (t : ℕ) (p : List ℕ) → leb (ones t) 1 ≡ true → singles (t ∷ p) ≡ setUnion t (singles p)
+unfolding singles setUnion
 singles-few t p h =
-    cond-ind (λ (x : ℕ). x ≡ union t (singles p)) (eqb (ones t) 1) (union t (singles p)) (singles p) (λ _. refl) (λ n. empty n)
+    cond-ind (λ (x : ℕ). x ≡ setUnion t (singles p)) (eqb (ones t) 1) (setUnion t (singles p)) (singles p) (λ _. refl) (λ n. empty n)
   where
-    empty : T (not (eqb (ones t) 1)) → singles p ≡ union t (singles p)
+    empty : T (not (eqb (ones t) 1)) → singles p ≡ setUnion t (singles p)
     empty n =
         let other : ones t ≡ 1 → ⊥ = λ e. T-not (eqb (ones t) 1) n (true-T (eqb (ones t) 1) (eq-eqb (ones t) 1 e)) in
         let none : t ≡ 0 = ones-none t (omega (arith, other, leb→le (ones t) 1 (true-T (leb (ones t) 1) h))) in
@@ -124,15 +125,15 @@ singles-few t p h =
 singles-many : (t : ℕ) (p : List ℕ) → leb (ones t) 1 ≡ false → singles (t ∷ p) ≡ singles p
 unfolding singles
 singles-many t p h =
-    cond-ind (λ (x : ℕ). x ≡ singles p) (eqb (ones t) 1) (union t (singles p)) (singles p)
+    cond-ind (λ (x : ℕ). x ≡ singles p) (eqb (ones t) 1) (setUnion t (singles p)) (singles p)
     (λ e. absurd (T-not (leb (ones t) 1) (subst (λ (b : Bool). T (not b)) (sym h) tt) (le→leb (ones t) 1 (omega (arith, eqb→eq (ones t) 1 e))))) (λ _. refl)
 
 -- m are the names of the terms before i; the names of the term at i are taken, or not
 module _ (p : List ℕ) (i m : ℕ) where
-  pub singles-take : i < length p → leb (ones (getD p i 0)) 1 ≡ true → union (union m (getD p i 0)) (singles (drop (i + 1) p)) ≡ union m (singles (drop i p))
+  pub singles-take : i < length p → leb (ones (getD p i 0)) 1 ≡ true → setUnion (setUnion m (getD p i 0)) (singles (drop (i + 1) p)) ≡ setUnion m (singles (drop i p))
   singles-take h e = rw (drop-next p i h, singles-few (getD p i 0) (drop (i + 1) p) e) (union-assoc m (getD p i 0) (singles (drop (i + 1) p)))
 
-  pub singles-pass : i < length p → leb (ones (getD p i 0)) 1 ≡ false → union m (singles (drop (i + 1) p)) ≡ union m (singles (drop i p))
+  pub singles-pass : i < length p → leb (ones (getD p i 0)) 1 ≡ false → setUnion m (singles (drop (i + 1) p)) ≡ setUnion m (singles (drop i p))
   singles-pass h e = rw (drop-next p i h, singles-many (getD p i 0) (drop (i + 1) p) e)
 
 -- a term that is not empty passes, an empty one decides
@@ -146,7 +147,7 @@ unfolding markOf holds
 mark-all p i e h z =
     let here : holds 0 p ≡ true = e ∙ any-here (λ t. subset t 0) p i h (rw z (T-true (subset 0 0) (empty-subset 0))) in rw here
 
-pub mark-some : (p : List ℕ) (i m : ℕ) → holds 0 p ≡ holds 0 (drop i p) → length p ≤ i → union m (singles (drop i p)) ≡ singles p → markOf p ≡ m
+pub mark-some : (p : List ℕ) (i m : ℕ) → holds 0 p ≡ holds 0 (drop i p) → length p ≤ i → setUnion m (singles (drop i p)) ≡ singles p → markOf p ≡ m
 unfolding markOf holds singles
 mark-some p i m e h k =
     let none : holds 0 p ≡ false = e ∙ any-done (λ t. subset t 0) p i h in rw none (sym k ∙ rw (drop-of-length-le p {i = i} h) (union-none m))
@@ -162,20 +163,20 @@ pub alone-many : (t : ℕ) → leb (ones t) 1 ≡ false → singles (t ∷ []) �
 unfolding singles
 alone-many t h = singles-many t [] h
 
-singles-first : (t : ℕ) (p : List ℕ) → singles (t ∷ p) ≡ union (singles (t ∷ [])) (singles p)
+singles-first : (t : ℕ) (p : List ℕ) → singles (t ∷ p) ≡ setUnion (singles (t ∷ [])) (singles p)
 unfolding singles
 singles-first t p = go (eqb (ones t) 1)
   where
-    go : (b : Bool) → cond b (union t (singles p)) (singles p) ≡ union (cond b (union t 0) 0) (singles p)
+    go : (b : Bool) → cond b (setUnion t (singles p)) (singles p) ≡ setUnion (cond b (setUnion t 0) 0) (singles p)
     go true = rw (union-none t)
     go false = sym (union-comm 0 (singles p) ∙ union-none (singles p))
 
 -- a turn and the end of the loop over all terms; a are the names of the term at i
-pub singles-turn : (p : List ℕ) (i m a : ℕ) → i < length p → a ≡ singles (getD p i 0 ∷ []) → union (union m a) (singles (drop (i + 1) p)) ≡ union m (singles (drop i p))
+pub singles-turn : (p : List ℕ) (i m a : ℕ) → i < length p → a ≡ singles (getD p i 0 ∷ []) → setUnion (setUnion m a) (singles (drop (i + 1) p)) ≡ setUnion m (singles (drop i p))
 singles-turn p i m a h e =
     rw (drop-next p i h, singles-first (getD p i 0) (drop (i + 1) p), e) (union-assoc m (singles (getD p i 0 ∷ [])) (singles (drop (i + 1) p)))
 
-pub singles-done : (p : List ℕ) (i m : ℕ) → length p ≤ i → union m (singles (drop i p)) ≡ singles p → m ≡ singles p
+pub singles-done : (p : List ℕ) (i m : ℕ) → length p ≤ i → setUnion m (singles (drop i p)) ≡ singles p → m ≡ singles p
 unfolding singles
 singles-done p i m h k = sym (union-none m) ∙ rw (drop-of-length-le p {i = i} h) at k
 

@@ -14,7 +14,7 @@ use lib.ListN.{length, getD}
 use Rattle.names.specs.Sets.{subset, has}
 use Rattle.names.proofs.SetLaws.{subset-refl, subset-trans, subset-antisym, subset-le, empty-subset, ones-mono, test-ext}
 use Rattle.predicates.specs.Lists.{any, all, In}
-use Rattle.predicates.specs.Predicates.{holds, implies, degree, isTrue, struck, precedes, isNormal, insert, rising, minimal, normal, formed}
+use Rattle.predicates.specs.Predicates.{holds, implies, degree, isTrue, struck, precedes, isNormal, insertRising, rising, minimal, normal, formed}
 use Rattle.predicates.proofs.ListLaws.{both, both-l, both-r, or-l, or-r, or-cases, or-swap, cond-ind, in-cases, any-in, any-out, all-in, all-out, keep-out}
 
 -- ---- holds
@@ -87,12 +87,12 @@ degree-some (t ∷ p) h = go (leb (ones t) (degree p)) refl (λ k. degree-some p
 -- ---- normal form: the order
 
 -- a test passes for some term after sorting where it did before
-any-insert : (f : ℕ → Bool) (t : ℕ) (p : List ℕ) → any f (insert t p) ≡ f t || any f p
-unfolding insert
+any-insert : (f : ℕ → Bool) (t : ℕ) (p : List ℕ) → any f (insertRising t p) ≡ f t || any f p
+unfolding insertRising
 any-insert f t [] = refl
 any-insert f t (u ∷ p) =
     let rest = any-insert f t p in
-    cond-ind (λ q. any f q ≡ f t || any f (u ∷ p)) (leb t u) (t ∷ u ∷ p) (u ∷ insert t p) (λ _. refl)
+    cond-ind (λ q. any f q ≡ f t || any f (u ∷ p)) (leb t u) (t ∷ u ∷ p) (u ∷ insertRising t p) (λ _. refl)
     (λ _. ap (λ (b : Bool). f u || b) rest ∙ or-swap (f u) (f t) (any f p))
 
 pub any-rising : (f : ℕ → Bool) (p : List ℕ) → any f (rising p) ≡ any f p
@@ -104,18 +104,18 @@ holds-rising : (s : ℕ) (p : List ℕ) → holds s (rising p) ≡ holds s p
 unfolding holds
 holds-rising s p = any-rising (λ t. subset t s) p
 
-insert-out : (t : ℕ) (p : List ℕ) (a : ℕ) → In a (insert t p) → (a ≡ t) ⊎ In a p
-unfolding insert
+insert-out : (t : ℕ) (p : List ℕ) (a : ℕ) → In a (insertRising t p) → (a ≡ t) ⊎ In a p
+unfolding insertRising
 insert-out t [] a = λ h. h
 insert-out t (u ∷ p) a =
     let rest = insert-out t p a in
-    cond-ind (λ m. In a m → (a ≡ t) ⊎ In a (u ∷ p)) (leb t u) (t ∷ u ∷ p) (u ∷ insert t p) (λ _ h. h) (λ _ h. go rest h)
+    cond-ind (λ m. In a m → (a ≡ t) ⊎ In a (u ∷ p)) (leb t u) (t ∷ u ∷ p) (u ∷ insertRising t p) (λ _ h. h) (λ _ h. go rest h)
   where
     up : (a ≡ t) ⊎ In a p → (a ≡ t) ⊎ In a (u ∷ p)
     up (inl e) = inl e
     up (inr m) = inr (inr m)
 
-    go : (In a (insert t p) → (a ≡ t) ⊎ In a p) → In a (u ∷ insert t p) → (a ≡ t) ⊎ In a (u ∷ p)
+    go : (In a (insertRising t p) → (a ≡ t) ⊎ In a p) → In a (u ∷ insertRising t p) → (a ≡ t) ⊎ In a (u ∷ p)
     go rest (inl e) = inr (inl e)
     go rest (inr m) = up (rest m)
 
@@ -129,12 +129,12 @@ Rising : List ℕ → Type 0
 Rising [] = Unit {0}
 Rising (t ∷ p) = ((u : ℕ) → In u p → t ≤ u) × Rising p
 
-insert-rising : (t : ℕ) (p : List ℕ) → Rising p → Rising (insert t p)
-unfolding insert Rising
+insert-rising : (t : ℕ) (p : List ℕ) → Rising p → Rising (insertRising t p)
+unfolding insertRising Rising
 insert-rising t [] r = ((λ u m. absurd m), tt)
 insert-rising t (u ∷ p) r =
     let rest = insert-rising t p (r .1) in
-    cond-ind (λ q. Rising q) (leb t u) (t ∷ u ∷ p) (u ∷ insert t p)
+    cond-ind (λ q. Rising q) (leb t u) (t ∷ u ∷ p) (u ∷ insertRising t p)
     (λ l. ((λ v m. low (leb→le t u l) v m), r))
     (λ l. ((λ v m. ⊎-elim (λ e. omega (arith, nleb→lt t u l)) (λ k. r .0 v k) (insert-out t p v m)), rest))
   where

@@ -15,7 +15,8 @@ use lib.Dec.{T, ltb, ltb→lt, lt→ltb, nltb→le, eqb, eqb→eq}
 use lib.ListN.{length, getD, drop, drop-of-length-le}
 use lib.Seq.{slice, slice-cons, slice-empty}
 use borrow.Author.Tests.{eq-eqb}
-use Rattle.names.specs.Sets.{subset, union, has, digit}
+use Rattle.names.specs.Sets.{subset, setUnion, has}
+use Rattle.names.specs.code.Parts.{digit}
 use Rattle.names.proofs.SetLaws.{test-ext, digit-lt, digit-union, digit-empty, digit-single-same, digit-single-other, digits-ext, subset-trans}
 use Rattle.names.proofs.SetLaws.{subset-le, union-left, union-right, union-comm, union-none, union-assoc, union-left-comm, union-above}
 use Rattle.names.proofs.SetLaws.{has-in, has-out, has-mono}
@@ -48,8 +49,8 @@ under seen v = ltb seen (bitOf v)
 
 -- ---- bits
 
-union-same : (s : ℕ) → union s s ≡ s
-union-same s = digits-ext (union s s) s (λ n. omega (arith, digit-union s s n))
+union-same : (s : ℕ) → setUnion s s ≡ s
+union-same s = digits-ext (setUnion s s) s (λ n. omega (arith, digit-union s s n))
 
 bit-le : {i j : ℕ} → i ≤ j → 2 ^ i ≤ 2 ^ j
 bit-le h = pow-le-pow-right (omega arith) h
@@ -61,18 +62,18 @@ bit-above : (n : ℕ) → 0 < 2 ^ n
 bit-above n = one-le-pow n 2 (omega arith)
 
 -- the bits seen, and one above them
-seen-sum : (seen i : ℕ) → seen < 2 ^ i → union seen (2 ^ i) ≡ 2 ^ i + seen
+seen-sum : (seen i : ℕ) → seen < 2 ^ i → setUnion seen (2 ^ i) ≡ 2 ^ i + seen
 seen-sum seen i h = union-comm seen (2 ^ i) ∙ union-above i seen h
 
 -- a bit is above these where its identifier is above the last
-seen-out : (seen i j : ℕ) → seen < 2 ^ i → union seen (2 ^ i) < 2 ^ j → i < j
+seen-out : (seen i j : ℕ) → seen < 2 ^ i → setUnion seen (2 ^ i) < 2 ^ j → i < j
 seen-out seen i j h k = by (split (ltb i j))
   where
     by : T (ltb i j) ⊎ T (not (ltb i j)) → i < j
     by (inl t) = ltb→lt i j t
     by (inr t) = absurd (omega (arith, bit-le (nltb→le i j t), seen-sum seen i h))
 
-seen-in : (seen i j : ℕ) → seen < 2 ^ i → i < j → union seen (2 ^ i) < 2 ^ j
+seen-in : (seen i j : ℕ) → seen < 2 ^ i → i < j → setUnion seen (2 ^ i) < 2 ^ j
 seen-in seen i j h k = omega (arith, bit-next i j k, seen-sum seen i h)
 
 -- ---- the test in one pass
@@ -82,12 +83,12 @@ abbrev above : ℕ → List ℕ → Bool
 above seen ws = all (under seen) ws
 
 module _ (mask : ℕ) where
-  walk-in : (seen : ℕ) (ws : List ℕ) → T (all small ws) → T (above seen ws) → T (rises ws) → union seen (named ws) ≡ mask
+  walk-in : (seen : ℕ) (ws : List ℕ) → T (all small ws) → T (above seen ws) → T (rises ws) → setUnion seen (named ws) ≡ mask
       → T (namesFrom mask seen ws)
   unfolding namesFrom rises named
   walk-in seen [] a b c e = true-T _ (eq-eqb seen mask (sym (union-none seen) ∙ e))
   walk-in seen (w ∷ ws) a b c e =
-      let next = union seen (bitOf w) in
+      let next = setUnion seen (bitOf w) in
       let low = ltb→lt seen (bitOf w) (both-l (under seen w) _ b) in
       let rising = both-l (all (over w) ws) (rises ws) c in
       let later = all-mono (over w) (under next) ws
@@ -96,11 +97,11 @@ module _ (mask : ℕ) where
       (walk-in next ws (both-r (small w) _ a) later (both-r (all (over w) ws) (rises ws) c) (union-assoc seen (bitOf w) (named ws) ∙ e))
 
   walk-out : (seen : ℕ) (ws : List ℕ) → T (namesFrom mask seen ws)
-      → T (all small ws) × T (above seen ws) × T (rises ws) × (union seen (named ws) ≡ mask)
+      → T (all small ws) × T (above seen ws) × T (rises ws) × (setUnion seen (named ws) ≡ mask)
   unfolding namesFrom rises named
   walk-out seen [] t = (tt, tt, tt, union-none seen ∙ eqb→eq seen mask t)
   walk-out seen (w ∷ ws) t =
-      let next = union seen (bitOf w) in
+      let next = setUnion seen (bitOf w) in
       let this = both-l (follows seen w) _ t in
       let here = both-r (small w) (under seen w) this in
       let low = ltb→lt seen (bitOf w) here in
@@ -132,11 +133,11 @@ module _ (mask : ℕ) where
 
   -- a turn of the loop over the words from i up to j, and its end
   pub names-turn : (ws : List ℕ) (i j seen s′ : ℕ) (ok b t : Bool) → i < j → j ≤ length ws → b ≡ follows seen (getD ws i 0)
-      → s′ ≡ union seen (bitOf (getD ws i 0)) → ok && namesFrom mask seen (slice i j ws) ≡ t → ok && b && namesFrom mask s′ (slice (i + 1) j ws) ≡ t
+      → s′ ≡ setUnion seen (bitOf (getD ws i 0)) → ok && namesFrom mask seen (slice i j ws) ≡ t → ok && b && namesFrom mask s′ (slice (i + 1) j ws) ≡ t
   unfolding namesFrom
   names-turn ws i j seen s′ ok b t h k e f p =
       let w = getD ws i 0 in
-      let rest = namesFrom mask (union seen (bitOf w)) (slice (suc i) j ws) in
+      let rest = namesFrom mask (setUnion seen (bitOf w)) (slice (suc i) j ws) in
       rw (e, f, add-one) (and-assoc ok (follows seen w) rest ∙ rw (slice-cons i j ws 0 h k) at p)
 
   pub names-done : (ws : List ℕ) (i j seen : ℕ) (ok t : Bool) → i ≡ j → ok && namesFrom mask seen (slice i j ws) ≡ t → ok && eqb seen mask ≡ t
@@ -146,18 +147,18 @@ module _ (mask : ℕ) where
 -- ---- the identifiers that are wanted
 
 module _ (s : ℕ) where
-  wanted-own : (ts : List ℕ) → union (2 ^ s) (wanted s ts) ≡ wanted s ts
+  wanted-own : (ts : List ℕ) → setUnion (2 ^ s) (wanted s ts) ≡ wanted s ts
   unfolding wanted
   wanted-own [] = union-same (2 ^ s)
-  wanted-own (t ∷ ts) = union-left-comm (2 ^ s) t (wanted s ts) ∙ ap (λ (x : ℕ). union t x) (wanted-own ts)
+  wanted-own (t ∷ ts) = union-left-comm (2 ^ s) t (wanted s ts) ∙ ap (λ (x : ℕ). setUnion t x) (wanted-own ts)
 
   -- the loop: it starts at the sender alone, a turn takes one term more, and the end
-  pub wanted-start : (ts : List ℕ) → (union (2 ^ s) (wanted s ts) ≡ wanted s ts) × (union (2 ^ s) (2 ^ s) ≡ 2 ^ s)
+  pub wanted-start : (ts : List ℕ) → (setUnion (2 ^ s) (wanted s ts) ≡ wanted s ts) × (setUnion (2 ^ s) (2 ^ s) ≡ 2 ^ s)
   wanted-start ts = (wanted-own ts, union-same (2 ^ s))
 
-  pub wanted-turn : (ts : List ℕ) (i m m′ t : ℕ) → i < length ts → m′ ≡ union m (payload (getD ts i 0))
-      → (union m (wanted s (masks (drop i ts))) ≡ t) × (union m (2 ^ s) ≡ m)
-      → (union m′ (wanted s (masks (drop (i + 1) ts))) ≡ t) × (union m′ (2 ^ s) ≡ m′)
+  pub wanted-turn : (ts : List ℕ) (i m m′ t : ℕ) → i < length ts → m′ ≡ setUnion m (payload (getD ts i 0))
+      → (setUnion m (wanted s (masks (drop i ts))) ≡ t) × (setUnion m (2 ^ s) ≡ m)
+      → (setUnion m′ (wanted s (masks (drop (i + 1) ts))) ≡ t) × (setUnion m′ (2 ^ s) ≡ m′)
   unfolding wanted masks
   wanted-turn ts i m m′ t h e p =
       let x = payload (getD ts i 0) in (
@@ -165,7 +166,7 @@ module _ (s : ℕ) where
         rw e (union-assoc m x (2 ^ s) ∙ rw (union-comm x (2 ^ s), ← (union-assoc m (2 ^ s) x), p .1)),
       )
 
-  pub wanted-done : (ts : List ℕ) (i m t : ℕ) → length ts ≤ i → (union m (wanted s (masks (drop i ts))) ≡ t) × (union m (2 ^ s) ≡ m) → m ≡ t
+  pub wanted-done : (ts : List ℕ) (i m t : ℕ) → length ts ≤ i → (setUnion m (wanted s (masks (drop i ts))) ≡ t) × (setUnion m (2 ^ s) ≡ m) → m ≡ t
   unfolding wanted masks
   wanted-done ts i m t h p = sym (p .1) ∙ rw (drop-of-length-le ts {i = i} h) at (p .0)
 
@@ -178,11 +179,11 @@ module _ (s : ℕ) where
   pub wanted-term : (ts : List ℕ) (t : ℕ) → In t ts → T (subset t (wanted s ts))
   unfolding wanted
   wanted-term [] t h = absurd h
-  wanted-term (u ∷ ts) t (inl e) = subst (λ (x : ℕ). T (subset x (union u (wanted s ts)))) (sym e) (union-left u (wanted s ts))
-  wanted-term (u ∷ ts) t (inr h) = subset-trans t (wanted s ts) (union u (wanted s ts)) (wanted-term ts t h) (union-right u (wanted s ts))
+  wanted-term (u ∷ ts) t (inl e) = subst (λ (x : ℕ). T (subset x (setUnion u (wanted s ts)))) (sym e) (union-left u (wanted s ts))
+  wanted-term (u ∷ ts) t (inr h) = subset-trans t (wanted s ts) (setUnion u (wanted s ts)) (wanted-term ts t h) (union-right u (wanted s ts))
 
   pub wanted-lt : (ts : List ℕ) → s ≤ 28 → Masks ts → wanted s ts < payloadSize
-  unfolding wanted union
+  unfolding wanted setUnion
   wanted-lt [] h m = let p : 2 ^ s ≤ 2 ^ 28 = bit-le h in omega arith
   wanted-lt (t ∷ ts) h m = or-lt 29 t (wanted s ts) (m 0) (wanted-lt ts h (λ i. m (suc i)))
 
@@ -191,7 +192,7 @@ module _ (s : ℕ) where
 named-bit : (ws : List ℕ) (w : ℕ) → In w ws → T (subset (bitOf w) (named ws))
 unfolding named
 named-bit [] w h = absurd h
-named-bit (v ∷ ws) w (inl e) = subst (λ (x : ℕ). T (subset (bitOf x) (union (bitOf v) (named ws)))) (sym e) (union-left (bitOf v) (named ws))
+named-bit (v ∷ ws) w (inl e) = subst (λ (x : ℕ). T (subset (bitOf x) (setUnion (bitOf v) (named ws)))) (sym e) (union-left (bitOf v) (named ws))
 named-bit (v ∷ ws) w (inr h) = subset-trans (bitOf w) (named ws) _ (named-bit ws w h) (union-right (bitOf v) (named ws))
 
 pub named-in : (ws : List ℕ) (w : ℕ) → In w ws → T (has (identifierOf w) (named ws))

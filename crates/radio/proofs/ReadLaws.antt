@@ -27,7 +27,7 @@ use Rattle.message.proofs.ReadLaws.{Above, above-cond, above-or, above-contents
 use Rattle.message.proofs.MessageLaws.{masks-lt}
 use Rattle.epochs.specs.Epochs.{nameLimit, epochsMost}
 use Rattle.radio.specs.Names.{named, wanted, rises, namesFit}
-use Rattle.radio.specs.Read.{wordsLeast, wordsMost, leading, epochCount, opening, epochPart, epochsFit, readWords, epochWords}
+use Rattle.radio.specs.Read.{wordsLeast, wordsMost, leading, epochCount, opening, epochPart, epochWordsFit, readWords, epochWords}
 use Rattle.radio.proofs.NameLaws.{wanted-sender, wanted-term, wanted-lt, fit-below, fit-rises, fit-named, fit-few}
 
 -- ---- words of kind 0 at the front
@@ -133,11 +133,11 @@ module _ {ends : Bool} {ws : List ℕ} {s l r n : ℕ} (t : Live ends ws s l r n
       omega (arith, start-bounds (opening ws) ends, part-few, part-some)
 
   pub read-in : readWords ws ≡ Message s l r n
-  unfolding readWords epochsFit
+  unfolding readWords epochWordsFit
   read-in =
       let here = t .taken in
       let size = length-live in
-      let fit : epochsFit ws ≡ true = rw (← (here .sender), here .form) (T-true _ (t .fit)) in
+      let fit : epochWordsFit ws ≡ true = rw (← (here .sender), here .form) (T-true _ (t .fit)) in
       rw (le-ltb (length ws) wordsLeast (size .0), le-ltb wordsMost (length ws) (size .1), taken-shaped here, fit) (contents-in here)
 
   -- the epoch words are those right behind the head, the term words those between the interval and the last word
@@ -184,10 +184,10 @@ module _ {ends : Bool} {ws : List ℕ} {s l r n : ℕ} (t : Live ends ws s l r n
       rw epochs-named (has-mono i u (wanted s us) (wanted-term s us u h) k)
 
 pub read-out : {s l r n : ℕ} (ws : List ℕ) → readWords ws ≡ Message s l r n → Live (isEnds (opening ws) ws) ws s l r n
-unfolding readWords epochsFit
+unfolding readWords epochWordsFit
 read-out ws e =
     let shape = passed-or (shapeRefusal (opening ws) ws) _ (past (ltb (length ws) wordsLeast || ltb wordsMost (length ws)) 10 _ e) in
-    let fit = passed (epochsFit ws) 42 _ (shape .1) in
+    let fit = passed (epochWordsFit ws) 42 _ (shape .1) in
     let here = taken-out (opening ws) ws (shape-out (opening ws) ws (shape .0)) (fit .1) in
     record { taken = here; fit = rw (here .sender) (fit .0) }
 
@@ -198,4 +198,4 @@ unfolding Above readWords
 refused-above ws number e =
     subst (λ (r : Reading). Above r) e
     (above-cond (ltb (length ws) wordsLeast || ltb wordsMost (length ws)) 10 _ (omega arith)
-    (above-or (shapeRefusal (opening ws) ws) _ (above-cond (not (epochsFit ws)) 42 _ (omega arith) (above-contents (opening ws) ws))))
+    (above-or (shapeRefusal (opening ws) ws) _ (above-cond (not (epochWordsFit ws)) 42 _ (omega arith) (above-contents (opening ws) ws))))

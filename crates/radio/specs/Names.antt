@@ -5,7 +5,7 @@ use mathlib.Core.Bool.{Bool, true, _&&_}
 use mathlib.Core.List.{List, [], _∷_, map}
 use lib.Dec.{ltb, eqb}
 use lib.ListN.{getD}
-use Rattle.names.specs.Sets.{union, has}
+use Rattle.names.specs.Sets.{setUnion, has}
 use Rattle.predicates.specs.Lists.{all, keep}
 use Rattle.numbers.specs.Numbers.{tab}
 use Rattle.epochs.specs.Epochs.{identifierOf, name, nameLimit, epochsMost}
@@ -13,12 +13,12 @@ use Rattle.epochs.specs.Epochs.{identifierOf, name, nameLimit, epochsMost}
 -- the identifiers that names have, as a mask
 unfoldable pub named : List ℕ → ℕ
 named [] = 0
-named (w ∷ ws) = union (2 ^ identifierOf w) (named ws)
+named (w ∷ ws) = setUnion (2 ^ identifierOf w) (named ws)
 
 -- "the sender and each identifier in its terms", as a mask
 unfoldable pub wanted : ℕ → List ℕ → ℕ
 wanted sender [] = 2 ^ sender
-wanted sender (t ∷ ts) = union t (wanted sender ts)
+wanted sender (t ∷ ts) = setUnion t (wanted sender ts)
 
 -- "rising"
 unfoldable pub rises : List ℕ → Bool

@@ -43,8 +43,8 @@ unfoldable pub epochPart : List ℕ → List ℕ
 epochPart ws = slice 1 (opening ws) ws
 
 -- the other way round from 42: the epoch words fit the sender and the terms
-unfoldable pub epochsFit : List ℕ → Bool
-epochsFit ws = namesFit (wanted (senderOf (getD ws 0 0)) (masks (middle (opening ws) (isEnds (opening ws) ws) ws))) (epochPart ws)
+unfoldable pub epochWordsFit : List ℕ → Bool
+epochWordsFit ws = namesFit (wanted (senderOf (getD ws 0 0)) (masks (middle (opening ws) (isEnds (opening ws) ws) ws))) (epochPart ws)
 
 -- ---- the reading
 
@@ -53,7 +53,7 @@ unfoldable pub readWords : List ℕ → Reading
 readWords ws =
     cond (ltb (length ws) wordsLeast || ltb wordsMost (length ws)) (Refused 10)
     (refusedOr (shapeRefusal (opening ws) ws)
-    (cond (not (epochsFit ws)) (Refused 42) (contents (opening ws) ws)))
+    (cond (not (epochWordsFit ws)) (Refused 42) (contents (opening ws) ws)))
 
 -- the epoch words, handed back as the term words are: the words of kind 0 of a message that is taken
 unfoldable pub epochWords : Reading → List ℕ → List ℕ

@@ -7,7 +7,7 @@ ghost use lib.ListN.{length};
 ghost use Rattle.message.specs.Words.{masks};
 ghost use Rattle.message.specs.Read.{shapeRefusal, termWords};
 ghost use Rattle.radio.specs.Names.{wanted as Names·wanted, namesFit};
-ghost use Rattle.radio.specs.Read.{opening, epochPart, epochsFit, readWords, epochWords};
+ghost use Rattle.radio.specs.Read.{opening, epochPart, epochWordsFit, readWords, epochWords};
 use super::NAME_LIMIT;
 use super::WORDS_LEAST;
 use super::WORDS_MOST;
@@ -60,7 +60,7 @@ pub fn wanted(sender: u32, terms: &[u32]) -> u32
 fn epochs_fit(words: &[u32], walked: Walked) -> bool
     requires { ⌜ (walked .at ≡ opening (now words)) × (shapeRefusal (walked .at) (now words) ≡ 0)
         × ((mask : ℕ) → walked .ok && eqb (walked .seen) mask ≡ namesFit mask (epochPart (now words))) ⌝ }
-    ensures { λ r. ⌜ r ≡ epochsFit (now (words .entry)) ⌝ }
+    ensures { λ r. ⌜ r ≡ epochWordsFit (now (words .entry)) ⌝ }
 {
     let head = words[0];
     let last = words.len() - 1;

@@ -15,7 +15,8 @@ use lib.ListN.{length, getD, set, length-set}
 use lib.Seq.{getD-set-same, getD-set-other}
 use Rattle.numbers.specs.Numbers.{put, Bytes}
 use Rattle.numbers.proofs.NumberLaws.{tab-ext}
-use Rattle.names.specs.Sets.{has, digit}
+use Rattle.names.specs.Sets.{has}
+use Rattle.names.specs.code.Parts.{digit}
 use Rattle.names.proofs.SetLaws.{digit-empty}
 use Rattle.predicates.specs.Lists.{all}
 use Rattle.predicates.proofs.ListLaws.{both, both-l, both-r, cond-ind}

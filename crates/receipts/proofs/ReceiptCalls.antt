@@ -12,7 +12,7 @@ use lib.Dec.{T, eqb}
 use lib.ListN.{length, take, drop}
 use lib.Seq.{sets, sets-eq, take-at}
 use Rattle.numbers.specs.Numbers.{put}
-use Rattle.names.specs.Sets.{noSet, union, has}
+use Rattle.names.specs.Sets.{noSet, setUnion, has}
 use Rattle.message.specs.Words.{masks}
 use Rattle.message.proofs.WordLaws.{length-masks}
 use Rattle.predicates.specs.Lists.{In, padded}
@@ -166,7 +166,7 @@ datum-arrived s g left right p l r e = rw (l, r, e)
 
 -- readings of a sender that is late, or that has risen, are not tested
 tested-same : (h : Head) (g : Delivery) (tested : Readings) → g .sender < length (h .clocks)
-    → tested ≡ cond (has (g .sender) (union (late h g) (risen h g))) Without (g .readings)
+    → tested ≡ cond (has (g .sender) (setUnion (late h g) (risen h g))) Without (g .readings)
     → violatedBy (h .drift) (clockOf h (g .sender)) tested ≡ violated h g
 unfolding violated heeded hearing
 tested-same h g tested l e =
@@ -181,7 +181,7 @@ tested-same h g tested l e =
     quiet v = sym (violated-none (h .drift) v Without refl)
 
     go : (a b : Bool) → has (g .sender) (late h g) ≡ a → has (g .sender) (risen h g) ≡ b
-        → violatedBy (h .drift) old (cond (has (g .sender) (union (late h g) (risen h g))) Without (g .readings))
+        → violatedBy (h .drift) old (cond (has (g .sender) (setUnion (late h g) (risen h g))) Without (g .readings))
         ≡ violatedBy (h .drift) (cond (has (g .sender) (risen h g)) nothing old) (cond (has (g .sender) (late h g)) Without (g .readings))
     go true b p q =
         rw (has-union-l (g .sender) (late h g) (risen h g) p, p) (sym (quiet old) ∙ quiet (cond (has (g .sender) (risen h g)) nothing old))
@@ -193,7 +193,7 @@ tested-same h g tested l e =
 
 -- the same, told of the identifiers that were heard
 pub tested-there : (h : Head) (g : Delivery) (tested : Readings) (l r : ℕ) → g .sender < length (h .clocks) → l ≡ late h g → r ≡ risen h g
-    → tested ≡ cond (has (g .sender) (union l r)) Without (g .readings) → violatedBy (h .drift) (clockOf h (g .sender)) tested ≡ violated h g
+    → tested ≡ cond (has (g .sender) (setUnion l r)) Without (g .readings) → violatedBy (h .drift) (clockOf h (g .sender)) tested ≡ violated h g
 tested-there h g tested l r b p q e = tested-same h g tested b (e ∙ rw (p, q))
 
 pub heeded-there : (h : Head) (g : Delivery) (t : Readings) (l : ℕ) → l ≡ late h g → t ≡ cond (has (g .sender) l) Without (g .readings) → t ≡ heeded h g

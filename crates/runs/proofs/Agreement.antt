@@ -13,7 +13,7 @@ use native.Mathlib.Omega.{arith}
 use lib.Dec.{T}
 use lib.ListN.{length}
 use lib.IntN.{ℤ, pos, _+ℤ_}
-use Rattle.names.specs.Sets.{union, has}
+use Rattle.names.specs.Sets.{setUnion, has}
 use Rattle.names.proofs.SetLaws.{union-comm, union-assoc, has-union-none}
 use Rattle.predicates.specs.Predicates.{holds, implies}
 use Rattle.predicates.proofs.ListLaws.{split}
@@ -171,19 +171,19 @@ module _ (ks js : List ℕ) (s u : ℕ) (same : (es : List ℕ) → NotAbove es 
 
 -- the old state, at the set with the risen names, is the new one
 pub withdrawn-agrees : (ks es : List ℕ) → length es ≤ length ks → (s : ℕ) (k : Store) (ls : List Line) → Known ks ls
-    → Agrees (sees ks (union s (older ks es))) (union s (older ks es)) k ls → Agrees (sees (raised ks es) s) s (withdrawn (older ks es) k) ls
+    → Agrees (sees ks (setUnion s (older ks es))) (setUnion s (older ks es)) k ls → Agrees (sees (raised ks es) s) s (withdrawn (older ks es) k) ls
 withdrawn-agrees ks es fits s k ls known ag =
     let r = older ks es in
-    let walk = walk-same ks (raised ks es) s (union s r) (λ fs b. later fs b) ls known in
+    let walk = walk-same ks (raised ks es) s (setUnion s r) (λ fs b. later fs b) ls known in
     record {
       forth = λ x h. let w = ag .forth x (withdrawn-fine s r k x .0 h) in (w .0, walk (w .0) x .1 (w .1));
       back = λ x w. withdrawn-fine s r k x .1 (ag .back x (w .0, walk (w .0) x .0 (w .1)));
       some = withdrawn-some s r k (ag .some);
     }
   where
-    later : (fs : List ℕ) → NotAbove fs ks → union s (older fs (raised ks es)) ≡ union (union s (older ks es)) (older fs ks)
+    later : (fs : List ℕ) → NotAbove fs ks → setUnion s (older fs (raised ks es)) ≡ setUnion (setUnion s (older ks es)) (older fs ks)
     later fs b =
-        ap (λ (m : ℕ). union s m) (older-raised ks es fits fs b ∙ union-comm (older fs ks) (older ks es)) ∙ sym (union-assoc s (older ks es) (older fs ks))
+        ap (λ (m : ℕ). setUnion s m) (older-raised ks es fits fs b ∙ union-comm (older fs ks) (older ks es)) ∙ sym (union-assoc s (older ks es) (older fs ks))
 
 -- ---- a receipt
 
@@ -209,7 +209,7 @@ receipt-agrees h g f k ls known ag s =
     let ks = h .epochs in
     let es = spokenBy h g in
     let fits : length es ≤ length ks = omega (arith, length-spokenBy h g) in
-    let old = withdrawn-agrees ks es fits s k ls known (ag (union s (older ks es))) in
+    let old = withdrawn-agrees ks es fits s k ls known (ag (setUnion s (older ks es))) in
     let now-late : older es (raised ks es) ≡ older es ks = late-before ks es fits in
     judged-agrees (sees (raised ks es) s) s (withdrawn (older ks es) k) ls old (violated h g) (g .sender) es (grown h g)
     (withdraw (older es ks) (grown h g .terms)) (grown-ends h g f) (arrived-single h g)

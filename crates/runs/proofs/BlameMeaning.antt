@@ -11,7 +11,8 @@ use native.Mathlib.Omega.{arith}
 use native.Mathlib.Decide.{ℕ-discrete}
 use lib.Dec.{T}
 use lib.IntN.{ℤ, pos}
-use Rattle.names.specs.Sets.{subset, has, digit}
+use Rattle.names.specs.Sets.{subset, has}
+use Rattle.names.specs.code.Parts.{digit}
 use Rattle.names.proofs.SetLaws.{digit-single-same, digit-single-other, subset-in, has-in, has-out, has-mono}
 use Rattle.predicates.specs.Lists.{all}
 use Rattle.predicates.specs.Predicates.{holds}

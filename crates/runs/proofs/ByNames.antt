@@ -10,7 +10,8 @@ use native.Mathlib.Omega.{arith}
 use lib.Dec.{T, T-not, ltb, ltb→lt, lt→ltb}
 use lib.ListN.{getD}
 use lib.IntN.{ℤ, pos, _+ℤ_}
-use Rattle.names.specs.Sets.{subset, has, digit}
+use Rattle.names.specs.Sets.{subset, has}
+use Rattle.names.specs.code.Parts.{digit}
 use Rattle.names.proofs.SetLaws.{digit-lt, digit-union, subset-out, subset-in, has-in, has-out}
 use Rattle.predicates.specs.Lists.{In}
 use Rattle.predicates.specs.Predicates.{holds}

@@ -17,11 +17,11 @@ use Rattle.predicates.specs.Lists.{all, In}
 use Rattle.predicates.proofs.ListLaws.{cond-ind, both-l, both-r}
 use Rattle.ends.specs.Ends.{down, up}
 use Rattle.message.specs.Words.{payload, masks, endsLimit}
-use Rattle.message.specs.Read.{senderOf, countOf, headWordFits, isEnds, opens, start, span, pair, middle, kindsFit, checkFits, withSpan}
+use Rattle.message.specs.Read.{senderOf, termCount, headWordFits, isEnds, opens, start, span, pair, middle, kindsFit, checkFits, withSpan}
 use Rattle.message.specs.Read.{shapeRefusal, contents, refusedOr}
 use Rattle.epochs.specs.Epochs.{epochsIn}
 use Rattle.radio.specs.Names.{wanted, namesOf}
-use Rattle.radio.specs.Read.{wordsLeast, wordsMost, epochCount, opening, epochsFit, readWords, epochWords}
+use Rattle.radio.specs.Read.{wordsLeast, wordsMost, epochCount, opening, epochWordsFit, readWords, epochWords}
 use Rattle.radio.specs.Write.{rewrittenAs}
 use Rattle.message.specs.declared.Interval.{Interval}
 use Rattle.message.specs.declared.Interval.the-variants.{Span, Bad}
@@ -47,7 +47,8 @@ use Rattle.asking.specs.declared.Fewest.{Fewest}
 use Rattle.asking.specs.declared.Fewest.the-variants.{Over, Few}
 use Rattle.asking.specs.Asking.{answer, answerNumbers}
 use Rattle.asking.specs.Fewest.{fewest, fewestNumbers}
-use Rattle.monitor.specs.Messages.{readBytes, answered, readingBytes, readNumber, readOutput, rewriteNumber, rewriteOutput, wordsIn, rewrittenBytes}
+use Rattle.monitor.specs.Messages.{readBytes, answered, readingBytes, readNumber, readOutput, rewriteNumber, rewriteOutput, rewrittenBytes}
+use Rattle.monitor.specs.code.Words.{wordsIn}
 use Rattle.monitor.specs.Calls.{setUpNumber, ageNumber, writeNumber, writtenWords, writtenBytes, setUpState, ageState, writeOutput}
 use Rattle.monitor.specs.Receive.{Receipt, receiptOf, receiptWith, delivered, deliveredAs, deliveredNumber, receiveNumber, deliveredState, receiptNumber}
 use Rattle.monitor.specs.Receive.{receiveState}
@@ -141,7 +142,7 @@ module _ (m : List ℕ) (f : Reading → ℕ) (us : List Test) (plain : (n : ℕ
   past-shape ws x n e h =
       let at = opening ws in
       past-or (shapeRefusal at ws) x n e h
-      ∙ nest (headWordFits (getD ws 0 0)) (opens at ws) (eqb (length ws) (start at (isEnds at ws) + countOf (getD ws 0 0) + 1)) (kindsFit at (isEnds at ws) ws) n
+      ∙ nest (headWordFits (getD ws 0 0)) (opens at ws) (eqb (length ws) (start at (isEnds at ws) + termCount (getD ws 0 0) + 1)) (kindsFit at (isEnds at ws) ws) n
 
   read-first : f (readBytes m) ≡ firstFailing (messageTests m ++ us)
   unfolding readBytes readWords contents firstFailing wordsFail
@@ -150,10 +151,10 @@ module _ (m : List ℕ) (f : Reading → ℕ) (us : List Test) (plain : (n : ℕ
       let at = opening ws in
       past-words (eqb (length m % 4) 0) (ltb (length ws) wordsLeast || ltb wordsMost (length ws)) _ _ refl (λ a.
       past-shape ws _ _ a (λ b.
-      past (not (epochsFit ws)) 42 _ _ b (λ e.
+      past (not (epochWordsFit ws)) 42 _ _ b (λ e.
       past (not (checkFits ws)) 15 _ _ e (λ g.
       rw (← (span-bad ws))
-      (past-span (senderOf (getD ws 0 0)) (countOf (getD ws 0 0)) (isNormal (masks (middle at (isEnds at ws) ws))) (span at (isEnds at ws) ws) g)))))
+      (past-span (senderOf (getD ws 0 0)) (termCount (getD ws 0 0)) (isNormal (masks (middle at (isEnds at ws) ws))) (span at (isEnds at ws) ws) g)))))
 
 -- ---- the numbers
 
@@ -163,7 +164,7 @@ read-number m out = read-first m (λ r. answered r (readingBytes r) out) (output
 
 -- what is written of a message that is read
 pub rewritten-size : {s l r n : ℕ} (m : List ℕ) → readBytes m ≡ Message s l r n
-    → length (rewrittenBytes m) ≡ endsFormSize (epochCount (wordsOf m)) (countOf (getD (wordsOf m) 0 0))
+    → length (rewrittenBytes m) ≡ endsFormSize (epochCount (wordsOf m)) (termCount (getD (wordsOf m) 0 0))
 rewritten-size {s} {l} {r} {n} m e =
     let words = words-in-taken m e in
     let read : readWords (wordsOf m) ≡ Message s l r n = rw words at (read-words-in m ∙ e) in
@@ -176,7 +177,7 @@ rewritten-size {s} {l} {r} {n} m e =
 rewrite-number : (m out : List ℕ) → returned (messageRewrite m out) ≡ firstFailing (tests (messageRewrite m out))
 unfolding tests rewriteNumber rewrittenBytes layoutSize answered firstFailing
 rewrite-number m out =
-    let size = endsFormSize (epochCount (wordsOf m)) (countOf (getD (wordsOf m) 0 0)) in
+    let size = endsFormSize (epochCount (wordsOf m)) (termCount (getD (wordsOf m) 0 0)) in
     read-first m (λ r. answered r (bytesOf (rewrittenAs r (wordsOf m))) out) (outputTests size out) (λ n. refl)
     (λ s l r n e.
     ap (λ (k : ℕ). refuse (ltb (length out) k) 24 0)
@@ -312,12 +313,12 @@ read-sized m out = go (readBytes m) refl
     go (Message s l r n) e z = refl
 
 rewrite-sized : (m out : List ℕ) → rewriteNumber m out ≡ 0
-    → length (rewrittenBytes m) ≡ endsFormSize (epochCount (wordsOf m)) (countOf (getD (wordsOf m) 0 0))
+    → length (rewrittenBytes m) ≡ endsFormSize (epochCount (wordsOf m)) (termCount (getD (wordsOf m) 0 0))
 unfolding rewriteNumber answered
 rewrite-sized m out = go (readBytes m) refl
   where
     go : (r : Reading) → readBytes m ≡ r → answered r (rewrittenBytes m) out ≡ 0
-        → length (rewrittenBytes m) ≡ endsFormSize (epochCount (wordsOf m)) (countOf (getD (wordsOf m) 0 0))
+        → length (rewrittenBytes m) ≡ endsFormSize (epochCount (wordsOf m)) (termCount (getD (wordsOf m) 0 0))
     go (Refused number) e z = absurd (omega (arith, refused-above (wordsIn m) number (read-words-in m ∙ e)))
     go (Message s l r n) e z = rewritten-size m e
 

@@ -23,7 +23,8 @@ use Rattle.radio.specs.Read.{epochWords}
 use Rattle.radio.proofs.ReadLaws.{refused-above}
 use Rattle.state.specs.Layout.{ownAt, headOf, datumAt, joined}
 use Rattle.state.specs.Refusal.{after}
-use Rattle.monitor.specs.Messages.{readBytes, wordsIn, answered, readingBytes, readNumber, readOutput, rewrittenBytes, rewriteNumber, rewriteOutput}
+use Rattle.monitor.specs.Messages.{readBytes, answered, readingBytes, readNumber, readOutput, rewrittenBytes, rewriteNumber, rewriteOutput}
+use Rattle.monitor.specs.code.Words.{wordsIn}
 use Rattle.monitor.specs.Calls.{writtenBytes, writeNumber, writeOutput}
 use Rattle.monitor.specs.Ask.{wide, Shows}
 use Rattle.monitor.proofs.MessageCalls.{read-words-in}

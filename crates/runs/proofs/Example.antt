@@ -6,15 +6,15 @@ use mathlib.Core.Logic.{inl, inr}
 use mathlib.Core.List.{List, map}
 use native.Mathlib.Nat.{le-refl}
 use lib.ListN.{length, getD, replicate, length-replicate}
-use Rattle.names.specs.Sets.{subset, union, minus, has}
+use Rattle.names.specs.Sets.{subset, setUnion, minus, has}
 use Rattle.numbers.specs.Numbers.{num, bytes, tab, wordsOf, bytesOf}
-use Rattle.predicates.specs.Predicates.{holds, implies, isTrue, isNormal, struck, insert, rising, minimal, normal, formed}
+use Rattle.predicates.specs.Predicates.{holds, implies, isTrue, isNormal, struck, insertRising, rising, minimal, normal, formed}
 use Rattle.message.specs.Words.{ofKind, masks, wordSum, check}
 use Rattle.message.specs.Read.{headWordFits, isEnds, opens, width, spanKinds, middle, kindsFit, checkFits, pair, span, withSpan}
 use Rattle.message.specs.Read.{shapeRefusal, contents, termWords}
 use Rattle.epochs.specs.Epochs.{epochsMost, withdraw, older, raised, told, spoken}
 use Rattle.radio.specs.Names.{named, wanted, rises, namesFit, namesOf}
-use Rattle.radio.specs.Read.{leading, epochCount, epochPart, epochsFit, readWords, epochWords}
+use Rattle.radio.specs.Read.{leading, epochCount, epochPart, epochWordsFit, readWords, epochWords}
 use Rattle.message.specs.Write.{endWords, front, body, messageWords}
 use Rattle.state.specs.Layout.{stateSize, zeros}
 use Rattle.entries.specs.Entries.{explained, learn, withdrawnEntries}
@@ -45,12 +45,12 @@ record OnStates : Type 0 where
   premise : Further (opened (usual 5)) fewerTaken moreTaken
 
 on-states : OnStates
-unfolding subset union has holds implies isTrue isNormal struck insert rising minimal normal formed
+unfolding subset setUnion has holds implies isTrue isNormal struck insertRising rising minimal normal formed
     num bytes tab wordsOf bytesOf
     ofKind masks wordSum check headWordFits isEnds opens width spanKinds middle kindsFit checkFits
     pair span withSpan shapeRefusal contents readWords termWords
     endWords front body messageWords readBytes
-    minus withdraw older raised told spoken named wanted rises namesFit namesOf leading epochCount epochPart epochsFit epochWords
+    minus withdraw older raised told spoken named wanted rises namesFit namesOf leading epochCount epochPart epochWordsFit epochWords
     spokenBy risen late cleared hearing heeded arrived withdrawnData withdrawnEntries withdrawn
     leastAdvance greatestAdvance slow fast widened aged
     grown disjoint explained learn learnt unexplained same meet met without betters stored heldAfter settled received

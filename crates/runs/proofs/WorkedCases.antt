@@ -8,17 +8,17 @@ use mathlib.Core.List.{List, [], _∷_, _++_}
 use native.Mathlib.Omega.{arith}
 use lib.Dec.{T, eqb, eqb→eq, nltb→le}
 use lib.ListN.{length, getD, length-append}
-use Rattle.names.specs.Sets.{subset, union, minus, has}
+use Rattle.names.specs.Sets.{subset, setUnion, minus, has}
 use Rattle.numbers.specs.Numbers.{num, bytes, tab, wordsOf, bytesOf}
 use Rattle.predicates.specs.Lists.{all}
-use Rattle.predicates.specs.Predicates.{holds, implies, isTrue, isNormal, struck, insert, rising, minimal, normal, formed}
+use Rattle.predicates.specs.Predicates.{holds, implies, isTrue, isNormal, struck, insertRising, rising, minimal, normal, formed}
 use Rattle.predicates.proofs.ListLaws.{both-l, both-r, T-true, all-out}
 use Rattle.message.specs.Words.{ofKind, masks, wordSum, check}
 use Rattle.message.specs.Read.{headWordFits, isEnds, opens, width, spanKinds, middle, kindsFit, checkFits, pair, span, withSpan}
 use Rattle.message.specs.Read.{shapeRefusal, contents, termWords}
 use Rattle.epochs.specs.Epochs.{withdraw, older, raised, told, spoken}
 use Rattle.radio.specs.Names.{named, wanted, rises, namesFit, namesOf}
-use Rattle.radio.specs.Read.{leading, epochCount, epochPart, epochsFit, readWords, epochWords}
+use Rattle.radio.specs.Read.{leading, epochCount, epochPart, epochWordsFit, readWords, epochWords}
 use Rattle.message.specs.Write.{endWords, front, body, messageWords}
 use Rattle.state.specs.Model.{Datum, datum, State}
 use Rattle.state.specs.Layout.{stateSize, stateBytes, headOf, storeOf, stateOf}
@@ -33,20 +33,20 @@ use Rattle.engine.specs.Ageing.{leastAdvance, greatestAdvance, slow, fast, wide
 use Rattle.engine.specs.Receiving.{grown}
 use Rattle.engine.specs.Hearing.{spokenBy, risen, late, cleared, hearing, heeded, arrived}
 use Rattle.clocks.specs.declared.Triple.{Triple}
-use Rattle.clocks.specs.Clocks.{savedOk, strays, aheadOf, behindOf, Saved, nothing, three, saving as Clocks·saving, violates, readingsFail, violatedBy, watched}
+use Rattle.clocks.specs.Clocks.{savedOk, strays, aheadOf, behindOf, Saved, nothing, three, saving, violates, readingsFail, violatedBy, watched}
 use Rattle.clocks.specs.Worked.{triple}
 use Rattle.engine.specs.Calls.{begun, setUp, clockOf, violated, moved, made, done}
 use Rattle.engine.specs.Refusals.{setUpRefusal, passesEnd, ageRefusal, receiptRefusal}
 use Rattle.asking.specs.declared.Answer.{Answer}
 use Rattle.asking.specs.declared.Answer.the-variants.{Contradicted, Open, Between}
-use Rattle.asking.specs.Asking.{cut, common, active, leaves, setsOf, sets, either, leftBy, exact, answer, answerNumbers}
+use Rattle.asking.specs.Asking.{cut, common, active, leaves, setsOf, setsWithin, either, leftBy, exact, answer, answerNumbers}
 use Rattle.monitor.specs.Messages.{readBytes}
 use Rattle.monitor.specs.Receive.{delivered, deliveredAs, deliveredNumber, deliveredState}
 use Rattle.monitor.specs.Calls.{ageNumber}
 use Rattle.monitor.specs.Ask.{limitMost, limitFails, limitRefusal, Shows, askNumber, askOutput}
 use Rattle.runs.specs.Book.{Step}
 use Rattle.runs.specs.Runs.{bytesRun, stateAfter}
-use Rattle.runs.specs.Cases.{Question, asking, refusing, holding, knowing, saving, dating, forming, advancing, returning, settingUp, Case, Comes, runOf, CaseComes, orderCases, clockCases, limitCases, cases, EachCase, Lent, LentComes, fractions, EachLent}
+use Rattle.runs.specs.Cases.{Question, asking, refusing, holding, knowing, remembering, dating, forming, advancing, returning, settingUp, Case, Comes, runOf, CaseComes, orderCases, clockCases, limitCases, cases, EachCase, Lent, LentComes, fractions, EachLent}
 use Rattle.runs.proofs.DecodedRuns.{numberOn, doneBy, next, stepsFrom, stateFrom, set-up-number, set-up-taken, number-on, steps-run, state-run, form-run, long-run, run-steps, run-state}
 use Rattle.runs.proofs.Runs.{reached}
 use Rattle.runs.proofs.Demand3.{ask-answers}
@@ -89,7 +89,7 @@ meets st (asking limit a) = eqb (limitRefusal limit 0) 0 && sameAnswer (answer l
 meets st (refusing limit number) = limitFails limit && eqb (limitRefusal limit 0) number
 meets st (holding ds) = alike sameDatum (st .store .held) ds
 meets st (knowing es) = alike same (st .store .entries) es
-meets st (saving name v) = sameSaved (clockOf (st .head) name) v
+meets st (remembering name v) = sameSaved (clockOf (st .head) name) v
 meets st (dating identifier epoch) = eqb (getD (st .head .epochs) identifier 0) epoch
 meets st (forming sender terms p) = same (formed (st .head .own) sender terms) p
 meets st (advancing reading lo hi) = eqb (ageRefusal st reading) 0 && (eqb (slow (st .head) reading) lo && eqb (fast (st .head) reading) hi)
@@ -103,19 +103,19 @@ passes c =
     && meets (stateFrom (setUp (c .setup)) (c .requests)) (c .question))
 
 each-passes : T (all passes cases)
-unfolding subset union has holds implies isTrue isNormal struck insert rising minimal normal formed
+unfolding subset setUnion has holds implies isTrue isNormal struck insertRising rising minimal normal formed
     num bytes tab wordsOf bytesOf
     ofKind masks wordSum check headWordFits isEnds opens width spanKinds middle kindsFit checkFits
     pair span withSpan shapeRefusal contents readWords termWords
     endWords front body messageWords readBytes
-    minus withdraw older raised told spoken named wanted rises namesFit namesOf leading epochCount epochPart epochsFit epochWords
+    minus withdraw older raised told spoken named wanted rises namesFit namesOf leading epochCount epochPart epochWordsFit epochWords
     spokenBy risen late cleared hearing heeded arrived withdrawnData withdrawnEntries withdrawn
     leastAdvance greatestAdvance slow fast widened aged
     grown disjoint explained learn learnt unexplained same meet met without betters stored heldAfter settled received
-    strays aheadOf behindOf Clocks·saving violates readingsFail violatedBy watched violated blamed swept judged
+    strays aheadOf behindOf saving violates readingsFail violatedBy watched violated blamed swept judged
     begun setUp moved made done setUpRefusal passesEnd ageRefusal tooMany receiptRefusal
     delivered deliveredAs deliveredNumber deliveredState
-    cut common active leaves setsOf sets either leftBy exact answer
+    cut common active leaves setsOf setsWithin either leftBy exact answer
     numberOn doneBy next stepsFrom stateFrom sameDatum sameTriple sameSaved sameAnswer meets passes cases orderCases clockCases limitCases
 each-passes = tt
 
@@ -180,7 +180,7 @@ module _ (s : List ℕ) (h : stateSize ≤ length s) (t : T (inForm s)) where
       lent-next s _ h t ∙ rw over (rw over at (eqb→eq (limitRefusal limit 0) number (both-r (limitFails limit) _ p)))
   question-comes (holding ds) p = alike-out sameDatum same-datum-out (storeOf s .held) ds p
   question-comes (knowing es) p = alike-out same same-out (storeOf s .entries) es p
-  question-comes (saving name v) p = same-saved-out (clockOf (headOf s) name) v p
+  question-comes (remembering name v) p = same-saved-out (clockOf (headOf s) name) v p
   question-comes (dating identifier epoch) p = eqb→eq (getD (headOf s .epochs) identifier 0) epoch p
   question-comes (forming sender terms q) p = same-out (formed (headOf s .own) sender terms) q p
   question-comes (advancing reading lo hi) p = (
@@ -212,19 +212,19 @@ lentPasses c =
     && (all (λ (p : Step). eqb (p .number) 0) (stepsFrom (c .state) (c .requests)) && meets (stateFrom (c .state) (c .requests)) (c .question))
 
 each-lent-passes : T (all lentPasses fractions)
-unfolding subset union has holds implies isTrue isNormal struck insert rising minimal normal formed
+unfolding subset setUnion has holds implies isTrue isNormal struck insertRising rising minimal normal formed
     num bytes tab wordsOf bytesOf
     ofKind masks wordSum check headWordFits isEnds opens width spanKinds middle kindsFit checkFits
     pair span withSpan shapeRefusal contents readWords termWords
     endWords front body messageWords readBytes
-    minus withdraw older raised told spoken named wanted rises namesFit namesOf leading epochCount epochPart epochsFit epochWords
+    minus withdraw older raised told spoken named wanted rises namesFit namesOf leading epochCount epochPart epochWordsFit epochWords
     spokenBy risen late cleared hearing heeded arrived withdrawnData withdrawnEntries withdrawn
     leastAdvance greatestAdvance slow fast widened aged
     grown disjoint explained learn learnt unexplained same meet met without betters stored heldAfter settled received
-    strays aheadOf behindOf Clocks·saving violates readingsFail violatedBy watched violated blamed swept judged
+    strays aheadOf behindOf saving violates readingsFail violatedBy watched violated blamed swept judged
     begun setUp moved made done setUpRefusal passesEnd ageRefusal tooMany receiptRefusal
     delivered deliveredAs deliveredNumber deliveredState
-    cut common active leaves setsOf sets either leftBy exact answer
+    cut common active leaves setsOf setsWithin either leftBy exact answer
     numberOn doneBy next stepsFrom stateFrom sameDatum sameTriple sameSaved sameAnswer meets stateOk headOk storeOk countsOk datumOk termsFit termFits savedOk lentPasses fractions
 each-lent-passes = tt
 

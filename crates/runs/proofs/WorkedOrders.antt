@@ -10,10 +10,10 @@ use native.Mathlib.Nat.{le-refl}
 use native.Mathlib.Omega.{arith}
 use lib.Dec.{T, eqb, eqb→eq}
 use lib.ListN.{getD, set, replicate}
-use Rattle.names.specs.Sets.{subset, union, minus, has}
+use Rattle.names.specs.Sets.{subset, setUnion, minus, has}
 use Rattle.numbers.specs.Numbers.{num, bytes, tab, wordsOf, bytesOf}
 use Rattle.predicates.specs.Lists.{all, keep}
-use Rattle.predicates.specs.Predicates.{holds, implies, isTrue, isNormal, struck, insert, rising, minimal, normal, formed}
+use Rattle.predicates.specs.Predicates.{holds, implies, isTrue, isNormal, struck, insertRising, rising, minimal, normal, formed}
 use Rattle.predicates.proofs.ListLaws.{both-l, both-r, split, all-in, all-out, keep-none, perm-in}
 use Rattle.epochs.specs.Epochs.{epochsMost, withdraw, older, raised, told, spoken}
 use Rattle.clocks.specs.Clocks.{nothing, readingsFail, violatedBy, watched}
@@ -22,7 +22,7 @@ use Rattle.message.specs.Read.{headWordFits, isEnds, opens, width, spanKinds, m
 use Rattle.message.specs.Read.{shapeRefusal, contents, termWords}
 use Rattle.message.specs.Write.{endWords, front, body, messageWords}
 use Rattle.radio.specs.Names.{named, wanted, rises, namesFit, namesOf}
-use Rattle.radio.specs.Read.{leading, epochCount, epochPart, epochsFit, readWords, epochWords}
+use Rattle.radio.specs.Read.{leading, epochCount, epochPart, epochWordsFit, readWords, epochWords}
 use Rattle.state.specs.Model.{Head}
 use Rattle.state.specs.Layout.{clocksMost}
 use Rattle.entries.specs.Entries.{explained, learn, withdrawnEntries}
@@ -79,12 +79,12 @@ record Computed : Type 0 where
 
 computed : Computed
 unfolding mendedHead
-    subset union has holds implies isTrue isNormal struck insert rising minimal normal formed
+    subset setUnion has holds implies isTrue isNormal struck insertRising rising minimal normal formed
     num bytes tab wordsOf bytesOf
     ofKind masks wordSum check headWordFits isEnds opens width spanKinds middle kindsFit checkFits
     pair span withSpan shapeRefusal contents readWords termWords
     endWords front body messageWords readBytes
-    minus withdraw older raised told spoken named wanted rises namesFit namesOf leading epochCount epochPart epochsFit epochWords
+    minus withdraw older raised told spoken named wanted rises namesFit namesOf leading epochCount epochPart epochWordsFit epochWords
     spokenBy risen late cleared hearing heeded arrived withdrawnData withdrawnEntries withdrawn
     leastAdvance greatestAdvance grown disjoint explained learn learnt unexplained same meet met without betters stored heldAfter settled received
     readingsFail violatedBy watched violated judged

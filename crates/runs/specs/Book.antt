@@ -7,7 +7,7 @@ use mathlib.Core.Bool.{Bool, true, cond}
 use mathlib.Core.List.{List, [], _∷_, _++_}
 use lib.Dec.{T}
 use lib.IntN.{ℤ, pos, _+ℤ_}
-use Rattle.names.specs.Sets.{union, has}
+use Rattle.names.specs.Sets.{setUnion, has}
 use Rattle.predicates.specs.Predicates.{holds}
 use Rattle.epochs.specs.Epochs.{older}
 use Rattle.state.specs.Model.{Datum, Head}
@@ -83,7 +83,7 @@ bookOf b (p ∷ ps) = bookOf (noted (p .number) b (p .request)) ps
 -- Where ks are the known epochs, s has names that are current, and every older name counts as failed: "An explaining set now counts current names
 -- only, failed old ones being free". Of a line with the epochs es these are the failed identifiers.
 abbrev pub failedUnder : List ℕ → ℕ → List ℕ → ℕ
-failedUnder ks s es = union s (older es ks)
+failedUnder ks s es = setUnion s (older es ks)
 
 -- they make the line's predicate true, or hold its name
 unfoldable pub sees : List ℕ → ℕ → Line → Bool

@@ -45,7 +45,7 @@ pub data Question : Type 0 where
   -- from the sender and the message's terms the predicate is formed
   forming : ℕ → List ℕ → List ℕ → Question
   -- of the name's clock this is saved
-  saving : ℕ → Saved → Question
+  remembering : ℕ → Saved → Question
   -- of the identifier this epoch is known
   dating : ℕ → ℕ → Question
   -- an ageing to the reading has this least and this greatest advance
@@ -69,7 +69,7 @@ Comes s (asking limit a) = (out : List ℕ) → answerSize ≤ length out → (a
 Comes s (refusing limit number) = (out : List ℕ) → askNumber s limit out ≡ number
 Comes s (holding ds) = storeOf s .held ≡ ds
 Comes s (knowing es) = storeOf s .entries ≡ es
-Comes s (saving name v) = clockOf (headOf s) name ≡ v
+Comes s (remembering name v) = clockOf (headOf s) name ≡ v
 Comes s (dating identifier epoch) = getD (headOf s .epochs) identifier 0 ≡ epoch
 Comes s (forming sender terms p) = formed (headOf s .own) sender terms ≡ p
 Comes s (advancing reading lo hi) = (ageNumber s reading ≡ 0) × (slow (headOf s) reading ≡ lo) × (fast (headOf s) reading ≡ hi)
@@ -216,8 +216,9 @@ clockCases =
     ∷ given (steady 5) (one 0 0 1 ∷ one 100 104 3 ∷ []) (knowing [])
     ∷ given (steady 5) (one 0 0 1 ∷ one 100 105 3 ∷ []) (knowing ((2 ^ 1 ∷ []) ∷ []))
     -- the half width decides which is the largest
-    ∷ given (steady 5) (one 0 0 5 ∷ one 13 10 0 ∷ []) (saving 1 (three (triple 13 10 0) (triple 0 0 5) (triple 0 0 5)))
-    ∷ given (steady 5) (one 3 0 0 ∷ one 10 10 4 ∷ []) (saving 1 (three (triple 10 10 4) (triple 10 10 4) (triple 10 10 4)))
+    ∷ given (steady 5) (one 0 0 5 ∷ one 13 10 0 ∷ []) (remembering 1 (three (triple 13 10 0) (triple 0 0 5) (triple 0 0 5)))
+    ∷ given (steady 5) (one 0 0 5 ∷ one 10 13 0 ∷ []) (remembering 1 (three (triple 10 13 0) (triple 0 0 5) (triple 0 0 5)))
+    ∷ given (steady 5) (one 3 0 0 ∷ one 10 10 4 ∷ []) (remembering 1 (three (triple 10 10 4) (triple 10 10 4) (triple 10 10 4)))
     -- one of the three shows the violation alone: the previous one, that of the largest a − b + w, that of the largest b − a + w
     ∷ given (steady 5) (one 0 0 10 ∷ one 10 10 0 ∷ []) (knowing [])
     ∷ given (steady 5) (one 0 0 10 ∷ one 10 10 0 ∷ one 25 20 1 ∷ []) (knowing ((2 ^ 1 ∷ []) ∷ []))
@@ -321,7 +322,7 @@ cases =
     ∷ given (usual 5) listingSecond (asking 2 Open)
     -- document 02, W-201. A test exactly at the bound, 2 > 2: no violation
     ∷ given (steady 5) (one 0 0 1 ∷ one 100 102 1 ∷ []) (asking 0 (Between 0 10))
-    ∷ given (steady 5) (one 0 0 1 ∷ one 100 102 1 ∷ []) (saving 1 (three (triple 100 102 1) (triple 0 0 1) (triple 100 102 1)))
+    ∷ given (steady 5) (one 0 0 1 ∷ one 100 102 1 ∷ []) (remembering 1 (three (triple 100 102 1) (triple 0 0 1) (triple 100 102 1)))
     -- and one past it: no data, the entry 1
     ∷ given (steady 5) (one 0 0 1 ∷ one 100 103 1 ∷ []) (holding [])
     ∷ given (steady 5) (one 0 0 1 ∷ one 100 103 1 ∷ []) (knowing ((2 ^ 1 ∷ []) ∷ []))
@@ -333,14 +334,14 @@ cases =
     -- both clocks back: the own one counts by its distance
     ∷ given (steady 5) (one 10 10 0 ∷ one 0 0 0 ∷ []) (knowing ((2 ^ 1 ∷ []) ∷ []))
     -- a tie: the earlier triples stay
-    ∷ given (steady 5) (one 0 0 0 ∷ one 5 5 0 ∷ one 7 7 0 ∷ []) (saving 1 (three (triple 7 7 0) (triple 0 0 0) (triple 0 0 0)))
+    ∷ given (steady 5) (one 0 0 0 ∷ one 5 5 0 ∷ one 7 7 0 ∷ []) (remembering 1 (three (triple 7 7 0) (triple 0 0 0) (triple 0 0 0)))
     -- a violating triple is saved; the next is quiet against it but not against the first, and the entry stands once
     ∷ given (steady 5) (one 0 0 0 ∷ one 0 9 0 ∷ one 1 10 0 ∷ []) (knowing ((2 ^ 1 ∷ []) ∷ []))
     -- a true predicate with a violation: the datum under 1 goes, that under 2 stays
     ∷ given (steady 5) (one 0 0 1 ∷ hear 2 0 20 [] ∷ tick 1 0 10 (0 ∷ []) (triple 100 103 1) 0 ∷ []) (holding (whole 0 20 (2 ^ 2 ∷ []) ∷ []))
     ∷ given (steady 5) (one 0 0 1 ∷ hear 2 0 20 [] ∷ tick 1 0 10 (0 ∷ []) (triple 100 103 1) 0 ∷ []) (asking 1 (Between 0 20))
     -- one without a violation is saved and changes nothing else
-    ∷ given (steady 5) (tick 1 0 10 (0 ∷ []) (triple 3 4 5) 0 ∷ []) (saving 1 (three (triple 3 4 5) (triple 3 4 5) (triple 3 4 5)))
+    ∷ given (steady 5) (tick 1 0 10 (0 ∷ []) (triple 3 4 5) 0 ∷ []) (remembering 1 (three (triple 3 4 5) (triple 3 4 5) (triple 3 4 5)))
     ∷ given (steady 5) (tick 1 0 10 (0 ∷ []) (triple 3 4 5) 0 ∷ []) (asking 0 Open)
     -- the entry 1 drives out 1+2
     ∷ given (steady 5) (hear 2 20 30 [] ∷ one 0 0 0 ∷ []) (knowing ((2 ^ 1 ∷ 2 ^ 2 ∷ []) ∷ []))
@@ -378,11 +379,11 @@ cases =
     (holding (whole 0 9 (2 ^ 2 ∷ 2 ^ 3 ∷ []) ∷ []))
     -- a violation's entry goes with the name, and so do its triples; an older name's readings are not heeded
     ∷ given (steady 5) (one 0 0 1 ∷ one 100 103 1 ∷ mended 0 10 ∷ []) (knowing [])
-    ∷ given (steady 5) (one 0 0 1 ∷ one 100 103 1 ∷ mended 0 10 ∷ []) (saving 1 nothing)
+    ∷ given (steady 5) (one 0 0 1 ∷ one 100 103 1 ∷ mended 0 10 ∷ []) (remembering 1 nothing)
     ∷ given (steady 5) (one 0 0 1 ∷ tickNamed (name 1 1 ∷ []) 1 0 10 [] (triple 100 500 1) 0 ∷ [])
-    (saving 1 (three (triple 100 500 1) (triple 100 500 1) (triple 100 500 1)))
+    (remembering 1 (three (triple 100 500 1) (triple 100 500 1) (triple 100 500 1)))
     ∷ given (steady 5) (tickNamed (name 1 1 ∷ []) 1 0 10 [] (triple 0 0 1) 0 ∷ one 100 500 1 ∷ [])
-    (saving 1 (three (triple 0 0 1) (triple 0 0 1) (triple 0 0 1)))
+    (remembering 1 (three (triple 0 0 1) (triple 0 0 1) (triple 0 0 1)))
     -- "a message never changes the own epoch", and 18 comes under any
     ∷ given (renewed 5) (hearNamed (name 1 0 ∷ name 2 0 ∷ name 5 9 ∷ []) 1 0 10 ((2 ^ 2 + 2 ^ 5) ∷ []) ∷ []) (dating 5 2)
     ∷ given (renewed 5) (hearNamed (name 1 0 ∷ name 2 0 ∷ name 5 9 ∷ []) 1 0 10 ((2 ^ 2 + 2 ^ 5) ∷ []) ∷ []) (holding (whole 0 10 (2 ^ 1 ∷ []) ∷ []))

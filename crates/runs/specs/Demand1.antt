@@ -11,9 +11,9 @@ use Rattle.numbers.specs.Numbers.{Bytes, num, wordsOf}
 use Rattle.predicates.specs.Predicates.{isTrue, isNormal}
 use Rattle.epochs.specs.Epochs.{NotAbove, epochsIn}
 use Rattle.message.specs.Words.{payload, masks, endsLimit}
-use Rattle.message.specs.Read.{countOf, headWordFits, isEnds, opens, start, middle, kindsFit, checkFits, pair}
+use Rattle.message.specs.Read.{termCount, headWordFits, isEnds, opens, start, middle, kindsFit, checkFits, pair}
 use Rattle.radio.specs.Names.{wanted, namesOf}
-use Rattle.radio.specs.Read.{wordsLeast, wordsMost, epochCount, opening, epochsFit}
+use Rattle.radio.specs.Read.{wordsLeast, wordsMost, epochCount, opening, epochWordsFit}
 use Rattle.clocks.specs.declared.Triple.{Triple}
 use Rattle.clocks.specs.declared.Readings.the-variants.{Without, With}
 use Rattle.clocks.specs.Clocks.{fails}
@@ -127,7 +127,7 @@ wordsFail m = not (eqb (length m % 4) 0) || (ltb (length (wordsOf m)) wordsLeast
 
 -- 13: "word count not that of head and form"; it "counts" the epoch words
 unfoldable pub countFails : List ℕ → Bool
-countFails ws = not (eqb (length ws) (start (opening ws) (isEnds (opening ws) ws) + countOf (getD ws 0 0) + 1))
+countFails ws = not (eqb (length ws) (start (opening ws) (isEnds (opening ws) ws) + termCount (getD ws 0 0) + 1))
 
 -- 16: "left above right, or an end below 0 or above 2^58 − 1". In ends form the two words of an end never pass that; in centre form the ends are
 -- "centre less and plus half width"
@@ -147,7 +147,7 @@ wordTests m ws =
     ∷ test (not (opens (opening ws) ws)) 11
     ∷ test (countFails ws) 13
     ∷ test (not (kindsFit (opening ws) (isEnds (opening ws) ws) ws)) 14
-    ∷ test (not (epochsFit ws)) 42
+    ∷ test (not (epochWordsFit ws)) 42
     ∷ test (not (checkFits ws)) 15
     ∷ test (endsFail ws) 16
     ∷ test (not (isNormal (masks (middle (opening ws) (isEnds (opening ws) ws) ws)))) 17
@@ -196,7 +196,7 @@ layoutSize (monitorAsk s limit out) = 24
 layoutSize (monitorFewest s out) = 16
 layoutSize (monitorWrite s position out) = endsFormSize (namesWritten s position) (length (datumAt s position .terms))
 layoutSize (messageRead m out) = 32
-layoutSize (messageRewrite m out) = endsFormSize (epochCount (wordsOf m)) (countOf (getD (wordsOf m) 0 0))
+layoutSize (messageRewrite m out) = endsFormSize (epochCount (wordsOf m)) (termCount (getD (wordsOf m) 0 0))
 
 -- ---- the tests of each call, in document 01's order
 

@@ -11,7 +11,7 @@ use borrow.Author.Tests.{le-leb, lt-leb, le-ltb, lt-ltb}
 use lib.Dec.{T, eqb, leb, ltb, leb→le, ltb→lt, nltb→le}
 use lib.ListN.{length, getD, take, drop, set, length-append, length-set, length-map, List·getD-append}
 use lib.Count.{ones}
-use Rattle.names.specs.Sets.{subset, union, noSet, minus}
+use Rattle.names.specs.Sets.{subset, setUnion, noSet, minus}
 use Rattle.names.proofs.SetLaws.{ones-empty}
 use Rattle.numbers.specs.Numbers.{put, tab}
 use Rattle.numbers.proofs.NumberLaws.{put-then, put-front, tab-ext}
@@ -238,9 +238,9 @@ module _ (limit free : ℕ) (whole : List (List ℕ)) where
   -- no set came of a term: the next one begins as it did
   pub trying-next : (masks : List ℕ) (ps : List (List ℕ)) (end at free′ : ℕ) → Trying noSet limit 0 free whole noSet masks ps end at free′ noSet
       → at < end → end ≤ length masks → (set : ℕ)
-      → subset (getD masks at 0) (union 0 free′) && (ltb (union 0 (getD masks at 0)) noSet && leb (ones (union 0 (getD masks at 0))) limit) ≡ true
-      → Best noSet limit (union 0 (getD masks at 0)) free′ ps noSet set → (rest : ℕ) → noSet ≤ set
-      → rest ≡ cond (eqb (ones (union 0 (getD masks at 0))) (ones 0 + 1)) (minus free′ (getD masks at 0)) free′
+      → subset (getD masks at 0) (setUnion 0 free′) && (ltb (setUnion 0 (getD masks at 0)) noSet && leb (ones (setUnion 0 (getD masks at 0))) limit) ≡ true
+      → Best noSet limit (setUnion 0 (getD masks at 0)) free′ ps noSet set → (rest : ℕ) → noSet ≤ set
+      → rest ≡ cond (eqb (ones (setUnion 0 (getD masks at 0))) (ones 0 + 1)) (minus free′ (getD masks at 0)) free′
       → Trying noSet limit 0 free whole noSet masks ps end (at + 1) rest noSet
   trying-next masks ps end at free′ w h k set e b rest l q =
       let same : set ≡ noSet = omega (arith, b .low) in

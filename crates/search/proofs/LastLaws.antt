@@ -11,7 +11,7 @@ use native.Mathlib.Omega.{arith}
 use lib.Dec.{T, T-not, eqb, leb, leb→le, le→leb}
 use borrow.Author.Tests.{eq-eqb, ne-eqb}
 use lib.Count.{ones}
-use Rattle.names.specs.Sets.{subset, union, minus}
+use Rattle.names.specs.Sets.{subset, setUnion, minus}
 use Rattle.names.specs.code.Parts.{shared, leastName}
 use Rattle.names.proofs.SetLaws.{subset-refl, subset-trans, subset-antisym, union-left, union-right, union-least, ones-mono, ones-union}
 use Rattle.numbers.proofs.NumberLaws.{above-zero}
@@ -26,12 +26,12 @@ use Rattle.search.proofs.SearchLaws.{best-none, best-of}
 -- what is free once a term was tried: v is what it adds
 module _ (s t free v : ℕ) (a : v ≡ minus t s) where
   abbrev after : ℕ
-  after = cond (eqb (ones (union s t)) (ones s + 1)) (minus free t) free
+  after = cond (eqb (ones (setUnion s t)) (ones s + 1)) (minus free t) free
 
   pub freed-none : v ≡ 0 → free ≡ after
   freed-none z =
       let held = union-least s t s (subset-refl s) (adds-none s t (sym a ∙ z)) in
-      rw (ne-eqb (ones (union s t)) (ones s + 1) (λ e. omega (arith, e, ones-mono (union s t) s held))) refl
+      rw (ne-eqb (ones (setUnion s t)) (ones s + 1) (λ e. omega (arith, e, ones-mono (setUnion s t) s held))) refl
 
   module _ (f : v ≡ 0 → ⊥) where
     some : 0 < minus t s
@@ -39,13 +39,13 @@ module _ (s t free v : ℕ) (a : v ≡ minus t s) where
 
     pub freed-one : v ≡ leastName v → (r : ℕ) → r ≡ minus free t → r ≡ after
     freed-one k r e =
-        let more = ones-more s (union s t) (union-left s t) (λ q.
+        let more = ones-more s (setUnion s t) (union-left s t) (λ q.
         adds-some s t (λ z. f (a ∙ z)) (subst (λ (x : ℕ). T (subset t x)) (sym q) (union-right s t))) in
-        rw (eq-eqb (ones (union s t)) (ones s + 1) (omega (arith, more, adds-one s t some (sym a ∙ k ∙ ap leastName a)))) e
+        rw (eq-eqb (ones (setUnion s t)) (ones s + 1) (omega (arith, more, adds-one s t some (sym a ∙ k ∙ ap leastName a)))) e
 
     pub freed-more : (v ≡ leastName v → ⊥) → free ≡ after
     freed-more k =
-        rw (ne-eqb (ones (union s t)) (ones s + 1) (λ e. k (a ∙ one-added s t some (omega (arith, e)) ∙ ap leastName (sym a)))) refl
+        rw (ne-eqb (ones (setUnion s t)) (ones s + 1) (λ e. k (a ∙ one-added s t some (omega (arith, e)) ∙ ap leastName (sym a)))) refl
 
 module _ (limit s : ℕ) (last : ones s + 1 ≡ limit) where
   -- ---- the names that alone do for one predicate
@@ -55,34 +55,34 @@ module _ (limit s : ℕ) (last : ones s + 1 ≡ limit) where
   alone-above [] = subset-refl s
   alone-above (t ∷ p) =
       let rest = alone-above p in
-      cond-ind (λ x. T (subset s x)) (leb (ones (union s t)) limit) (union (union s t) (alone limit s p)) (alone limit s p)
-      (λ _. subset-trans s (alone limit s p) (union (union s t) (alone limit s p)) rest (union-right (union s t) (alone limit s p))) (λ _. rest)
+      cond-ind (λ x. T (subset s x)) (leb (ones (setUnion s t)) limit) (setUnion (setUnion s t) (alone limit s p)) (alone limit s p)
+      (λ _. subset-trans s (alone limit s p) (setUnion (setUnion s t) (alone limit s p)) rest (union-right (setUnion s t) (alone limit s p))) (λ _. rest)
 
   -- a term within the limit is part of them
-  alone-has : (p : List ℕ) (t : ℕ) → In t p → ones (union s t) ≤ limit → T (subset (union s t) (alone limit s p))
+  alone-has : (p : List ℕ) (t : ℕ) → In t p → ones (setUnion s t) ≤ limit → T (subset (setUnion s t) (alone limit s p))
   unfolding gather
   alone-has [] t m h = absurd m
   alone-has (v ∷ p) t (inl e) h =
-      cond-ind (λ x. T (subset (union s t) x)) (leb (ones (union s v)) limit) (union (union s v) (alone limit s p)) (alone limit s p)
-      (λ _. subst (λ (x : ℕ). T (subset (union s t) (union (union s x) (alone limit s p)))) e (union-left (union s t) (alone limit s p)))
-      (λ n. absurd (T-not (leb (ones (union s v)) limit) n (subst (λ (x : ℕ). T (leb (ones (union s x)) limit)) e (le→leb (ones (union s t)) limit h))))
+      cond-ind (λ x. T (subset (setUnion s t) x)) (leb (ones (setUnion s v)) limit) (setUnion (setUnion s v) (alone limit s p)) (alone limit s p)
+      (λ _. subst (λ (x : ℕ). T (subset (setUnion s t) (setUnion (setUnion s x) (alone limit s p)))) e (union-left (setUnion s t) (alone limit s p)))
+      (λ n. absurd (T-not (leb (ones (setUnion s v)) limit) n (subst (λ (x : ℕ). T (leb (ones (setUnion s x)) limit)) e (le→leb (ones (setUnion s t)) limit h))))
   alone-has (v ∷ p) t (inr m) h =
       let rest = alone-has p t m h in
-      cond-ind (λ x. T (subset (union s t) x)) (leb (ones (union s v)) limit) (union (union s v) (alone limit s p)) (alone limit s p)
-      (λ _. subset-trans (union s t) (alone limit s p) (union (union s v) (alone limit s p)) rest (union-right (union s v) (alone limit s p)))
+      cond-ind (λ x. T (subset (setUnion s t) x)) (leb (ones (setUnion s v)) limit) (setUnion (setUnion s v) (alone limit s p)) (alone limit s p)
+      (λ _. subset-trans (setUnion s t) (alone limit s p) (setUnion (setUnion s v) (alone limit s p)) rest (union-right (setUnion s v) (alone limit s p)))
       (λ _. rest)
 
   -- one name of them, beyond s, is what one of the terms adds
   alone-out : (p : List ℕ) (c : ℕ) → ones c ≡ 1 → (T (subset c s) → ⊥) → T (subset c (alone limit s p))
-      → (t : ℕ) × In t p × (ones (union s t) ≤ limit) × T (subset c (union s t))
+      → (t : ℕ) × In t p × (ones (setUnion s t) ≤ limit) × T (subset c (setUnion s t))
   unfolding gather
   alone-out [] c e f = λ h. absurd (f h)
   alone-out (t ∷ p) c e f =
       let rest = alone-out p c e f in
-      cond-ind (λ x. T (subset c x) → (v : ℕ) × In v (t ∷ p) × (ones (union s v) ≤ limit) × T (subset c (union s v)))
-      (leb (ones (union s t)) limit) (union (union s t) (alone limit s p)) (alone limit s p)
-      (λ k h. ⊎-elim (λ i. (t, inl refl, leb→le (ones (union s t)) limit k, i)) (λ i. let w = rest i in (w .0, inr (w .1), w .2, w .3))
-      (single-part c (union s t) (alone limit s p) e h))
+      cond-ind (λ x. T (subset c x) → (v : ℕ) × In v (t ∷ p) × (ones (setUnion s v) ≤ limit) × T (subset c (setUnion s v)))
+      (leb (ones (setUnion s t)) limit) (setUnion (setUnion s t) (alone limit s p)) (alone limit s p)
+      (λ k h. ⊎-elim (λ i. (t, inl refl, leb→le (ones (setUnion s t)) limit k, i)) (λ i. let w = rest i in (w .0, inr (w .1), w .2, w .3))
+      (single-part c (setUnion s t) (alone limit s p) e h))
       (λ _ h. let w = rest h in (w .0, inr (w .1), w .2, w .3))
 
   -- a set that fits, beyond a predicate that s leaves false, is s with a term of it
@@ -91,21 +91,21 @@ module _ (limit s : ℕ) (last : ones s + 1 ≡ limit) where
   fits-alone free u p ps f h n =
       let w = holds-out u p h in
       let t = w .0 in
-      let wider : s ≡ union s t → ⊥ = λ e. T-not (holds s p) n (holds-in s p t (w .1) (subst (λ (x : ℕ). T (subset t x)) (sym e) (union-right s t))) in
-      let more = ones-more s (union s t) (union-left s t) wider in
+      let wider : s ≡ setUnion s t → ⊥ = λ e. T-not (holds s p) n (holds-in s p t (w .1) (subst (λ (x : ℕ). T (subset t x)) (sym e) (union-right s t))) in
+      let more = ones-more s (setUnion s t) (union-left s t) wider in
       let part = union-least s t u (f .above) (w .2) in
-      let same : union s t ≡ u = subset-same (union s t) u part (omega (arith, f .few)) in
-      subst (λ (x : ℕ). T (subset x (alone limit s p))) same (alone-has p t (w .1) (le-trans (ones-mono (union s t) u part) (f .few)))
+      let same : setUnion s t ≡ u = subset-same (setUnion s t) u part (omega (arith, f .few)) in
+      subst (λ (x : ℕ). T (subset x (alone limit s p))) same (alone-has p t (w .1) (le-trans (ones-mono (setUnion s t) u part) (f .few)))
 
   -- s with one name that does alone makes the predicate true
-  alone-holds : (p : List ℕ) (c : ℕ) → ones c ≡ 1 → (T (subset c s) → ⊥) → T (subset c (alone limit s p)) → T (holds (union s c) p)
+  alone-holds : (p : List ℕ) (c : ℕ) → ones c ≡ 1 → (T (subset c s) → ⊥) → T (subset c (alone limit s p)) → T (holds (setUnion s c) p)
   alone-holds p c e f h =
       let w = alone-out p c e f h in
       let t = w .0 in
-      let part = union-least s c (union s t) (union-left s t) (w .3) in
-      let more = ones-more s (union s c) (union-left s c) (λ q. f (subst (λ (x : ℕ). T (subset c x)) (sym q) (union-right s c))) in
-      let same : union s c ≡ union s t = subset-same (union s c) (union s t) part (omega (arith, w .2)) in
-      holds-in (union s c) p t (w .1) (subst (λ (x : ℕ). T (subset t x)) (sym same) (union-right s t))
+      let part = union-least s c (setUnion s t) (union-left s t) (w .3) in
+      let more = ones-more s (setUnion s c) (union-left s c) (λ q. f (subst (λ (x : ℕ). T (subset c x)) (sym q) (union-right s c))) in
+      let same : setUnion s c ≡ setUnion s t = subset-same (setUnion s c) (setUnion s t) part (omega (arith, w .2)) in
+      holds-in (setUnion s c) p t (w .1) (subst (λ (x : ℕ). T (subset t x)) (sym same) (union-right s t))
 
   -- ---- for every predicate that s leaves false
 
@@ -146,13 +146,13 @@ module _ (limit s : ℕ) (last : ones s + 1 ≡ limit) where
       (cond-ind (λ x. T (subset x m)) (holds s p) m (shared m (alone limit s p)) (λ _. subset-refl m) (λ _. shared-left m (alone limit s p)))
 
   narrowed-holds : (m : ℕ) (ps : List (List ℕ)) (c : ℕ) → ones c ≡ 1 → (T (subset c s) → ⊥) → T (subset c (narrowed limit s m ps))
-      → T (all (holds (union s c)) ps)
+      → T (all (holds (setUnion s c)) ps)
   unfolding narrowed
   narrowed-holds m [] c e f h = tt
   narrowed-holds m (p ∷ ps) c e f h =
-      both (holds (union s c) p) (all (holds (union s c)) ps)
-      (cond-ind (λ x. T (subset c x) → T (holds (union s c) p)) (holds s p) m (shared m (alone limit s p))
-      (λ k _. holds-mono s (union s c) p (union-left s c) k)
+      both (holds (setUnion s c) p) (all (holds (setUnion s c)) ps)
+      (cond-ind (λ x. T (subset c x) → T (holds (setUnion s c) p)) (holds s p) m (shared m (alone limit s p))
+      (λ k _. holds-mono s (setUnion s c) p (union-left s c) k)
       (λ _ i. alone-holds p c e f (subset-trans c (shared m (alone limit s p)) (alone limit s p) i (shared-right m (alone limit s p))))
       (subset-trans c (narrowed limit s n ps) n h (narrowed-part n ps)))
       (narrowed-holds n ps c e f h)
@@ -162,17 +162,17 @@ module _ (limit s : ℕ) (last : ones s + 1 ≡ limit) where
 
   -- ---- one name is left of those to try
 
-  pub one-all : (c : ℕ) (ps : List (List ℕ)) → ones c ≡ 1 → T (all (holds (union s c)) ps) → narrowed limit s (union s c) ps ≡ union s c
+  pub one-all : (c : ℕ) (ps : List (List ℕ)) → ones c ≡ 1 → T (all (holds (setUnion s c)) ps) → narrowed limit s (setUnion s c) ps ≡ setUnion s c
   one-all c ps one h =
-      let m = union s c in
+      let m = setUnion s c in
       let fits : Fits limit s c ps m =
       record { above = union-left s c; within = subset-refl m; few = omega (arith, ones-union s c, one); holding = h } in
       subset-antisym (narrowed limit s m ps) m (narrowed-part m ps) (narrowed-in m m c ps ps (subset-refl m) fits h)
 
-  pub one-none : (c : ℕ) (ps : List (List ℕ)) → ones c ≡ 1 → (T (subset c s) → ⊥) → (T (all (holds (union s c)) ps) → ⊥)
-      → narrowed limit s (union s c) ps ≡ s
+  pub one-none : (c : ℕ) (ps : List (List ℕ)) → ones c ≡ 1 → (T (subset c s) → ⊥) → (T (all (holds (setUnion s c)) ps) → ⊥)
+      → narrowed limit s (setUnion s c) ps ≡ s
   one-none c ps one apart f =
-      let m = union s c in
+      let m = setUnion s c in
       subset-antisym (narrowed limit s m ps) s (without-one s c (narrowed limit s m ps) one (narrowed-part m ps) (λ i. f (narrowed-holds m ps c one apart i)))
       (narrowed-above m ps (union-left s c))
 
@@ -180,10 +180,10 @@ module _ (limit s : ℕ) (last : ones s + 1 ≡ limit) where
 
   module _ (enough free best : ℕ) (p : List ℕ) (ps : List (List ℕ)) (left-false : T (not (holds s p))) where
     abbrev names : ℕ
-    names = narrowed limit s (union s free) (p ∷ ps)
+    names = narrowed limit s (setUnion s free) (p ∷ ps)
 
     fits-names : (u : ℕ) → Fits limit s free (p ∷ ps) u → T (subset u names)
-    fits-names u f = narrowed-in (union s free) u free (p ∷ ps) (p ∷ ps) (f .within) f (f .holding)
+    fits-names u f = narrowed-in (setUnion s free) u free (p ∷ ps) (p ∷ ps) (f .within) f (f .holding)
 
     -- a set that fits is more than s
     fits-more : (u : ℕ) → Fits limit s free (p ∷ ps) u → s ≡ u → ⊥
@@ -203,8 +203,8 @@ module _ (limit s : ℕ) (last : ones s + 1 ≡ limit) where
         go d e g = omega arith
 
     -- s with the least name that does alone
-    pub last-found : (s ≡ names → ⊥) → Best enough limit s free (p ∷ ps) best (min (union s (leastName (minus names s))) best)
-    last-found f = best-of enough limit s free best (p ∷ ps) (union s c) fits below
+    pub last-found : (s ≡ names → ⊥) → Best enough limit s free (p ∷ ps) best (min (setUnion s (leastName (minus names s))) best)
+    last-found f = best-of enough limit s free best (p ∷ ps) (setUnion s c) fits below
       where
         rest : ℕ
         rest = minus names s
@@ -213,7 +213,7 @@ module _ (limit s : ℕ) (last : ones s + 1 ≡ limit) where
         c = leastName rest
 
         some : 0 < rest
-        some = beyond names (narrowed-above (union s free) (p ∷ ps) (union-left s free)) f
+        some = beyond names (narrowed-above (setUnion s free) (p ∷ ps) (union-left s free)) f
 
         one : ones c ≡ 1
         one = least-name-one rest some
@@ -224,16 +224,16 @@ module _ (limit s : ℕ) (last : ones s + 1 ≡ limit) where
         apart : T (subset c s) → ⊥
         apart h = minus-apart names s c (least-name-in rest) h one
 
-        fits : Fits limit s free (p ∷ ps) (union s c)
+        fits : Fits limit s free (p ∷ ps) (setUnion s c)
         fits =
             record {
               above = union-left s c;
-              within = union-least s c (union s free) (union-left s free) (subset-trans c names (union s free) c-in (narrowed-part (union s free) (p ∷ ps)));
+              within = union-least s c (setUnion s free) (union-left s free) (subset-trans c names (setUnion s free) c-in (narrowed-part (setUnion s free) (p ∷ ps)));
               few = omega (arith, ones-union s c, one);
-              holding = narrowed-holds (union s free) (p ∷ ps) c one apart c-in;
+              holding = narrowed-holds (setUnion s free) (p ∷ ps) c one apart c-in;
             }
 
-        below : (u : ℕ) → Fits limit s free (p ∷ ps) u → union s c ≤ u
+        below : (u : ℕ) → Fits limit s free (p ∷ ps) u → setUnion s c ≤ u
         below u g =
             omega (
               arith,

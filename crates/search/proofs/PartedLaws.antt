@@ -12,7 +12,7 @@ use lib.Dec.{T, T-not, eqb→eq, leb, leb→le, le→leb}
 use lib.Count.{ones}
 use lib.ListN.{getD, take, drop, length-drop}
 use lib.Seq.{length-take-le, take-add, drop-drop, drop-at}
-use Rattle.names.specs.Sets.{subset, union}
+use Rattle.names.specs.Sets.{subset, setUnion}
 use Rattle.names.specs.code.Parts.{shared}
 use Rattle.names.proofs.SetLaws.{test-ext, digit-union, digits-ext, subset-empty, subset-out, subset-trans, union-left, union-right, union-left-comm, ones-empty, ones-none, ones-union, union-none}
 use Rattle.names.proofs.PartLaws.{shared-greatest}
@@ -51,13 +51,13 @@ pub singles-in : (p : List ℕ) (t : ℕ) → In t p → T (isSingle t) → T (s
 unfolding singles
 singles-in [] t m h = absurd m
 singles-in (v ∷ p) t (inl e) h =
-    cond-ind (λ x. T (subset t x)) (isSingle v) (union v (singles p)) (singles p)
-    (λ _. subst (λ (x : ℕ). T (subset x (union v (singles p)))) (sym e) (union-left v (singles p)))
+    cond-ind (λ x. T (subset t x)) (isSingle v) (setUnion v (singles p)) (singles p)
+    (λ _. subst (λ (x : ℕ). T (subset x (setUnion v (singles p)))) (sym e) (union-left v (singles p)))
     (λ n. absurd (T-not (isSingle v) n (subst (λ (x : ℕ). T (isSingle x)) e h)))
 singles-in (v ∷ p) t (inr m) h =
     let rest = singles-in p t m h in
-    cond-ind (λ x. T (subset t x)) (isSingle v) (union v (singles p)) (singles p)
-    (λ _. subset-trans t (singles p) (union v (singles p)) rest (union-right v (singles p))) (λ _. rest)
+    cond-ind (λ x. T (subset t x)) (isSingle v) (setUnion v (singles p)) (singles p)
+    (λ _. subset-trans t (singles p) (setUnion v (singles p)) rest (union-right v (singles p))) (λ _. rest)
 
 module _ (p : List ℕ) (s : ℕ) where
   pub holds-hit : 0 < shared s (singles p) → holds s p ≡ true
@@ -82,16 +82,16 @@ module _ (p : List ℕ) (s : ℕ) where
 
 module _ (limit s : ℕ) where
   -- what is there from the start stays
-  gather-base : (t d : ℕ) (p : List ℕ) → gather (union t d) limit s p ≡ union t (gather d limit s p)
+  gather-base : (t d : ℕ) (p : List ℕ) → gather (setUnion t d) limit s p ≡ setUnion t (gather d limit s p)
   unfolding gather
   gather-base t d [] = refl
   gather-base t d (v ∷ p) =
       let rest = gather-base t d p in
       let x = gather d limit s p in
-      cond-ind (λ y. y ≡ union t (cond (leb (ones (union s v)) limit) (union (union s v) x) x)) (leb (ones (union s v)) limit)
-      (union (union s v) (gather (union t d) limit s p)) (gather (union t d) limit s p)
-      (λ k. rw (T-true (leb (ones (union s v)) limit) k, rest) (union-left-comm (union s v) t x))
-      (λ k. rw (T-false (leb (ones (union s v)) limit) k) rest)
+      cond-ind (λ y. y ≡ setUnion t (cond (leb (ones (setUnion s v)) limit) (setUnion (setUnion s v) x) x)) (leb (ones (setUnion s v)) limit)
+      (setUnion (setUnion s v) (gather (setUnion t d) limit s p)) (gather (setUnion t d) limit s p)
+      (λ k. rw (T-true (leb (ones (setUnion s v)) limit) k, rest) (union-left-comm (setUnion s v) t x))
+      (λ k. rw (T-false (leb (ones (setUnion s v)) limit) k) rest)
 
   -- and s is there
   gather-above : (d : ℕ) (p : List ℕ) → T (subset s d) → T (subset s (gather d limit s p))
@@ -100,12 +100,12 @@ module _ (limit s : ℕ) where
   gather-above d (v ∷ p) h =
       let rest = gather-above d p h in
       let x = gather d limit s p in
-      cond-ind (λ y. T (subset s y)) (leb (ones (union s v)) limit) (union (union s v) x) x
-      (λ _. subset-trans s x (union (union s v) x) rest (union-right (union s v) x)) (λ _. rest)
+      cond-ind (λ y. T (subset s y)) (leb (ones (setUnion s v)) limit) (setUnion (setUnion s v) x) x
+      (λ _. subset-trans s x (setUnion (setUnion s v) x) rest (union-right (setUnion s v) x)) (λ _. rest)
 
   module _ (last : ones s + 1 ≡ limit) where
-    parted-next : (t : ℕ) (p : List ℕ) → alone limit s p ≡ gather (union s (singles p)) limit s (several p)
-        → alone limit s (t ∷ p) ≡ gather (union s (singles (t ∷ p))) limit s (several (t ∷ p))
+    parted-next : (t : ℕ) (p : List ℕ) → alone limit s p ≡ gather (setUnion s (singles p)) limit s (several p)
+        → alone limit s (t ∷ p) ≡ gather (setUnion s (singles (t ∷ p))) limit s (several (t ∷ p))
     unfolding gather singles several
     parted-next t p rest = go (split (isSingle t))
       where
@@ -116,25 +116,25 @@ module _ (limit s : ℕ) where
         q = keep (λ v. not (isSingle v)) p
 
         x : ℕ
-        x = gather (union s m) limit s q
+        x = gather (setUnion s m) limit s q
 
-        fits : T (isSingle t) → leb (ones (union s t)) limit ≡ true
-        fits one = le-leb (ones (union s t)) limit (omega (arith, ones-union s t, is-single-one t one))
+        fits : T (isSingle t) → leb (ones (setUnion s t)) limit ≡ true
+        fits one = le-leb (ones (setUnion s t)) limit (omega (arith, ones-union s t, is-single-one t one))
 
-        joined : union (union s t) x ≡ gather (union s (union t m)) limit s q
+        joined : setUnion (setUnion s t) x ≡ gather (setUnion s (setUnion t m)) limit s q
         joined =
-            let in-x = gather-above (union s m) q (union-left s m) in
-            let dropped : union (union s t) x ≡ union t x =
-            digits-ext (union (union s t) x) (union t x) (λ n.
-            omega (arith, digit-union (union s t) x n, digit-union s t n, digit-union t x n, subset-out s x in-x n)) in
-            dropped ∙ sym (gather-base t (union s m) q) ∙ ap (λ (d : ℕ). gather d limit s q) (union-left-comm t s m)
+            let in-x = gather-above (setUnion s m) q (union-left s m) in
+            let dropped : setUnion (setUnion s t) x ≡ setUnion t x =
+            digits-ext (setUnion (setUnion s t) x) (setUnion t x) (λ n.
+            omega (arith, digit-union (setUnion s t) x n, digit-union s t n, digit-union t x n, subset-out s x in-x n)) in
+            dropped ∙ sym (gather-base t (setUnion s m) q) ∙ ap (λ (d : ℕ). gather d limit s q) (union-left-comm t s m)
 
         go : T (isSingle t) ⊎ T (not (isSingle t))
-            → gather s limit s (t ∷ p) ≡ gather (union s (cond (isSingle t) (union t m) m)) limit s (keep (λ v. not (isSingle v)) (t ∷ p))
+            → gather s limit s (t ∷ p) ≡ gather (setUnion s (cond (isSingle t) (setUnion t m) m)) limit s (keep (λ v. not (isSingle v)) (t ∷ p))
         go (inl one) = rw (T-true (isSingle t) one, fits one, rest) joined
         go (inr n) = rw (T-false (isSingle t) n, rest) refl
 
-    pub gather-parted : (p : List ℕ) → alone limit s p ≡ gather (union s (singles p)) limit s (several p)
+    pub gather-parted : (p : List ℕ) → alone limit s p ≡ gather (setUnion s (singles p)) limit s (several p)
     unfolding gather singles several
     gather-parted [] = sym (union-none s)
     gather-parted (t ∷ p) = parted-next t p (gather-parted p)
@@ -180,13 +180,13 @@ module _ (table : Rows) (k s : ℕ) (w : Parted table k) where
     pub row-miss : holds s (take (end - at) (drop at (table .masks))) ≡ holds s row
     row-miss = ap (holds s) part ∙ sym (holds-miss row s missed)
 
-    row-gather : gather (union s (getD (table .singles) k 0)) (ones s + 1) s (take (end - at) (drop at (table .masks))) ≡ alone (ones s + 1) s row
+    row-gather : gather (setUnion s (getD (table .singles) k 0)) (ones s + 1) s (take (end - at) (drop at (table .masks))) ≡ alone (ones s + 1) s row
     row-gather =
-        ap (λ (m : ℕ). gather (union s m) (ones s + 1) s (take (end - at) (drop at (table .masks)))) (w .one)
-        ∙ ap (gather (union s (singles row)) (ones s + 1) s) part ∙ sym (gather-parted (ones s + 1) s refl row)
+        ap (λ (m : ℕ). gather (setUnion s m) (ones s + 1) s (take (end - at) (drop at (table .masks)))) (w .one)
+        ∙ ap (gather (setUnion s (singles row)) (ones s + 1) s) part ∙ sym (gather-parted (ones s + 1) s refl row)
 
     pub row-narrow : (names r : ℕ)
         → r ≡ cond (holds s (take (end - at) (drop at (table .masks)))) names
-        (shared names (gather (union s (getD (table .singles) k 0)) (ones s + 1) s (take (end - at) (drop at (table .masks)))))
+        (shared names (gather (setUnion s (getD (table .singles) k 0)) (ones s + 1) s (take (end - at) (drop at (table .masks)))))
         → r ≡ cond (holds s row) names (shared names (alone (ones s + 1) s row))
     row-narrow names r e = rw (row-miss, row-gather) at e

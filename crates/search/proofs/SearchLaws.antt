@@ -12,7 +12,7 @@ use native.Mathlib.Omega.{arith}
 use lib.Dec.{T, T-not}
 use lib.Count.{ones}
 use lib.ListN.{length}
-use Rattle.names.specs.Sets.{subset, union, minus}
+use Rattle.names.specs.Sets.{subset, setUnion, minus}
 use Rattle.names.proofs.SetLaws.{subset-refl, subset-trans, subset-le, union-left, union-right, union-least}
 use Rattle.names.proofs.PartLaws.{minus-subset, subset-same, one-more, minus-free}
 use Rattle.predicates.specs.Lists.{all}
@@ -113,8 +113,8 @@ module _ (enough limit s free : ℕ) (ps : List (List ℕ)) where
     fits-later free′ u l f =
         record {
           above = f .above;
-          within = subset-trans u (union s free′) (union s free) (f .within)
-              (union-least s free′ (union s free) (union-left s free) (subset-trans free′ free (union s free) l (union-right s free)));
+          within = subset-trans u (setUnion s free′) (setUnion s free) (f .within)
+              (union-least s free′ (setUnion s free) (union-left s free) (subset-trans free′ free (setUnion s free) l (union-right s free)));
           few = f .few;
           holding = later u (f .holding);
         }
@@ -133,28 +133,28 @@ module _ (enough limit s free : ℕ) (ps : List (List ℕ)) where
         }
 
     -- a set that fits and holds the term fits beyond s with the term
-    fits-on : (u : ℕ) → Fits limit s free ((t ∷ ts) ∷ ps) u → T (subset t u) → Fits limit (union s t) free ps u
+    fits-on : (u : ℕ) → Fits limit s free ((t ∷ ts) ∷ ps) u → T (subset t u) → Fits limit (setUnion s t) free ps u
     fits-on u f k =
         record {
           above = union-least s t u (f .above) k;
-          within = subset-trans u (union s free) (union (union s t) free) (f .within)
-              (union-least s free (union (union s t) free)
-              (subset-trans s (union s t) (union (union s t) free) (union-left s t) (union-left (union s t) free)) (union-right (union s t) free));
+          within = subset-trans u (setUnion s free) (setUnion (setUnion s t) free) (f .within)
+              (union-least s free (setUnion (setUnion s t) free)
+              (subset-trans s (setUnion s t) (setUnion (setUnion s t) free) (union-left s t) (union-left (setUnion s t) free)) (union-right (setUnion s t) free));
           few = f .few;
           holding = both-r (holds u (t ∷ ts)) (all (holds u) ps) (f .holding);
         }
 
-    fits-back : (u : ℕ) → T (subset t (union s free)) → Fits limit (union s t) free ps u → Fits limit s free ((t ∷ ts) ∷ ps) u
+    fits-back : (u : ℕ) → T (subset t (setUnion s free)) → Fits limit (setUnion s t) free ps u → Fits limit s free ((t ∷ ts) ∷ ps) u
     fits-back u k f =
         record {
-          above = subset-trans s (union s t) u (union-left s t) (f .above);
-          within = subset-trans u (union (union s t) free) (union s free) (f .within)
-              (union-least (union s t) free (union s free) (union-least s t (union s free) (union-left s free) k) (union-right s free));
+          above = subset-trans s (setUnion s t) u (union-left s t) (f .above);
+          within = subset-trans u (setUnion (setUnion s t) free) (setUnion s free) (f .within)
+              (union-least (setUnion s t) free (setUnion s free) (union-least s t (setUnion s free) (union-left s free) k) (union-right s free));
           few = f .few;
-          holding = now u (subset-trans t (union s t) u (union-right s t) (f .above)) (f .holding);
+          holding = now u (subset-trans t (setUnion s t) u (union-right s t) (f .above)) (f .holding);
         }
 
-    module _ (best found : ℕ) (room : T (subset t (union s free))) (b : Best enough limit (union s t) free ps best found) where
+    module _ (best found : ℕ) (room : T (subset t (setUnion s free))) (b : Best enough limit (setUnion s t) free ps best found) where
       from-term : (found ≡ best) ⊎ Fits limit s free ((t ∷ ts) ∷ ps) found
       from-term = ⊎-elim (λ e. inl e) (λ f. inr (fits-back found room f)) (b .from)
 
@@ -164,7 +164,7 @@ module _ (enough limit s free : ℕ) (ps : List (List ℕ)) where
 
       -- the search goes on with the other terms; `free′` is what is free then
       go-on : (free′ r : ℕ) → enough ≤ found → T (subset free′ free)
-          → ((u : ℕ) → Fits limit s free ((t ∷ ts) ∷ ps) u → (T (subset t u) → ⊥) → T (subset u (union s free′)))
+          → ((u : ℕ) → Fits limit s free ((t ∷ ts) ∷ ps) u → (T (subset t u) → ⊥) → T (subset u (setUnion s free′)))
           → Best enough limit s free′ (ts ∷ ps) found r → Best enough limit s free ((t ∷ ts) ∷ ps) best r
       go-on free′ r h l keeps c =
           record {
@@ -185,7 +185,7 @@ module _ (enough limit s free : ℕ) (ps : List (List ℕ)) where
       terms-on r h c = go-on free r h (subset-refl free) (λ u f n. f .within) c
 
       -- the term adds one name, which is not free then
-      pub terms-bar : (r : ℕ) → enough ≤ found → ones (union s t) ≡ ones s + 1
+      pub terms-bar : (r : ℕ) → enough ≤ found → ones (setUnion s t) ≡ ones s + 1
           → Best enough limit s (minus free t) (ts ∷ ps) found r → Best enough limit s free ((t ∷ ts) ∷ ps) best r
       terms-bar r h e c =
           go-on (minus free t) r h (minus-subset free t) (λ u f n. minus-free s t u free (f .within) (one-more s t u e (f .above) n)) c

@@ -16,7 +16,7 @@ use lib.ListN.{length, getD, take, drop, drop-of-length-le}
 use lib.Seq.{drop-cons}
 use Rattle.numbers.specs.Numbers.{tab}
 use Rattle.numbers.proofs.NumberLaws.{above-zero, length-tab, getD-tab}
-use Rattle.names.specs.Sets.{subset, union, minus}
+use Rattle.names.specs.Sets.{subset, setUnion, minus}
 use Rattle.names.specs.code.Parts.{shared, leastName}
 use Rattle.names.proofs.SetLaws.{subset-le, subset-refl, subset-trans, subset-antisym, union-right, union-least, ones-none, ones-mono}
 use Rattle.names.proofs.PartLaws.{shared-greatest, minus-add, minus-apart, subset-same, least-name-in, least-name-one, added, adds-none, adds-some, adds-one, one-added}
@@ -159,35 +159,35 @@ module _ (enough limit s free best : ℕ) (masks : List ℕ) (at end : ℕ) (ps 
     back r b = subst (λ (us : List ℕ). Best enough limit s free (us ∷ ps) best r) (sym first) b
 
     -- the term is not worth a try
-    term-skip : (r : ℕ) → subset t (union s free) && (ltb (union s t) best && leb (ones (union s t)) limit) ≡ false
+    term-skip : (r : ℕ) → subset t (setUnion s free) && (ltb (setUnion s t) best && leb (ones (setUnion s t)) limit) ≡ false
         → Best enough limit s free (ts ∷ ps) best r → Best enough limit s free (take (end - at) (drop at masks) ∷ ps) best r
     term-skip r e b =
-        back r (terms-skip enough limit s free ps t ts best r (λ u f m. high u f m (split (ltb (union s t) best))) b)
+        back r (terms-skip enough limit s free ps t ts best r (λ u f m. high u f m (split (ltb (setUnion s t) best))) b)
       where
-        high : (u : ℕ) → Fits limit s free ((t ∷ ts) ∷ ps) u → T (subset t u) → T (ltb (union s t) best) ⊎ T (not (ltb (union s t) best)) → best ≤ u
+        high : (u : ℕ) → Fits limit s free ((t ∷ ts) ∷ ps) u → T (subset t u) → T (ltb (setUnion s t) best) ⊎ T (not (ltb (setUnion s t) best)) → best ≤ u
         high u f m (inr l) =
-            le-trans (nltb→le (union s t) best l) (subset-le (union s t) u (union-least s t u (f .above) m))
+            le-trans (nltb→le (setUnion s t) best l) (subset-le (setUnion s t) u (union-least s t u (f .above) m))
         high u f m (inl l) =
             let wide = union-least s t u (f .above) m in
             absurd (subst (λ (b : Bool). T b) e
-            (both (subset t (union s free)) (ltb (union s t) best && leb (ones (union s t)) limit) (subset-trans t u (union s free) m (f .within))
-            (both (ltb (union s t) best) (leb (ones (union s t)) limit) l
-            (le→leb (ones (union s t)) limit (le-trans (ones-mono (union s t) u wide) (f .few))))))
+            (both (subset t (setUnion s free)) (ltb (setUnion s t) best && leb (ones (setUnion s t)) limit) (subset-trans t u (setUnion s free) m (f .within))
+            (both (ltb (setUnion s t) best) (leb (ones (setUnion s t)) limit) l
+            (le→leb (ones (setUnion s t)) limit (le-trans (ones-mono (setUnion s t) u wide) (f .few))))))
 
-    module _ (found : ℕ) (w : subset t (union s free) && (ltb (union s t) best && leb (ones (union s t)) limit) ≡ true)
-        (b : Best enough limit (union s t) free ps best found) where
-      room : T (subset t (union s free))
-      room = both-l (subset t (union s free)) (ltb (union s t) best && leb (ones (union s t)) limit) (true-T _ w)
+    module _ (found : ℕ) (w : subset t (setUnion s free) && (ltb (setUnion s t) best && leb (ones (setUnion s t)) limit) ≡ true)
+        (b : Best enough limit (setUnion s t) free ps best found) where
+      room : T (subset t (setUnion s free))
+      room = both-l (subset t (setUnion s free)) (ltb (setUnion s t) best && leb (ones (setUnion s t)) limit) (true-T _ w)
 
       term-stop : found < enough → Best enough limit s free (take (end - at) (drop at masks) ∷ ps) best found
       term-stop l = back found (terms-stop enough limit s free ps t ts best found room b l)
 
-      term-on : (free′ r : ℕ) → enough ≤ found → free′ ≡ cond (eqb (ones (union s t)) (ones s + 1)) (minus free t) free
+      term-on : (free′ r : ℕ) → enough ≤ found → free′ ≡ cond (eqb (ones (setUnion s t)) (ones s + 1)) (minus free t) free
           → Best enough limit s free′ (ts ∷ ps) found r → Best enough limit s free (take (end - at) (drop at masks) ∷ ps) best r
       term-on free′ r l e c =
           cond-ind (λ x. Best enough limit s x (ts ∷ ps) found r → Best enough limit s free (take (end - at) (drop at masks) ∷ ps) best r)
-          (eqb (ones (union s t)) (ones s + 1)) (minus free t) free
-          (λ o d. back r (terms-bar enough limit s free ps t ts best found room b r l (eqb→eq (ones (union s t)) (ones s + 1) o) d))
+          (eqb (ones (setUnion s t)) (ones s + 1)) (minus free t) free
+          (λ o d. back r (terms-bar enough limit s free ps t ts best found room b r l (eqb→eq (ones (setUnion s t)) (ones s + 1) o) d))
           (λ _ d. back r (terms-on enough limit s free ps t ts best found room b r l d))
           (subst (λ (x : ℕ). Best enough limit s x (ts ∷ ps) found r) e c)
 
@@ -203,44 +203,44 @@ module _ (enough limit s free : ℕ) (whole : List (List ℕ)) (best : ℕ) (mas
     here = getD masks at 0
 
     abbrev worthwhile : Bool
-    worthwhile = subset here (union s free′) && (ltb (union s here) found && leb (ones (union s here)) limit)
+    worthwhile = subset here (setUnion s free′) && (ltb (setUnion s here) found && leb (ones (setUnion s here)) limit)
 
     pub trying-skip : worthwhile ≡ false → Trying enough limit s free whole best masks ps end (at + 1) free′ found
     trying-skip e r b = w r (term-skip enough limit s free′ found masks at end ps h k r e b)
 
-    module _ (next : ℕ) (e : worthwhile ≡ true) (b : Best enough limit (union s here) free′ ps found next) where
+    module _ (next : ℕ) (e : worthwhile ≡ true) (b : Best enough limit (setUnion s here) free′ ps found next) where
       pub trying-stop : next < enough → Best enough limit s free whole best next
       trying-stop l = w next (term-stop enough limit s free′ found masks at end ps h k next e b l)
 
-      pub trying-on : (rest : ℕ) → enough ≤ next → rest ≡ cond (eqb (ones (union s here)) (ones s + 1)) (minus free′ here) free′
+      pub trying-on : (rest : ℕ) → enough ≤ next → rest ≡ cond (eqb (ones (setUnion s here)) (ones s + 1)) (minus free′ here) free′
           → Trying enough limit s free whole best masks ps end (at + 1) rest next
       trying-on rest l q r d = w r (term-on enough limit s free′ found masks at end ps h k next e b rest r l q d)
 
 -- ---- whether a term is worth a try, and what is free then
 
-module _ (t s free limit best w v : ℕ) (room : Bool) (a : w ≡ union s t) (b : v ≡ union s free) (d : room ≡ subset t v) where
+module _ (t s free limit best w v : ℕ) (room : Bool) (a : w ≡ setUnion s t) (b : v ≡ setUnion s free) (d : room ≡ subset t v) where
   abbrev worth : Bool
-  worth = subset t (union s free) && (ltb (union s t) best && leb (ones (union s t)) limit)
+  worth = subset t (setUnion s free) && (ltb (setUnion s t) best && leb (ones (setUnion s t)) limit)
 
-  fits : (x : Bool) → room ≡ x → subset t (union s free) ≡ x
+  fits : (x : Bool) → room ≡ x → subset t (setUnion s free) ≡ x
   fits x e = ap (subset t) (sym b) ∙ sym d ∙ e
 
   pub worth-room : room ≡ false → false ≡ worth
   worth-room e = rw (fits false e)
 
   pub worth-high : room ≡ true → best ≤ w → false ≡ worth
-  worth-high e h = rw (fits true e, le-ltb (union s t) best (omega arith))
+  worth-high e h = rw (fits true e, le-ltb (setUnion s t) best (omega arith))
 
   pub worth-count : (r : ℕ) → room ≡ true → w < best → r ≡ ones w → leb r limit ≡ worth
-  worth-count r e h c = rw (fits true e, lt-ltb (union s t) best (omega arith), c, a)
+  worth-count r e h c = rw (fits true e, lt-ltb (setUnion s t) best (omega arith), c, a)
 
 -- within the limit, as the next call asks
-pub worth-few : (limit s free t best : ℕ) → subset t (union s free) && (ltb (union s t) best && leb (ones (union s t)) limit) ≡ true
-    → ones (union s t) ≤ limit
+pub worth-few : (limit s free t best : ℕ) → subset t (setUnion s free) && (ltb (setUnion s t) best && leb (ones (setUnion s t)) limit) ≡ true
+    → ones (setUnion s t) ≤ limit
 worth-few limit s free t best w =
-    leb→le (ones (union s t)) limit
-    (both-r (ltb (union s t) best) (leb (ones (union s t)) limit)
-    (both-r (subset t (union s free)) (ltb (union s t) best && leb (ones (union s t)) limit) (true-T _ w)))
+    leb→le (ones (setUnion s t)) limit
+    (both-r (ltb (setUnion s t) best) (leb (ones (setUnion s t)) limit)
+    (both-r (subset t (setUnion s free)) (ltb (setUnion s t) best && leb (ones (setUnion s t)) limit) (true-T _ w)))
 
 -- ---- the names that do alone
 
@@ -265,15 +265,15 @@ module _ (d s : ℕ) (p : List ℕ) (i does v : ℕ) (h : 0 < i) (l : i ≤ leng
       let no : subset (getD p (i - 1) 0) s ≡ false = T-false (subset (getD p (i - 1) 0) s) (not-T (subset (getD p (i - 1) 0) s) (adds-some s (getD p (i - 1) 0) (λ z. g (a ∙ z)))) in
       rw (last, no) f
 
-  pub terms-with : v ≡ leastName v → (w r : ℕ) → w ≡ union s (getD p (i - 1) 0) → r ≡ union w does → r ≡ gather d (ones s + 1) s (drop (i - 1) p)
+  pub terms-with : v ≡ leastName v → (w r : ℕ) → w ≡ setUnion s (getD p (i - 1) 0) → r ≡ setUnion w does → r ≡ gather d (ones s + 1) s (drop (i - 1) p)
   unfolding gather
   terms-with k w r b c =
-      rw (last, le-leb (ones (union s (getD p (i - 1) 0))) (ones s + 1) (adds-one s (getD p (i - 1) 0) some (sym a ∙ k ∙ ap leastName a)), sym b, sym e) c
+      rw (last, le-leb (ones (setUnion s (getD p (i - 1) 0))) (ones s + 1) (adds-one s (getD p (i - 1) 0) some (sym a ∙ k ∙ ap leastName a)), sym b, sym e) c
 
   pub terms-past : (v ≡ leastName v → ⊥) → does ≡ gather d (ones s + 1) s (drop (i - 1) p)
   unfolding gather
   terms-past k =
-      rw (last, lt-leb (ones (union s (getD p (i - 1) 0))) (ones s + 1) (not-le (λ q. k (a ∙ one-added s (getD p (i - 1) 0) some q ∙ ap leastName (sym a))))) e
+      rw (last, lt-leb (ones (setUnion s (getD p (i - 1) 0))) (ones s + 1) (not-le (λ q. k (a ∙ one-added s (getD p (i - 1) 0) some q ∙ ap leastName (sym a))))) e
     where
       not-le : {x y : ℕ} → (x ≤ y → ⊥) → y < x
       not-le q = omega arith
@@ -298,7 +298,7 @@ narrow-above s p m r e i =
 module _ (n : ℕ) (listed : List ℕ) (table : Rows) (limit s free k best : ℕ) (few : ones s + 1 ≡ limit) (h : k < n)
     (left-false : T (not (holds s (predAt listed table k)))) where
   abbrev names : ℕ
-  names = narrowed limit s (union s free) (rest n listed table k)
+  names = narrowed limit s (setUnion s free) (rest n listed table k)
 
   first-rest : rest n listed table k ≡ predAt listed table k ∷ rest n listed table (k + 1)
   first-rest = rest-next n listed table k h
@@ -308,7 +308,7 @@ module _ (n : ℕ) (listed : List ℕ) (table : Rows) (limit s free k best : ℕ
   over done enough =
       subst (λ (ps : List (List ℕ)). Best enough limit s free ps best best) (sym first-rest)
       (last-none limit s few enough free best (predAt listed table k) (rest n listed table (k + 1)) left-false
-      (ap (narrowed limit s (union s free)) (sym first-rest) ∙ done))
+      (ap (narrowed limit s (setUnion s free)) (sym first-rest) ∙ done))
 
   -- none is left at place j
   pub last-stop : (j m : ℕ) → names ≡ narrowed limit s m (rest n listed table j) → m ≡ s → (enough : ℕ)
@@ -317,21 +317,21 @@ module _ (n : ℕ) (listed : List ℕ) (table : Rows) (limit s free k best : ℕ
       over (e ∙ ap (λ (x : ℕ). narrowed limit s x (rest n listed table j)) z ∙ narrowed-stop limit s few (rest n listed table j)) enough
 
   -- some are left at the end
-  pub last-least : (m v c u r : ℕ) → names ≡ m → (m ≡ s → ⊥) → v ≡ minus m s → c ≡ leastName v → u ≡ union s c → r ≡ min u best → (enough : ℕ)
+  pub last-least : (m v c u r : ℕ) → names ≡ m → (m ≡ s → ⊥) → v ≡ minus m s → c ≡ leastName v → u ≡ setUnion s c → r ≡ min u best → (enough : ℕ)
       → Best enough limit s free (rest n listed table k) best r
   last-least m v c u r e f a b d g enough =
-      let same : narrowed limit s (union s free) (predAt listed table k ∷ rest n listed table (k + 1)) ≡ m =
-      ap (narrowed limit s (union s free)) (sym first-rest) ∙ e in
-      let result : min (union s (leastName (minus m s))) best ≡ r = sym (g ∙ ap (λ (x : ℕ). min x best) (d ∙ ap (union s) (b ∙ ap leastName a))) in
+      let same : narrowed limit s (setUnion s free) (predAt listed table k ∷ rest n listed table (k + 1)) ≡ m =
+      ap (narrowed limit s (setUnion s free)) (sym first-rest) ∙ e in
+      let result : min (setUnion s (leastName (minus m s))) best ≡ r = sym (g ∙ ap (λ (x : ℕ). min x best) (d ∙ ap (setUnion s) (b ∙ ap leastName a))) in
       subst (λ (ps : List (List ℕ)). Best enough limit s free ps best r) (sym first-rest)
       (subst (λ (x : ℕ). Best enough limit s free (predAt listed table k ∷ rest n listed table (k + 1)) best x) result
-      (subst (λ (x : ℕ). Best enough limit s free (predAt listed table k ∷ rest n listed table (k + 1)) best (min (union s (leastName (minus x s))) best)) same
+      (subst (λ (x : ℕ). Best enough limit s free (predAt listed table k ∷ rest n listed table (k + 1)) best (min (setUnion s (leastName (minus x s))) best)) same
       (last-found limit s few enough free best (predAt listed table k) (rest n listed table (k + 1)) left-false (λ q. f (sym (q ∙ same))))))
 
   -- names are left beyond s
-  pub last-some : (m : ℕ) → T (subset s (union s free)) → names ≡ m → (m ≡ s → ⊥) → 0 < minus m s
+  pub last-some : (m : ℕ) → T (subset s (setUnion s free)) → names ≡ m → (m ≡ s → ⊥) → 0 < minus m s
   last-some m i e f =
-      go (minus m s) (minus-add s m (subst (λ (x : ℕ). T (subset s x)) e (narrowed-above limit s few (union s free) (rest n listed table k) i)))
+      go (minus m s) (minus-add s m (subst (λ (x : ℕ). T (subset s x)) e (narrowed-above limit s few (setUnion s free) (rest n listed table k) i)))
     where
       go : (d : ℕ) → s + d ≡ m → 0 < d
       go d q = above-zero (λ z. f (omega arith))
@@ -345,7 +345,7 @@ module _ (n : ℕ) (listed : List ℕ) (table : Rows) (limit s free k best : ℕ
 
   -- one name is left at place j: s with it makes the predicates from there on true, or nothing does
   pub last-one : (j m v u : ℕ) → names ≡ narrowed limit s m (rest n listed table j) → T (subset s m) → (m ≡ s → ⊥) → v ≡ minus m s
-      → leb (ones v) 1 ≡ true → u ≡ union s v → (r : ℕ) → r ≡ cond (all (holds u) (rest n listed table j)) (min u best) best → (enough : ℕ)
+      → leb (ones v) 1 ≡ true → u ≡ setUnion s v → (r : ℕ) → r ≡ cond (all (holds u) (rest n listed table j)) (min u best) best → (enough : ℕ)
       → Best enough limit s free (rest n listed table k) best r
   last-one j m v u e i f a b d r g enough = go (split (all (holds u) ps))
     where
@@ -361,10 +361,10 @@ module _ (n : ℕ) (listed : List ℕ) (table : Rows) (limit s free k best : ℕ
       apart : T (subset v s) → ⊥
       apart h = minus-apart m s v (rw a (subset-refl (minus m s))) h one
 
-      whole : m ≡ union s v
-      whole = sym (ap (union s) a ∙ added s m ∙ subset-antisym (union s m) m (union-least s m m i (subset-refl m)) (union-right s m))
+      whole : m ≡ setUnion s v
+      whole = sym (ap (setUnion s) a ∙ added s m ∙ subset-antisym (setUnion s m) m (union-least s m m i (subset-refl m)) (union-right s m))
 
-      here : names ≡ narrowed limit s (union s v) ps
+      here : names ≡ narrowed limit s (setUnion s v) ps
       here = e ∙ ap (λ (x : ℕ). narrowed limit s x ps) whole
 
       least : v ≡ leastName v

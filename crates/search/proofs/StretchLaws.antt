@@ -13,7 +13,7 @@ use lib.Dec.{T, T-not, ltb, ltb→lt}
 use lib.ListN.{getD, take}
 use Rattle.numbers.specs.Numbers.{tab}
 use Rattle.numbers.proofs.NumberLaws.{length-tab, getD-tab}
-use Rattle.names.specs.Sets.{union, noSet}
+use Rattle.names.specs.Sets.{setUnion, noSet}
 use Rattle.names.proofs.SetLaws.{subset-le}
 use Rattle.names.proofs.PartLaws.{union-add}
 use Rattle.predicates.specs.Lists.{keep, In}
@@ -172,7 +172,7 @@ module _ (n rows : ℕ) (lefts rights : List ℕ) (table : Rows) (order : List �
       pub no-set : (x r : ℕ) → Best noSet limit 0 free (needs rows lefts rights table order x) noSet r → noSet ≤ r
           → (u : ℕ) → Explains x u → ⊥
       no-set x r b h u g =
-          let low : u < noSet = omega (arith, subset-le u (union 0 free) (g .within), union-add 0 free) in
+          let low : u < noSet = omega (arith, subset-le u (setUnion 0 free) (g .within), union-add 0 free) in
           ⊎-elim (λ e. absurd (omega arith)) (λ e. absurd (omega arith)) (b .least u g)
 
       -- ---- one stretch after the other
@@ -255,7 +255,7 @@ module _ (n rows : ℕ) (lefts rights : List ℕ) (table : Rows) (order : List �
       -- no end before this one is explained
       back-first : Unexplained n rows lefts rights table order limit free end → FirstEnd n rows lefts rights table order limit free end set
       back-first before =
-          let low : set < noSet = omega (arith, subset-le set (union 0 free) (f .within), union-add 0 free) in
+          let low : set < noSet = omega (arith, subset-le set (setUnion 0 free) (f .within), union-add 0 free) in
           record {
             found = λ _. (is-end .0, is-end .1, is-end .2, is-end .3, f);
             others = λ k a b c. before k a b (⊎-elim (λ z. absurd (omega arith)) (λ l. l) c);

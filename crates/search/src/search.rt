@@ -7,7 +7,7 @@ ghost use Prim.Native.Nat.{ℕ, _+_, _-_, _*_, _≤_, _<_, min};
 ghost use lib.Dec.{T, eqb, leb, ltb};
 ghost use lib.Count.{ones};
 ghost use lib.ListN.{length, getD, take, drop};
-ghost use Rattle.names.specs.Sets.{subset, union, minus};
+ghost use Rattle.names.specs.Sets.{subset, setUnion, minus};
 ghost use Rattle.names.specs.code.Parts.{shared};
 ghost use Rattle.predicates.specs.Lists.{all};
 ghost use Rattle.predicates.specs.Predicates.{holds as Predicates·holds};
@@ -248,7 +248,7 @@ fn last_name(
 
 // Whether a term may lead to a set below `best`: its names are in the set or free, and joined with the set they are within the limit.
 pub(crate) fn worth(t: u32, set: u32, free: u32, limit: u32, best: u32) -> bool
-    ensures { λ r. ⌜ r ≡ subset t (union set free) && (ltb (union set t) best && leb (ones (union set t)) limit) ⌝ }
+    ensures { λ r. ⌜ r ≡ subset t (setUnion set free) && (ltb (setUnion set t) best && leb (ones (setUnion set t)) limit) ⌝ }
 {
     let wider = names::union(set, t);
     if !names::subset(t, names::union(set, free)) {
@@ -262,7 +262,7 @@ pub(crate) fn worth(t: u32, set: u32, free: u32, limit: u32, best: u32) -> bool
 
 // What is free once a term was tried: where it adds one name to the set, that name no more.
 pub(crate) fn freed(t: u32, set: u32, free: u32) -> u32
-    ensures { λ r. ⌜ r ≡ cond (eqb (ones (union set t)) (ones set + 1)) (minus free t) free ⌝ }
+    ensures { λ r. ⌜ r ≡ cond (eqb (ones (setUnion set t)) (ones set + 1)) (minus free t) free ⌝ }
 {
     let added = names::minus(t, set);
     if added == 0 {

@@ -7,7 +7,8 @@ use native.Mathlib.Omega.{arith}
 use lib.ListN.{length, set}
 use lib.Seq.{sets, getD-set-other}
 use Rattle.ends.specs.declared.Ends.{Ends}
-use Rattle.ends.specs.Ends.{BothSplit, withEnd}
+use Rattle.ends.specs.Ends.{BothSplit}
+use Rattle.ends.specs.code.Columns.{withEnd}
 use Rattle.ends.proofs.EndLaws.{length-with, end-with, end-beside, split-with}
 use Rattle.numbers.specs.Numbers.{tab}
 use Rattle.numbers.proofs.NumberLaws.{tab-suc, tab-cong}

@@ -12,7 +12,7 @@ use Rattle.numbers.proofs.NumberLaws.{tab-cong}
 use Rattle.predicates.specs.Lists.{any, keep}
 use Rattle.predicates.specs.Predicates.{implies}
 use Rattle.predicates.proofs.ListLaws.{keep-append}
-use Rattle.ends.specs.Ends.{endIn}
+use Rattle.ends.specs.code.Columns.{endIn}
 use Rattle.state.specs.Model.{Datum, datum, Store}
 use Rattle.state.specs.code.Tables.{table, columns, rowOf, hasTerms, datumIn, dataIn}
 use Rattle.entries.specs.Entries.{explained, learn}

@@ -18,7 +18,8 @@ use Rattle.epochs.proofs.EpochLaws.{length-known, known-slice}
 use Rattle.clocks.specs.Clocks.{Saved, nothing, savedOk}
 use Rattle.clocks.specs.Places.{placeSize, savedBytes, savedAt, placeFits}
 use Rattle.clocks.proofs.PlaceLaws.{length-saved, saved-small}
-use Rattle.state.specs.Model.{State, withClocks, readingLimit, nameMost, driftMost}
+use Rattle.state.specs.Model.{State, withClocks, readingLimit, nameMost}
+use Rattle.clocks.specs.Clocks.{driftMost}
 use Rattle.state.specs.Layout.{stateSize, ownAt, driftAt, readingAt, heldAt, knownAt, dataAt, dataMost, datumSize, entriesAt, entriesMost, entrySize, entryTerms, rowIn, datumTerms, clocksAt, clocksMost, epochsAt}
 use Rattle.state.specs.Layout.{datumBytes, entryBytes, dataBytes, entriesBytes, parts, stateBytes, datumAt, entryAt, datumPlace, entryPlace, clockPlace, joined, heldCount, entryCount, headOf, storeOf, stateOf}
 use Rattle.state.specs.Form.{termsFit, isZero, datumFits, entryFits, headFits, dataFit, entriesFit, clocksFit, epochsFit, inForm, headOk, datumOk, storeOk, countsOk, stateOk}

@@ -32,7 +32,8 @@ use Rattle.state.proofs.RowLaws.{row-full, table-room}
 use Rattle.state.specs.Model.{Datum}
 use Rattle.state.proofs.FormLaws.{length-filled, ends-split}
 use Rattle.ends.specs.declared.End.{End}
-use Rattle.ends.specs.Ends.{million, countOf, Split, BothSplit, endNumbers, endIn, withEnd, AllSplit}
+use Rattle.ends.specs.Ends.{million, countOf, Split, BothSplit}
+use Rattle.ends.specs.code.Columns.{endNumbers, endIn, withEnd, AllSplit}
 
 -- ---- a loop that fills the front of an array
 

@@ -10,7 +10,7 @@ use native.Mathlib.Omega.{arith}
 use lib.Dec.{T, T-not, not-T, ltb, ltb→lt, lt→ltb}
 use lib.ListN.{length, getD, take, drop, drop-of-length-le, length-drop}
 use lib.Seq.{take-all}
-use Rattle.names.specs.Sets.{subset, union, has, noSet}
+use Rattle.names.specs.Sets.{subset, setUnion, has, noSet}
 use Rattle.names.proofs.SetLaws.{test-ext, subset-trans, union-left, union-right, has-empty, has-mono, has-not-union}
 use Rattle.predicates.specs.Lists.{any, all, In}
 use Rattle.predicates.specs.Predicates.{precedes, isNormal}
@@ -101,7 +101,7 @@ module _ (own : ℕ) where
         let m = any-out (λ u. subset t u) (drop i p) h in
         subst (λ (b : Bool). T b) k (subset-trans t (m .0) names (m .2) (w .inside (m .0) (m .1))))
 
-    pub tested-next : t < next → any (λ u. subset t u) (drop i p) ≡ false → Tested own p (i - 1) t (union names t)
+    pub tested-next : t < next → any (λ u. subset t u) (drop i p) ≡ false → Tested own p (i - 1) t (setUnion names t)
     unfolding isNormal
     tested-next l k =
         let low : t < noSet = go (w .first) in
@@ -125,17 +125,17 @@ module _ (own : ℕ) where
         each-above u low (inl z) = (omega arith, omega arith)
         each-above u low (inr m) = (omega (arith, w .above u m .0), w .above u m .1)
 
-        each-inside : (u : ℕ) → In u (t ∷ drop i p) → T (subset u (union names t))
-        each-inside u (inl z) = subst (λ (x : ℕ). T (subset x (union names t))) (sym z) (union-right names t)
-        each-inside u (inr m) = subset-trans u names (union names t) (w .inside u m) (union-left names t)
+        each-inside : (u : ℕ) → In u (t ∷ drop i p) → T (subset u (setUnion names t))
+        each-inside u (inl z) = subst (λ (x : ℕ). T (subset x (setUnion names t))) (sym z) (union-right names t)
+        each-inside u (inr m) = subset-trans u names (setUnion names t) (w .inside u m) (union-left names t)
 
-        each-owned : T (has own (union names t)) → T (has own t) ⊎ T (not (has own t)) → (u : ℕ) × In u (t ∷ drop i p) × T (has own u)
+        each-owned : T (has own (setUnion names t)) → T (has own t) ⊎ T (not (has own t)) → (u : ℕ) × In u (t ∷ drop i p) × T (has own u)
         each-owned h (inl y) = (t, inl refl, y)
         each-owned h (inr n) = old (split (has own names))
           where
             old : T (has own names) ⊎ T (not (has own names)) → (u : ℕ) × In u (t ∷ drop i p) × T (has own u)
             old (inl y) = let m = w .owned y in (m .0, inr (m .1), m .2)
-            old (inr z) = absurd (T-not (has own (union names t)) (has-not-union own names t z n) h)
+            old (inr z) = absurd (T-not (has own (setUnion names t)) (has-not-union own names t z n) h)
 
   pub tested-done : (p : List ℕ) (i next names : ℕ) → Tested own p i next names → i ≤ 0 → ltb 0 next && not (has own names) ≡ isNormal p && all (termFits own) p
   unfolding termFits fitting

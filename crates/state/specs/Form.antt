@@ -15,7 +15,8 @@ use Rattle.ends.specs.Ends.{million}
 use Rattle.epochs.specs.Epochs.{epochMost, epochsMost, epochsIn}
 use Rattle.clocks.specs.Clocks.{savedOk}
 use Rattle.clocks.specs.Places.{placeFits}
-use Rattle.state.specs.Model.{Datum, Head, Store, State, nameMost, driftMost, endLimit, readingLimit}
+use Rattle.state.specs.Model.{Datum, Head, Store, State, nameMost, endLimit, readingLimit}
+use Rattle.clocks.specs.Clocks.{driftMost}
 use Rattle.state.specs.Layout.{ownAt, driftAt, readingAt, rowIn, leftMillionthsIn, rightMillionthsIn, dataMost, datumTerms, entriesMost, entryTerms}
 use Rattle.state.specs.Layout.{datumPlace, entryPlace, masksAt, rowAt, datumAt, heldCount, entryCount, clocksMost, clockPlace, epochsAt}
 

@@ -82,10 +82,6 @@ clocksMost = 29
 abbrev pub epochsAt : ℕ
 epochsAt = 5364
 
--- the rows of data and entries
-abbrev pub rowsMost : ℕ
-rowsMost = dataMost + entriesMost
-
 -- where datum i, entry i and name i's clock stand
 abbrev pub datumPlace : ℕ → ℕ
 datumPlace i = dataAt + i * datumSize

@@ -38,12 +38,9 @@ pub record State : Type 0 where
   pub head : Head
   pub store : Store
 
--- "A name is 0 to 28.", and the greatest drift in parts per million
+-- "A name is 0 to 28."
 abbrev pub nameMost : ℕ
 nameMost = 28
-
-abbrev pub driftMost : ℕ
-driftMost = 1000
 
 -- the last whole microsecond that can be stored: "Stored ends lie from 0 to 2^58 − 1"
 abbrev pub lastWhole : ℕ

@@ -17,7 +17,8 @@ use Rattle.predicates.specs.Lists.{any, keep}
 use Rattle.predicates.specs.Predicates.{normal}
 use Rattle.predicates.proofs.LoopLaws.{drop-next}
 use Rattle.ends.specs.declared.Ends.{Ends}
-use Rattle.ends.specs.Ends.{countOf, BothSplit, endIn}
+use Rattle.ends.specs.Ends.{countOf, BothSplit}
+use Rattle.ends.specs.code.Columns.{endIn}
 use Rattle.ends.proofs.EndLaws.{not-precedes}
 use Rattle.state.specs.Model.{Datum, datum}
 use Rattle.steps.specs.Steps.{disjoint, learnt, same, meet, met, without, betters}

@@ -9,7 +9,7 @@ use lib.Count.{ones}
 use lib.Dec.{T}
 use lib.IntN.{ℤ, pos}
 use lib.ListN.{length, getD}
-use Rattle.names.specs.Sets.{noSet, subset, union}
+use Rattle.names.specs.Sets.{noSet, subset, setUnion}
 use Rattle.names.specs.code.Parts.{shared}
 use Rattle.predicates.specs.code.Marks.{singles}
 use Rattle.predicates.specs.Lists.{In}
@@ -35,7 +35,7 @@ commonNames names (m ∷ ms) = commonNames (shared names m) ms
 -- the names and those that some mask has
 unfoldable pub allNames : ℕ → List ℕ → ℕ
 allNames names [] = names
-allNames names (m ∷ ms) = allNames (union names m) ms
+allNames names (m ∷ ms) = allNames (setUnion names m) ms
 
 -- ---- data in arrays
 

@@ -6,13 +6,13 @@ use mathlib.Core.Bool.{false, cond}
 use mathlib.Core.List.{List, [], _∷_}
 use lib.Dec.{eqb}
 use lib.Count.{ones}
-use Rattle.names.specs.Sets.{union}
+use Rattle.names.specs.Sets.{setUnion}
 use Rattle.predicates.specs.Predicates.{holds, implies}
 
 -- the names of the terms of one name
 unfoldable pub singles : List ℕ → ℕ
 singles [] = 0
-singles (t ∷ p) = cond (eqb (ones t) 1) (union t (singles p)) (singles p)
+singles (t ∷ p) = cond (eqb (ones t) 1) (setUnion t (singles p)) (singles p)
 
 -- the mark: the names that each make the predicate true alone; all that a mask can hold where it is true whatever has failed
 unfoldable pub markOf : List ℕ → ℕ

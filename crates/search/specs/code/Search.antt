@@ -11,7 +11,7 @@ use lib.Dec.{T, eqb, leb}
 use lib.Count.{ones}
 use lib.ListN.{length, getD, take, drop}
 use Rattle.numbers.specs.Numbers.{tab}
-use Rattle.names.specs.Sets.{subset, union}
+use Rattle.names.specs.Sets.{subset, setUnion}
 use Rattle.names.specs.code.Parts.{shared}
 use Rattle.predicates.specs.Lists.{all, keep}
 use Rattle.predicates.specs.Predicates.{holds}
@@ -22,7 +22,7 @@ use Rattle.predicates.specs.code.Marks.{singles}
 -- u is s with names that are free, within the limit, and makes the predicates true
 pub record Fits (limit s free : ℕ) (ps : List (List ℕ)) (u : ℕ) : Type 0 where
   pub above : T (subset s u)
-  pub within : T (subset u (union s free))
+  pub within : T (subset u (setUnion s free))
   pub few : ones u ≤ limit
   pub holding : T (all (holds u) ps)
 
@@ -49,7 +49,7 @@ skipped s (p ∷ ps) = cond (holds s p) (skipped s ps) (p ∷ ps)
 -- d with the names that alone, beside s, make the predicate true within the limit
 unfoldable pub gather : ℕ → ℕ → ℕ → List ℕ → ℕ
 gather d limit s [] = d
-gather d limit s (t ∷ p) = cond (leb (ones (union s t)) limit) (union (union s t) (gather d limit s p)) (gather d limit s p)
+gather d limit s (t ∷ p) = cond (leb (ones (setUnion s t)) limit) (setUnion (setUnion s t) (gather d limit s p)) (gather d limit s p)
 
 -- s with them
 abbrev pub alone : ℕ → ℕ → List ℕ → ℕ

@@ -9,10 +9,15 @@ use lib.ListN.{length, getD, take, drop}
 use Rattle.numbers.specs.Numbers.{num, bytes, put, tab}
 use Rattle.predicates.specs.Lists.{keep}
 use Rattle.state.specs.Model.{Datum, datum, Store}
-use Rattle.state.specs.Layout.{datumTerms, entryTerms, datumPlace, entryPlace, rightIn, leftMillionthsIn, rightMillionthsIn, masksAt, joined}
+use Rattle.state.specs.Layout.{dataMost, entriesMost, datumTerms, entryTerms, datumPlace, entryPlace, rightIn, leftMillionthsIn, rightMillionthsIn, masksAt, joined}
 use Rattle.state.specs.Layout.{heldCount, entryCount, datumAt}
 use Rattle.ends.specs.declared.Ends.{Ends}
-use Rattle.ends.specs.Ends.{countOf, endIn, AllSplit}
+use Rattle.ends.specs.Ends.{countOf}
+use Rattle.ends.specs.code.Columns.{endIn, AllSplit}
+
+-- the rows of data and entries
+abbrev pub rowsMost : ℕ
+rowsMost = dataMost + entriesMost
 
 -- predicates in two arrays: row i has its count of terms at i and its terms from i * width on
 pub record Table : Type 0 where

@@ -11,7 +11,7 @@ use Rattle.state.specs.Layout.{heldCount, storeOf, datumAt}
 use Rattle.state.specs.code.Tables.{endsAt}
 use Rattle.state.proofs.StateLaws.{held-count-le}
 use Rattle.claims.proofs.KeyLaws.{ends-stored}
-use Rattle.asking.specs.Asking.{greatestLeft, leastRight}
+use Rattle.asking.specs.code.Plain.{greatestLeft, leastRight}
 use Rattle.asking.proofs.AskSteps.{greatest-left-turn, greatest-left-done, least-right-turn, least-right-done}
 use borrow.Author.Needs.{needs}
 use Rattle.asking.proofs.ask.meeting.Statement.{statement}

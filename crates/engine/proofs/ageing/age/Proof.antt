@@ -6,7 +6,8 @@ use mathlib.Core.Bool.{cond}
 use native.Mathlib.Omega.{arith}
 use borrow.Author.Tests.{not-true, not-false}
 use Rattle.numbers.specs.Numbers.{put, Bytes}
-use Rattle.state.specs.Model.{Store, readingLimit, driftMost}
+use Rattle.state.specs.Model.{Store, readingLimit}
+use Rattle.clocks.specs.Clocks.{driftMost}
 use Rattle.state.specs.Layout.{dataAt, joined, datumBytes, storeOf, stateOf}
 use Rattle.engine.specs.Refusals.{ageRefusal}
 use Rattle.state.specs.Refusal.{after}

@@ -1,13 +1,13 @@
 -- `epochs::known::hear` meets its contract: name by name (`risen-turn`, `late-turn`), each of another identifier than those before it.
 -- Invariant: the masks are those of the names before i. Measure: the names still to come.
 use Prim.Native.Nat.{ℕ, _-_, _≤_}
-use mathlib.Core.Path.{_≡_, refl, sym, ap, ap₂, _∙_}
+use mathlib.Core.Path.{_≡_, sym, ap, ap₂, _∙_}
 use native.Mathlib.Omega.{arith}
 use mathlib.Core.Bool.{not, _&&_}
 use lib.Dec.{eqb, ltb}
 use lib.ListN.{length, getD, take}
 use lib.Seq.{take-all}
-use Rattle.names.specs.Sets.{union}
+use Rattle.names.specs.Sets.{setUnion}
 use Rattle.epochs.specs.Epochs.{epochsIn, identifierOf, epochOf, older, spoken}
 use Rattle.epochs.specs.code.Known.{bitWhere}
 use Rattle.epochs.proofs.EpochLaws.{length-known, older-none, risen-turn, late-turn}
@@ -50,10 +50,10 @@ loop-again c =
     let known = at-epoch .epoch-of .ensures .0 in (
       omega (arith, more),
       c .before .before .union .ensures
-          ∙ ap₂ union (at .inv .1) (at-bit .bit-where .ensures ∙ ap (λ (k : ℕ). bitWhere (not (eqb (identifierOf (getD (a .args .words .now) (at .i) 0)) (a .args .own)) && ltb k (epochOf (getD (a .args .words .now) (at .i) 0))) (identifierOf (getD (a .args .words .now) (at .i) 0))) known)
+          ∙ ap₂ setUnion (at .inv .1) (at-bit .bit-where .ensures ∙ ap (λ (k : ℕ). bitWhere (not (eqb (identifierOf (getD (a .args .words .now) (at .i) 0)) (a .args .own)) && ltb k (epochOf (getD (a .args .words .now) (at .i) 0))) (identifierOf (getD (a .args .words .now) (at .i) 0))) known)
           ∙ sym (risen-turn (a .args .own) (a .args .words .now) ks (a .pre .1) long (at .i) more),
       c .union2 .ensures
-          ∙ ap₂ union (at .inv .2) (c .before .bit-where2 .ensures ∙ ap (λ (k : ℕ). bitWhere (not (eqb (identifierOf (getD (a .args .words .now) (at .i) 0)) (a .args .own)) && ltb (epochOf (getD (a .args .words .now) (at .i) 0)) k) (identifierOf (getD (a .args .words .now) (at .i) 0))) known)
+          ∙ ap₂ setUnion (at .inv .2) (c .before .bit-where2 .ensures ∙ ap (λ (k : ℕ). bitWhere (not (eqb (identifierOf (getD (a .args .words .now) (at .i) 0)) (a .args .own)) && ltb (epochOf (getD (a .args .words .now) (at .i) 0)) k) (identifierOf (getD (a .args .words .now) (at .i) 0))) known)
           ∙ sym (late-turn (a .args .own) (a .args .words .now) ks (a .pre .1) long (at .i) more),
     )
 

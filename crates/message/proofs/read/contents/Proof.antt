@@ -8,7 +8,7 @@ use lib.Dec.{eqb}
 use lib.ListN.{length, getD}
 use Rattle.predicates.specs.Predicates.{isNormal}
 use Rattle.message.specs.Words.{masks}
-use Rattle.message.specs.Read.{senderOf, countOf, isEnds, start, middle, span, withSpan, contents}
+use Rattle.message.specs.Read.{senderOf, termCount, isEnds, start, middle, span, withSpan, contents}
 use Rattle.message.proofs.WordLaws.{normal-middle}
 use Rattle.message.proofs.ReadLaws.{Shaped, shape-out, start-bounds}
 use borrow.Author.Needs.{needs}
@@ -32,7 +32,7 @@ checked : (c : tie.Else1) → let a = c .before .before .before .before .before 
     let words = a .words .now in
     let ends = isEnds (a .at) words in
     contents (a .at) words
-    ≡ withSpan (senderOf (getD words 0 0)) (countOf (getD words 0 0)) (isNormal (masks (middle (a .at) ends words))) (span (a .at) ends words)
+    ≡ withSpan (senderOf (getD words 0 0)) (termCount (getD words 0 0)) (isNormal (masks (middle (a .at) ends words))) (span (a .at) ends words)
 unfolding contents
 checked c = rw (← (c .before .check-fits .ensures), c .if1 .left)
 

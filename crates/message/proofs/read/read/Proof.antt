@@ -1,6 +1,6 @@
 -- `message::read::read` meets its contract: each return is a case of the definition's tests.
 use mathlib.Core.Path.{sym, _∙_}
-use Rattle.message.specs.Read.{readFrom, readWords}
+use Rattle.message.specs.Read.{readFrom, readPlain}
 use Rattle.message.proofs.Cases.{cases}
 use borrow.Author.Needs.{needs}
 use borrow.Author.Tests.{le-ltb, eq-eqb, ne-eqb}
@@ -8,15 +8,15 @@ use Rattle.message.proofs.read.read.Statement.{statement}
 use Rattle.message.proofs.read.read.Tie as tie
 
 returns : tie.Need-returns
-unfolding readWords
+unfolding readPlain
 returns c = search cases
 
 returns-2 : tie.Need-returns-2
-unfolding readWords
+unfolding readPlain
 returns-2 c = search cases
 
 returns-3 : tie.Need-returns-3
-unfolding readWords readFrom
+unfolding readPlain readFrom
 returns-3 c =
     let at-count = c .before .before in
     rw (
@@ -30,7 +30,7 @@ contents-requires : tie.Need-contents-requires
 contents-requires c κs = sym (c .before .shape .ensures) ∙ c .if3 .left
 
 returns-4 : tie.Need-returns-4
-unfolding readWords readFrom
+unfolding readPlain readFrom
 returns-4 c =
     let at-shape = c .before .before in
     rw (

@@ -6,7 +6,7 @@ use native.Mathlib.Omega.{arith}
 use lib.Dec.{eqb}
 use lib.ListN.{length, getD}
 use borrow.Author.Tests.{eq-eqb, ne-eqb, eqb-true, not-true, not-false}
-use Rattle.message.specs.Read.{headWordFits, isEnds, opens, start, countOf, kindsFit, shapeRefusal}
+use Rattle.message.specs.Read.{headWordFits, isEnds, opens, start, termCount, kindsFit, shapeRefusal}
 use borrow.Author.Needs.{needs}
 use Rattle.message.proofs.read.shape.Statement.{statement}
 use Rattle.message.proofs.read.shape.Tie as tie
@@ -63,12 +63,12 @@ returns-3 c =
       head (c .before .before .before),
       form (c .before .before),
       ← (told (c .before)),
-      ne-eqb (length words) (start (a .at) ends + countOf (getD words 0 0) + 1) (λ e. omega (arith, opened (c .before .before))),
+      ne-eqb (length words) (start (a .at) ends + termCount (getD words 0 0) + 1) (λ e. omega (arith, opened (c .before .before))),
     )
 
 -- the word count is that of head and form
 counted : (c : tie.Else3) → let at-kind = c .before .before .before .before in let a = at-kind .before .before .before .before .args in
-    length (a .words .now) ≡ start (a .at) (eqb (at-kind .kind-at .result) 2) + countOf (getD (a .words .now) 0 0) + 1
+    length (a .words .now) ≡ start (a .at) (eqb (at-kind .kind-at .result) 2) + termCount (getD (a .words .now) 0 0) + 1
 counted c = omega (arith, opened (c .before .before))
 
 -- past the test of the count
@@ -84,7 +84,7 @@ past c =
       head (c .before .before .before),
       form (c .before .before),
       ← (told (c .before)),
-      eq-eqb (length words) (start (a .at) ends + countOf (getD words 0 0) + 1) (counted c),
+      eq-eqb (length words) (start (a .at) ends + termCount (getD words 0 0) + 1) (counted c),
     )
 
 kinds-fit-requires : tie.Need-kinds-fit-requires

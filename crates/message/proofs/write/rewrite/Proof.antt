@@ -4,8 +4,8 @@ use mathlib.Core.Path.{_≡_, sym, ap, _∙_}
 use native.Mathlib.Omega.{arith}
 use lib.ListN.{length}
 use Rattle.numbers.specs.Numbers.{put}
-use Rattle.message.specs.Read.{readWords}
-use Rattle.message.specs.Write.{rewritten, rewrittenAs}
+use Rattle.message.specs.Read.{readPlain}
+use Rattle.message.specs.Write.{rewrittenPlain, rewrittenPlainAs}
 use Rattle.message.specs.declared.Reading.the-variants.{Message}
 use Rattle.message.proofs.ReadLaws.{read-out, terms-middle, length-middle}
 use borrow.Author.Needs.{needs}
@@ -14,11 +14,11 @@ use Rattle.message.proofs.write.rewrite.Tie as tie
 
 -- the message that was read
 was-read : (c : tie.After-got) → let m = c .got .given .0 in
-    readWords (c .before .before .before .before .before .args .words .now) ≡ Message (m .0) (m .1 .0) (m .1 .1 .0) (m .1 .1 .1 .0)
+    readPlain (c .before .before .before .before .before .args .words .now) ≡ Message (m .0) (m .1 .0) (m .1 .1 .0) (m .1 .1 .1 .0)
 was-read c = sym (c .before .before .read .ensures) ∙ c .got .given .1
 
 returns : tie.Need-returns
-unfolding rewritten rewrittenAs put
+unfolding rewrittenPlain rewrittenPlainAs put
 returns c =
     let at-read = c .before .before in
     (at-read .read .ensures, rw (← (at-read .read .ensures), c .enum-told .given .1))
@@ -36,7 +36,7 @@ write-requires c κs =
     omega arith
 
 returns-2 : tie.Need-returns-2
-unfolding rewritten rewrittenAs
+unfolding rewrittenPlain rewrittenPlainAs
 returns-2 c =
     let at-terms = c .before .before .before .before .before in
     let read = was-read (at-terms .before .before) in

@@ -5,7 +5,7 @@ use Prim.Native.Nat.{_-_}
 use mathlib.Core.Path.{_≡_, refl, sym, _∙_}
 use mathlib.Core.Logic.{⊎-elim}
 use lib.ListN.{length, drop}
-use Rattle.names.specs.Sets.{union}
+use Rattle.names.specs.Sets.{setUnion}
 use Rattle.predicates.specs.Predicates.{holds}
 use Rattle.predicates.specs.code.Marks.{singles}
 use Rattle.predicates.proofs.MarkLaws.{singles-take, singles-pass, holds-pass, mark-all, mark-some}
@@ -14,13 +14,13 @@ use Rattle.predicates.proofs.marks.mark_of.Statement.{statement}
 use Rattle.predicates.proofs.marks.mark_of.Tie as tie
 
 abbrev Inv-loop : tie.InvT-loop
-Inv-loop p names₀ i₀ names i = (union names (singles (drop i p)) ≡ singles p) × (holds 0 p ≡ holds 0 (drop i p))
+Inv-loop p names₀ i₀ names i = (setUnion names (singles (drop i p)) ≡ singles p) × (holds 0 p ≡ holds 0 (drop i p))
 
 abbrev μ-loop : tie.MeasureT-loop
 μ-loop p names₀ i₀ names i = length p - i
 
 loop-holds : tie.Need-loop-holds Inv-loop μ-loop
-unfolding union
+unfolding setUnion
 loop-holds c = (refl, refl)
 
 returns : tie.Need-returns Inv-loop μ-loop

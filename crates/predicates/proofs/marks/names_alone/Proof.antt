@@ -3,7 +3,7 @@
 use Prim.Native.Nat.{_-_}
 use mathlib.Core.Path.{_≡_, refl, _∙_}
 use lib.ListN.{length, drop}
-use Rattle.names.specs.Sets.{union}
+use Rattle.names.specs.Sets.{setUnion}
 use Rattle.predicates.specs.code.Marks.{singles}
 use Rattle.predicates.proofs.MarkLaws.{singles-turn, singles-done}
 use borrow.Author.Needs.{needs}
@@ -11,13 +11,13 @@ use Rattle.predicates.proofs.marks.names_alone.Statement.{statement}
 use Rattle.predicates.proofs.marks.names_alone.Tie as tie
 
 abbrev Inv-loop : tie.InvT-loop
-Inv-loop p names₀ i₀ names i = union names (singles (drop i p)) ≡ singles p
+Inv-loop p names₀ i₀ names i = setUnion names (singles (drop i p)) ≡ singles p
 
 abbrev μ-loop : tie.MeasureT-loop
 μ-loop p names₀ i₀ names i = length p - i
 
 loop-holds : tie.Need-loop-holds Inv-loop μ-loop
-unfolding union
+unfolding setUnion
 loop-holds c = refl
 
 loop-again : tie.Need-loop-again Inv-loop μ-loop

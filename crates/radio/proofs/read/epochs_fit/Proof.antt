@@ -4,10 +4,10 @@ use Prim.Native.Nat.{_+_, _-_, _≤_}
 use mathlib.Core.Path.{_≡_, _∙_}
 use native.Mathlib.Omega.{arith}
 use lib.ListN.{length, getD}
-use Rattle.message.specs.Read.{countOf, isEnds, start, middle}
+use Rattle.message.specs.Read.{termCount, isEnds, start, middle}
 use Rattle.message.proofs.WordLaws.{part-slice}
 use Rattle.message.proofs.ReadLaws.{Shaped, shape-out, start-bounds}
-use Rattle.radio.specs.Read.{epochsFit}
+use Rattle.radio.specs.Read.{epochWordsFit}
 use borrow.Author.Needs.{needs}
 use Rattle.radio.proofs.read.epochs_fit.Statement.{statement}
 use Rattle.radio.proofs.read.epochs_fit.Tie as tie
@@ -16,22 +16,22 @@ use Rattle.radio.proofs.read.epochs_fit.Tie as tie
 shaped : (c : tie.Start) → Shaped (c .args .walked .at) (c .args .words .now)
 shaped c = shape-out (c .args .walked .at) (c .args .words .now) (c .pre .1)
 
-fits : (c : tie.Start) → countOf (getD (c .args .words .now) 0 0) + 4 ≤ length (c .args .words .now)
+fits : (c : tie.Start) → termCount (getD (c .args .words .now) 0 0) + 4 ≤ length (c .args .words .now)
 fits c = omega (arith, shaped c, start-bounds (c .args .walked .at) (isEnds (c .args .walked .at) (c .args .words .now)))
 
 from : (c : tie.Start) → let ws = c .args .words .now in
     let at = c .args .walked .at in
-    length ws - 1 - countOf (getD ws 0 0) ≡ start at (isEnds at ws)
+    length ws - 1 - termCount (getD ws 0 0) ≡ start at (isEnds at ws)
 from c = omega (arith, shaped c)
 
 returns : tie.Need-returns
-unfolding epochsFit middle
+unfolding epochWordsFit middle
 returns c =
     let begin = c .before .before .before .before in
     let ws = begin .args .words .now in
     let last = length ws - 1 in
     begin .pre .2 (c .wanted .result)
-    ∙ rw (← (begin .pre .0), c .wanted .ensures, part-slice (last - countOf (getD ws 0 0)) last ws, from begin)
+    ∙ rw (← (begin .pre .0), c .wanted .ensures, part-slice (last - termCount (getD ws 0 0)) last ws, from begin)
 
 pub epochs-fit-spec : {M : Type 1} → statement M
 epochs-fit-spec =

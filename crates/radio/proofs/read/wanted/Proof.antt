@@ -4,7 +4,7 @@
 use Prim.Native.Nat.{_-_, _^_}
 use mathlib.Core.Path.{_≡_}
 use lib.ListN.{length, drop}
-use Rattle.names.specs.Sets.{union}
+use Rattle.names.specs.Sets.{setUnion}
 use Rattle.message.specs.Words.{masks}
 use Rattle.radio.specs.Names.{wanted}
 use Rattle.radio.proofs.NameLaws.{wanted-start, wanted-turn, wanted-done}
@@ -14,7 +14,7 @@ use Rattle.radio.proofs.read.wanted.Tie as tie
 
 abbrev Inv-loop : tie.InvT-loop
 Inv-loop sender terms mask₀ i₀ mask i =
-    (union mask (wanted sender (masks (drop i terms))) ≡ wanted sender (masks terms)) × (union mask (2 ^ sender) ≡ mask)
+    (setUnion mask (wanted sender (masks (drop i terms))) ≡ wanted sender (masks terms)) × (setUnion mask (2 ^ sender) ≡ mask)
 
 abbrev μ-loop : tie.MeasureT-loop
 μ-loop sender terms mask₀ i₀ mask i = length terms - i

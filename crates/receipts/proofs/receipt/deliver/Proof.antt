@@ -10,7 +10,7 @@ use lib.Dec.{T}
 use lib.ListN.{length, take}
 use Rattle.numbers.specs.Numbers.{put}
 use Rattle.numbers.proofs.NumberLaws.{length-put}
-use Rattle.names.specs.Sets.{union}
+use Rattle.names.specs.Sets.{setUnion}
 use Rattle.message.specs.Words.{masks}
 use Rattle.epochs.specs.Epochs.{older, spoken}
 use Rattle.clocks.specs.Clocks.{violatedBy}
@@ -213,7 +213,7 @@ new-arrived c =
 -- the readings are tested as the definition says
 violation-there : (c : tie.After-take) → let a = start-of-take c in
     violatedBy (headOf (bytes-at a) .drift) (clockOf (headOf (bytes-at a)) (a .args .sender)) (at-heed (c .before) .heed .result) ≡ violated (headOf (bytes-at a)) (given a)
-unfolding union
+unfolding setUnion
 violation-there c =
     let h = at-heed (c .before) in
     let heard-at = at-hear (form-of-take c) in

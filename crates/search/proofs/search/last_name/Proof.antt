@@ -7,7 +7,7 @@ use native.Mathlib.Nat.{le-refl}
 use native.Mathlib.Omega.{arith}
 use lib.Dec.{T}
 use lib.ListN.{drop}
-use Rattle.names.specs.Sets.{subset, union}
+use Rattle.names.specs.Sets.{subset, setUnion}
 use Rattle.names.proofs.SetLaws.{union-left}
 use Rattle.search.specs.code.Search.{rowsOf, predAt, preds, narrowed}
 use Rattle.search.proofs.SearchSteps.{narrowed-turn, narrowed-done, last-stop, last-least, last-some, last-one, narrow-above}
@@ -18,7 +18,7 @@ use Rattle.search.proofs.search.last_name.Tie as tie
 abbrev Inv-loop : tie.InvT-loop
 Inv-loop listed counts masks several singles n k set free limit best names₀ j₀ names j =
     (k ≤ j) × (j ≤ n) × T (subset set names)
-    × (narrowed limit set (union set free) (drop k (preds n listed (rowsOf counts masks several singles))) ≡ narrowed limit set names (drop j (preds n listed (rowsOf counts masks several singles))))
+    × (narrowed limit set (setUnion set free) (drop k (preds n listed (rowsOf counts masks several singles))) ≡ narrowed limit set names (drop j (preds n listed (rowsOf counts masks several singles))))
 
 abbrev μ-loop : tie.MeasureT-loop
 μ-loop listed counts masks several singles n k set free limit best names₀ j₀ names j = n - j

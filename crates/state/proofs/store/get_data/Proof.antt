@@ -5,7 +5,7 @@ use mathlib.Core.Path.{ap}
 use native.Mathlib.Omega.{arith}
 use Rattle.ends.specs.declared.Ends.{Ends}
 use Rattle.numbers.specs.Numbers.{num}
-use Rattle.ends.specs.Ends.{endNumbers}
+use Rattle.ends.specs.code.Columns.{endNumbers}
 use Rattle.state.specs.Layout.{datumPlace, rowIn, masksAt}
 use Rattle.state.specs.code.Tables.{endsAt}
 use Rattle.state.proofs.StoreLaws.{Column, column-none, column-next, column-done, Laid, laid-none, laid-next, laid-done, end-laid, length-masks}
