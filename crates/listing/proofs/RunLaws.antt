@@ -12,7 +12,7 @@ use lib.Seq.{length-take-le}
 use Rattle.predicates.proofs.ListLaws.{or-r, true-T, T-true}
 use Rattle.numbers.specs.Numbers.{put}
 use Rattle.lines.specs.code.Sizes.{answerMost}
-use Rattle.stream.specs.code.Kept.{Kept, nothingKept, keptAfter, textAfter, lastText}
+use Rattle.stream.specs.Kept.{Kept, nothingKept, keptAfter, textAfter, lastText}
 use Rattle.stream.specs.Listing.{listingOf}
 use Rattle.stream.proofs.StreamLaws.{kept-append, text-append, text-most}
 use Rattle.stream.proofs.ListingLaws.{listing-streamed}

@@ -6,7 +6,7 @@ use mathlib.Core.Bool.{Bool, cond}
 use mathlib.Core.List.{List}
 use lib.ListN.{length}
 use Rattle.stream.specs.Listing.{listingOf}
-use Rattle.stream.specs.code.Kept.{Kept, nothingKept, keptAfter, textAfter}
+use Rattle.stream.specs.Kept.{Kept, nothingKept, keptAfter, textAfter}
 
 -- so many bytes are read at once at most
 abbrev pub pieceMost : ℕ

@@ -19,7 +19,7 @@ use Rattle.lines.specs.Lines.{lineMost, lineResult}
 use Rattle.lines.proofs.LineLaws.{line-long}
 use Rattle.stream.specs.Listing.{linesIn, yields, listingOf}
 use Rattle.stream.proofs.StreamLaws.{last-some}
-use Rattle.stream.specs.code.Kept.{kept, nothingKept, resultOf, keptNext, textNext, keptAfter, textAfter, lastText}
+use Rattle.stream.specs.Kept.{kept, nothingKept, resultOf, keptNext, textNext, keptAfter, textAfter, lastText}
 
 -- ---- lines
 

@@ -1,4 +1,4 @@
--- Laws of `specs.code.Kept`: a byte more at the end of those that were taken, and the bytes of a line that are kept.
+-- Laws of `specs.Kept`: a byte more at the end of those that were taken, and the bytes of a line that are kept.
 -- The idea: `keptAfter` and `textAfter` go from the first byte on, the loop adds one behind. No contract cites this file. Assumes nothing.
 use Prim.Native.Nat.{ℕ, _+_, _*_, _≤_, _<_}
 use mathlib.Core.Path.{_≡_, refl, sym, _∙_}
@@ -15,7 +15,7 @@ use Rattle.predicates.proofs.ListLaws.{cond-ind}
 use Rattle.lines.specs.code.Sizes.{answerMost}
 use Rattle.lines.specs.Lines.{lineMost}
 use Rattle.lines.proofs.ResultLaws.{line-short}
-use Rattle.stream.specs.code.Kept.{Kept, resultOf, keptNext, textNext, keptAfter, textAfter, lastText}
+use Rattle.stream.specs.Kept.{Kept, resultOf, keptNext, textNext, keptAfter, textAfter, lastText}
 
 -- ---- the line so far
 

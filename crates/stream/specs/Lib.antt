@@ -1,3 +1,4 @@
 pub mod Listing
+pub mod Kept
 pub mod Cases
 pub mod code

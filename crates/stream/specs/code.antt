@@ -1,2 +1,2 @@
 -- The definitions that serve the code alone.
-pub mod Kept
+pub mod Sessions

@@ -8,7 +8,8 @@ ghost use lib.ListN.{length, take};
 ghost use Rattle.numbers.specs.Numbers.{put};
 ghost use Rattle.lines.specs.code.Sizes.{answerMost};
 ghost use Rattle.lines.specs.Lines.{lineMost, LineResult, lineResult};
-ghost use Rattle.stream.specs.code.Kept.{Kept, Standing, kept, keptBy, nothingKept, keptNext, textNext, keptAfter, textAfter, lastText};
+ghost use Rattle.stream.specs.Kept.{Kept, kept, nothingKept, keptNext, textNext, keptAfter, textAfter, lastText};
+ghost use Rattle.stream.specs.code.Sessions.{Standing, keptBy};
 use lines::ANSWER_MOST;
 use lines::LINE_MOST;
 

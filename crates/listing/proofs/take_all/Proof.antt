@@ -7,7 +7,7 @@ use mathlib.Core.Bool.{Bool, _||_, not, cond}
 use native.Mathlib.Omega.{arith}
 use lib.Dec.{leb}
 use lib.ListN.{length, take, length-take}
-use Rattle.stream.specs.code.Kept.{Standing, keptBy}
+use Rattle.stream.specs.code.Sessions.{Standing, keptBy}
 use Rattle.listing.specs.declared.Progress.{Progress}
 use Rattle.listing.specs.Run.{pieceMost, readMost, Went}
 use Rattle.listing.proofs.RunLaws.{went-none, went-piece, went-most, run-less, run-stopped, run-full}

@@ -6,7 +6,7 @@ use native.Mathlib.Omega.{arith}
 use lib.ListN.{length}
 use lib.Seq.{length-take-le}
 use Rattle.lines.specs.code.Sizes.{answerMost}
-use Rattle.stream.specs.code.Kept.{keptBy}
+use Rattle.stream.specs.code.Sessions.{keptBy}
 use Rattle.listing.specs.Run.{pieceMost}
 use Rattle.listing.proofs.RunLaws.{no-byte, some-byte, turn-none, turn-some}
 use borrow.Author.Needs.{needs}

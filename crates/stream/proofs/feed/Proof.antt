@@ -8,7 +8,7 @@ use lib.Seq.{take-all}
 use Rattle.numbers.specs.Numbers.{put}
 use Rattle.lines.specs.code.Sizes.{answerMost}
 use Rattle.lines.specs.Lines.{lineMost}
-use Rattle.stream.specs.code.Kept.{kept, keptAfter, textAfter}
+use Rattle.stream.specs.Kept.{kept, keptAfter, textAfter}
 use Rattle.stream.proofs.StreamLaws.{feed-next}
 use borrow.Author.Needs.{needs}
 use Rattle.stream.proofs.feed.Statement.{statement}

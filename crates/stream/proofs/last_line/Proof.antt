@@ -3,7 +3,8 @@ use mathlib.Core.Path.{refl, sym}
 use native.Mathlib.Omega.{arith}
 use lib.Seq.{length-take-le}
 use Rattle.numbers.specs.Numbers.{put}
-use Rattle.stream.specs.code.Kept.{keptBy, resultOf}
+use Rattle.stream.specs.Kept.{resultOf}
+use Rattle.stream.specs.code.Sessions.{keptBy}
 use Rattle.stream.proofs.StreamLaws.{last-none, last-some}
 use borrow.Author.Needs.{needs}
 use Rattle.stream.proofs.last_line.Statement.{statement}

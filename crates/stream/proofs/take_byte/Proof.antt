@@ -5,7 +5,7 @@ use native.Mathlib.Omega.{arith}
 use borrow.Author.Tests.{eq-eqb, ne-eqb}
 use lib.Seq.{length-take-le}
 use Rattle.numbers.specs.Numbers.{put}
-use Rattle.stream.specs.code.Kept.{resultOf, keptNext, textNext}
+use Rattle.stream.specs.Kept.{resultOf, keptNext, textNext}
 use Rattle.stream.proofs.StreamLaws.{kept-byte, kept-full}
 use borrow.Author.Needs.{needs}
 use Rattle.stream.proofs.take_byte.Statement.{statement}

@@ -1,15 +1,12 @@
--- Definitions that serve the code alone: no statement of document 01 cites this file.
--- The listing byte by byte: what is kept between two bytes, and what each prints. Law `listing-streamed` of `proofs.ListingLaws` joins it to
--- `specs.Listing`. Assumes nothing: these are definitions.
-use Prim.Native.Nat.{ℕ, _+_, _≤_}
-use mathlib.Core.Path.{_≡_}
+-- The listing byte by byte: what is kept between two bytes, and what each prints. The statements about a run of the program cite it, since a run
+-- takes its input in pieces; law `listing-streamed` of `proofs.ListingLaws` joins it to `specs.Listing`. Assumes nothing: these are definitions.
+use Prim.Native.Nat.{ℕ, _+_}
 use mathlib.Core.Bool.{Bool, false, cond}
 use mathlib.Core.List.{List, [], _∷_, _++_}
 use lib.Dec.{eqb}
 use lib.ListN.{length, take, replicate}
 use Rattle.state.specs.Layout.{stateSize}
 use Rattle.lines.specs.Lines.{lineMost, LineResult, lineResult}
-use Rattle.stream.specs.declared.Session.{Session}
 
 -- what is kept between two bytes: whether a `set` was taken, the state, and the bytes of the line so far
 pub record Kept : Type 0 where
@@ -19,15 +16,6 @@ pub record Kept : Type 0 where
 
 abbrev pub kept : Bool → List ℕ → List ℕ → Kept
 kept begun state line = record { begun = begun; state = state; line = line }
-
--- a session as this crate makes it: the bytes that have come lie within its line
-pub record Standing (s : Session) : Type 0 where
-  pub come : s .size ≤ lineMost + 1
-  pub long : length (s .line) ≡ lineMost + 1
-
--- what a session keeps
-abbrev pub keptBy : Session → Kept
-keptBy s = kept (s .begun) (s .state) (take (s .size) (s .line))
 
 -- before the first byte: no `set` was taken, the state's bytes are zero, and no byte of a line has come
 unfoldable pub nothingKept : Kept
