@@ -8,7 +8,7 @@ use native.Mathlib.Nat.{le-refl}
 use native.Mathlib.Numerals.{add-one}
 use native.Mathlib.Omega.{arith}
 use borrow.Author.Tests.{lt-ltb, le-ltb, eq-eqb, ne-eqb, eqb-true, eqb-false, leb-true}
-use lib.Dec.{T, ltb, leb, eqb}
+use lib.Dec.{T, ltb, leb, eqb, eqb→eq}
 use lib.ListN.{length, getD, take, drop, set, drop-of-length-le, length-take, length-drop}
 use lib.Seq.{drop-drop}
 use Rattle.predicates.specs.Lists.{all}
@@ -175,6 +175,14 @@ module _ (a b : List ℕ) (i : ℕ) (p : i < length a) (q : i < length b) where
 pub same-done : (a b : List ℕ) (i : ℕ) → length a ≤ i → length b ≤ i → sameBytes (drop i a) (drop i b) ≡ true
 unfolding sameBytes
 same-done a b i p q = rw (drop-of-length-le a {i = i} p, drop-of-length-le b {i = i} q)
+
+-- a passed test is an equation
+pub same-bytes-out : (a b : List ℕ) → T (sameBytes a b) → a ≡ b
+unfolding sameBytes
+same-bytes-out [] [] h = refl
+same-bytes-out [] (y ∷ ys) h = absurd h
+same-bytes-out (x ∷ xs) [] h = absurd h
+same-bytes-out (x ∷ xs) (y ∷ ys) h = rw (eqb→eq x y (both-l (eqb x y) (sameBytes xs ys) h), same-bytes-out xs ys (both-r (eqb x y) (sameBytes xs ys) h))
 
 -- ---- a line: its first field, and those behind it
 

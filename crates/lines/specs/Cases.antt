@@ -1,16 +1,17 @@
--- Tables: lines that are good or bad by their fields, and the lines that answers print, those of document 01's listing among them. The answers
--- themselves are a table of `monitor`. Assumes nothing: these are definitions.
+-- Tables: lines that are good or bad by their fields, and the lines that answers print, those of document 01's listing among them. Each row is an
+-- equation with a text that is written out. The answers themselves are a table of `runs`. Assumes nothing: these are definitions.
 use Prim.Native.Nat.{ℕ, _-_, _^_}
+use mathlib.Core.Path.{_≡_}
 use Prim.Native.Char.{code}
 use Prim.Native.String.{String, len, charAt}
-use mathlib.Core.Bool.{Bool, true, _&&_}
+use mathlib.Core.Bool.{Bool, true, false}
 use mathlib.Core.List.{List, [], _∷_, _++_}
+use Rattle.predicates.specs.Lists.{In}
 use Rattle.numbers.specs.Numbers.{tab}
-use Rattle.fields.specs.Fields.{sameBytes}
 use Rattle.asking.specs.declared.Answer.the-variants.{Contradicted, Open, Between}
 use Rattle.asking.specs.declared.Fewest.the-variants.{Over, Few}
 use Rattle.lines.specs.Text.{badText, numberText, answerText, fewestText}
-use Rattle.lines.specs.Lines.{LineResult, lineResult}
+use Rattle.lines.specs.Lines.{lineResult}
 
 -- ---- a case
 
@@ -26,14 +27,13 @@ pub record LineCase : Type 0 where
 abbrev pub lineCase : String → String → LineCase
 lineCase line prints = record { line = line; prints = prints }
 
--- the line prints what it must, and the next cases go on from what it left
-unfoldable pub printsThen : (Bool → List ℕ → Bool) → LineCase → LineResult → Bool
-printsThen next l r = sameBytes (r .text) (ascii (l .prints) ++ (10 ∷ [])) && next (r .begun) (r .state)
+-- what a line prints, with its line feed
+abbrev pub printedLine : String → List ℕ
+printedLine text = ascii text ++ (10 ∷ [])
 
--- the cases one after the other, each on what the last one left
-unfoldable pub eachPrints : List LineCase → Bool → List ℕ → Bool
-eachPrints [] begun s = true
-eachPrints (l ∷ ls) begun s = printsThen (eachPrints ls) l (lineResult (ascii (l .line)) begun s)
+-- the line prints what it must, and leaves all as it was, so that the next line begins where it did
+abbrev pub LineComes : LineCase → Bool → List ℕ → Type 0
+LineComes l begun s = lineResult (ascii (l .line)) begun s ≡ record { begun = begun; state = s; text = printedLine (l .prints) }
 
 -- ---- good and bad lines
 
@@ -75,6 +75,10 @@ laterLines =
     ∷ lineCase "" "bad line"
     ∷ []
 
+-- each line prints its text, before a taken `set` and after one
+unfoldable pub EachLine : Type 0
+EachLine = ((l : LineCase) → In l earlyLines → LineComes l false []) × ((l : LineCase) → In l laterLines → LineComes l true [])
+
 -- ---- the lines that are printed
 
 -- bytes that are printed, and the line that they must be
@@ -85,8 +89,8 @@ pub record Printed : Type 0 where
 abbrev pub printed : List ℕ → String → Printed
 printed text line = record { text = text; line = line }
 
-unfoldable pub asPrinted : Printed → Bool
-asPrinted p = sameBytes (p .text) (ascii (p .line) ++ (10 ∷ []))
+abbrev pub PrintedComes : Printed → Type 0
+PrintedComes p = p .text ≡ printedLine (p .line)
 
 -- those of document 01's listing, its first two answers as document 02 (W-202) has them, and the longest numbers
 unfoldable pub answers : List Printed
@@ -105,3 +109,7 @@ answers =
     ∷ printed (answerText (Between 9 (2 ^ 64 - 1))) "between 9 18446744073709551615"
     ∷ printed badText "bad line"
     ∷ []
+
+-- each text is the line that it must be
+unfoldable pub EachPrinted : Type 0
+EachPrinted = (p : Printed) → In p answers → PrintedComes p

@@ -1,8 +1,9 @@
--- Inputs and what they must print: how an input is cut into lines, and what its end yields. Assumes nothing: these are definitions.
+-- Inputs and what they must print: how an input is cut into lines, and what its end yields. Each row is an equation with a text that is written out.
+-- Assumes nothing: these are definitions.
 use Prim.Native.String.{String}
-use mathlib.Core.Bool.{Bool}
+use mathlib.Core.Path.{_≡_}
 use mathlib.Core.List.{List, [], _∷_}
-use Rattle.fields.specs.Fields.{sameBytes}
+use Rattle.predicates.specs.Lists.{In}
 use Rattle.lines.specs.Cases.{ascii}
 use Rattle.stream.specs.Listing.{listingOf}
 
@@ -14,10 +15,11 @@ pub record InputCase : Type 0 where
 abbrev pub inputCase : String → String → InputCase
 inputCase input prints = record { input = input; prints = prints }
 
-unfoldable pub printsAll : InputCase → Bool
-printsAll c = sameBytes (listingOf (ascii (c .input))) (ascii (c .prints))
+abbrev pub InputComes : InputCase → Type 0
+InputComes c = listingOf (ascii (c .input)) ≡ ascii (c .prints)
 
--- no line; empty lines; last lines with and without a line feed
+-- no line; empty lines; last lines with and without a line feed. No `set` is taken here: behind one each line would be computed on the 5,393 bytes of a
+-- state, which takes too long; what the lines of document 01's listing answer is a table of `runs`, computed on the states that the bytes hold
 unfoldable pub inputs : List InputCase
 inputs =
     inputCase "" ""
@@ -27,3 +29,7 @@ inputs =
     ∷ inputCase "\n\nx" "bad line\nbad line\nbad line\n"
     ∷ inputCase "ask 0\nfewest" "bad line\nbad line\n"
     ∷ []
+
+-- each input prints its text
+unfoldable pub EachInput : Type 0
+EachInput = (c : InputCase) → In c inputs → InputComes c
