@@ -1,2 +1,3 @@
--- The laws of a run.
+-- The laws of calls and of a run.
+pub mod SystemLaws
 pub mod RunLaws

@@ -1,1 +1,3 @@
+pub mod System
 pub mod Run
+pub mod code
