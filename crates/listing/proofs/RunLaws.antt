@@ -19,7 +19,7 @@ use Rattle.stream.proofs.ListingLaws.{listing-streamed}
 use Rattle.listing.specs.declared.count.Tally.{Tally}
 use Rattle.listing.specs.System.{movedBy, isEnd, isFailure, isRepeated, goesOn}
 use Rattle.listing.specs.code.Calls.{noCall}
-use Rattle.listing.specs.Run.{readMost, isLost, stopped, Went, Ran, Tells}
+use Rattle.listing.specs.Run.{readMost, isLost, stopped, Went, Ran, CallsTell}
 use Rattle.listing.specs.code.Turns.{pieceMost, isGoing, nothingDone, Hears, HandsOn, Turned}
 
 -- ---- a turn
@@ -56,7 +56,7 @@ turned k k' input old heard new n h s even keeps prints =
 -- ---- a run
 
 -- before the first call nothing is lost
-pub none-tells : (t : Tally) → t ≡ nothingDone → Tells t × (T (isEnd (t .input .got)) → t .written ≡ t .handed)
+pub none-tells : (t : Tally) → t ≡ nothingDone → CallsTell t × (T (isEnd (t .input .got)) → t .written ≡ t .handed)
 unfolding nothingDone noCall isRepeated goesOn
 none-tells t e = rw e (record { tried = tt; within = omega arith; lost = refl }, λ _. refl)
 
@@ -139,5 +139,5 @@ pub ran-part : {read handed : ℕ} {k : Kept} → Went read handed k → Ran rea
 ran-part w = record { input = w .input; came = w .came; prints = w .prints }
 
 -- what was handed on last changes nothing of the last read
-pub ran-tells : {n : ℕ} {old : Tally} (new : Tally) → HandsOn n old new → Tells old → isEnd (old .input .got) ≡ true → (isEnd (new .input .got) ≡ true) × Tells new
+pub ran-tells : {n : ℕ} {old : Tally} (new : Tally) → HandsOn n old new → CallsTell old → isEnd (old .input .got) ≡ true → (isEnd (new .input .got) ≡ true) × CallsTell new
 ran-tells new h t e = (rw (h .input) e, record { tried = rw (h .input) (t .tried); within = h .within; lost = h .lost })

@@ -42,7 +42,7 @@ abbrev pub stopped : Tally → Bool
 stopped t = isEnd (t .input .got) || (isFailure (t .input .got) || isLost t)
 
 -- the last read is none that is made again, and output is lost exactly where the last write moved nothing and is not made again
-pub record Tells (t : Tally) : Type 0 where
+pub record CallsTell (t : Tally) : Type 0 where
   pub tried : T (not (isRepeated (t .input)))
   pub within : t .written ≤ t .handed
   pub lost : isLost t ≡ not (goesOn (t .output))

@@ -15,7 +15,7 @@ ghost use Rattle.lines.specs.code.Sizes.{answerMost};
 ghost use Rattle.stream.specs.Kept.{textAfter};
 ghost use Rattle.stream.specs.code.Sessions.{Standing, keptBy};
 ghost use Rattle.listing.specs.System.{movedBy, isEnd};
-ghost use Rattle.listing.specs.Run.{readMost, stopped, Went, Ran, Tells, complaintOf};
+ghost use Rattle.listing.specs.Run.{readMost, stopped, Went, Ran, CallsTell, complaintOf};
 ghost use Rattle.listing.specs.code.Turns.{pieceMost, isGoing, Turned};
 use crate::count::Tally;
 use lines::ANSWER_MOST;
@@ -73,7 +73,7 @@ fn take_all(input: &mut [u8], out: &mut [u8]) -> Progress
     requires { ⌜ (length (now input) ≡ pieceMost) × (answerMost * pieceMost ≤ length (now out)) ⌝ }
     ensures { λ r. ⌜ Standing (r .session) × (r .tally .read < readMost + pieceMost) ⌝ }
     ensures { λ r. ⌜ Went (r .tally .read) (r .tally .handed) (keptBy (r .session)) ⌝ }
-    ensures { λ r. ⌜ Tells (r .tally) × (T (isEnd (r .tally .input .got)) → r .tally .written ≡ r .tally .handed) ⌝ }
+    ensures { λ r. ⌜ CallsTell (r .tally) × (T (isEnd (r .tally .input .got)) → r .tally .written ≡ r .tally .handed) ⌝ }
     ensures { λ r. ⌜ T (stopped (r .tally) || leb readMost (r .tally .read)) ⌝ }
 {
     let session = stream::begin();
@@ -95,7 +95,7 @@ fn room() -> [u8; OUT_SIZE]
 // Reads and answers all, a last line without a line feed too.
 fn answer_all() -> Tally
     ensures { λ r. ⌜ Ran (r .read) (r .handed) (isEnd (r .input .got)) ⌝ }
-    ensures { λ r. ⌜ Tells r × T (stopped r || leb readMost (r .read)) ⌝ }
+    ensures { λ r. ⌜ CallsTell r × T (stopped r || leb readMost (r .read)) ⌝ }
 {
     let mut input = [0u8; PIECE_MOST];
     let mut out = room();

@@ -10,7 +10,7 @@ use lib.ListN.{length, length-take}
 use Rattle.predicates.proofs.ListLaws.{true-T}
 use Rattle.stream.specs.code.Sessions.{Standing, keptBy}
 use Rattle.listing.specs.System.{movedBy, isEnd}
-use Rattle.listing.specs.Run.{readMost, Went, Tells}
+use Rattle.listing.specs.Run.{readMost, Went, CallsTell}
 use Rattle.listing.specs.code.Turns.{pieceMost, isGoing}
 use Rattle.listing.proofs.RunLaws.{none-tells, none-read, went-none, went-piece, went-most, goes-below, goes-written, readLeft, run-less, run-stopped}
 use borrow.Author.Needs.{needs}
@@ -22,7 +22,7 @@ Inv-loop input₀ out₀ progress₀ input out progress =
     ((length input ≡ length input₀) × (length out ≡ length out₀))
     × (Standing (progress .session) × (progress .tally .read < readMost + pieceMost))
     × Went (progress .tally .read) (progress .tally .handed) (keptBy (progress .session))
-    × (Tells (progress .tally) × (T (isEnd (progress .tally .input .got)) → progress .tally .written ≡ progress .tally .handed))
+    × (CallsTell (progress .tally) × (T (isEnd (progress .tally .input .got)) → progress .tally .written ≡ progress .tally .handed))
 
 abbrev μ-loop : tie.MeasureT-loop
 μ-loop input₀ out₀ progress₀ input out progress = readLeft (progress .tally)

@@ -10,7 +10,7 @@ use Rattle.stream.specs.Kept.{Kept, keptAfter, textAfter}
 use Rattle.listing.specs.declared.count.Tally.{Tally}
 use Rattle.listing.specs.System.{movedBy, isEnd, isRepeated, goesOn}
 use Rattle.listing.specs.code.Calls.{noCall}
-use Rattle.listing.specs.Run.{readMost, isLost, stopped, Tells}
+use Rattle.listing.specs.Run.{readMost, isLost, stopped, CallsTell}
 
 -- so many bytes are read at once at most
 abbrev pub pieceMost : ℕ
@@ -47,5 +47,5 @@ pub record Turned (piece : List ℕ) (k k' : Kept) (old new : Tally) : Type 0 wh
   pub read : new .read ≡ old .read + length piece
   pub keeps : k' ≡ keptAfter k piece
   pub prints : new .handed ≡ old .handed + length (textAfter k piece)
-  pub tells : Tells new
+  pub tells : CallsTell new
   pub whole : T (isEnd (new .input .got)) → new .written ≡ new .handed
