@@ -4,7 +4,7 @@ use crate::asking::{ANSWER_BYTES, FEWEST_BYTES};
 use crate::branches::Branches;
 use crate::clocks::{Readings, Triple};
 use crate::lent::{compare, Lent};
-use crate::message::MESSAGE_BYTES;
+use crate::message::{Message, MESSAGE_BYTES};
 use crate::random::Random;
 use crate::state::{State, STATE_BYTES};
 use crate::{ageing, asking, engine, receiving, set_up, writing};
@@ -155,6 +155,41 @@ pub fn refused(before: &State, call: &Call, wanted: u32) {
     assert_eq!(number, wanted, "{call:?} in {before:?}");
     assert!(after == bytes, "{call:?} in {before:?}");
 }
+
+/// A receipt without delay.
+pub fn receipt(message: Message, readings: Option<Readings>) -> Call {
+    Call::Receive { least: 0, greatest: 0, readings, message: message.bytes() }
+}
+
+/// The state after taken messages without readings.
+pub fn heard(before: &State, messages: &[Message]) -> State {
+    let calls = messages.iter().map(|message| receipt(message.clone(), None));
+    calls.fold(before.clone(), |state, call| taken(&state, &call).0)
+}
+
+/// The state after a message with readings a, b and w of a sender without drift.
+pub fn watched(before: &State, message: Message, (a, b, w): (u64, u64, u64)) -> (State, Branches) {
+    taken(before, &receipt(message, Some(Readings::of(a, b, w, 0))))
+}
+
+/// What both programs answer at a limit: kind, left and right.
+pub fn ask(state: &State, limit: u64) -> [u64; 3] {
+    numbers(&tried(&Call::Ask { limit }, &state.bytes(), ANSWER_BYTES).2)
+}
+
+/// The fewest failures: count and mask.
+pub fn fewest(state: &State) -> [u64; 2] {
+    numbers(&tried(&Call::Fewest, &state.bytes(), FEWEST_BYTES).2)
+}
+
+/// The numbers of 8 bytes in an output.
+pub fn numbers<const N: usize>(out: &[u8]) -> [u64; N] {
+    std::array::from_fn(|i| u64::from_le_bytes(*out[8 * i..].first_chunk().expect("a number")))
+}
+
+/// Two answers as `ask` gives them.
+pub const CONTRADICTED: [u64; 3] = [0, 0, 0];
+pub const OPEN: [u64; 3] = [1, 0, 0];
 
 impl fmt::Debug for Call {
     fn fmt(&self, f: &mut fmt::Formatter) -> fmt::Result {

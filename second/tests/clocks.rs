@@ -2,9 +2,8 @@
 //! violation does, the order of refusals; edges by name. Seeded runs are in tests/runs.rs, with their
 //! books in tests/book.rs; damaged places are in tests/state.rs.
 
-use second::asking::{ANSWER_BYTES, FEWEST_BYTES};
 use second::branches::{Branch, Branches};
-use second::calls::{refused, taken, tried, Call};
+use second::calls::{ask, fewest, refused, taken, tried, Call, CONTRADICTED, OPEN};
 use second::clocks::{excess, Readings, Saved, Triple, GREATEST_CLOCK};
 use second::instants::GREATEST_END;
 use second::message::{bytes_of, write, Message};
@@ -32,23 +31,6 @@ fn receipt(read: Read, message: Vec<u8>) -> Call {
     let readings = Some(Readings::of(a, b, w, drift));
     Call::Receive { least: 0, greatest: 0, readings, message }
 }
-
-/// What both programs answer at a limit: kind, left and right.
-fn ask(state: &State, limit: u64) -> [u64; 3] {
-    numbers(&tried(&Call::Ask { limit }, &state.bytes(), ANSWER_BYTES).2)
-}
-
-/// The fewest failures: count and mask.
-fn fewest(state: &State) -> [u64; 2] {
-    numbers(&tried(&Call::Fewest, &state.bytes(), FEWEST_BYTES).2)
-}
-
-fn numbers<const N: usize>(out: &[u8]) -> [u64; N] {
-    std::array::from_fn(|i| u64::from_le_bytes(*out[8 * i..].first_chunk().expect("a number")))
-}
-
-const CONTRADICTED: [u64; 3] = [0, 0, 0];
-const OPEN: [u64; 3] = [1, 0, 0];
 
 // ---- states and triples
 

@@ -3,9 +3,8 @@
 //! tests/message.rs, the epochs' bytes in tests/state.rs, seeded runs in tests/runs.rs and with
 //! their books in tests/book.rs.
 
-use second::asking::ANSWER_BYTES;
-use second::branches::{Branch, Branches};
-use second::calls::{refused, taken, tried, Call};
+use second::branches::Branch;
+use second::calls::{ask, heard, receipt, refused, taken, tried, watched, Call};
 use second::clocks::{Readings, Saved, Triple, GREATEST_CLOCK};
 use second::epochs::{FIRST_EPOCHS, GREATEST_EPOCH};
 use second::instants::GREATEST_END;
@@ -16,30 +15,6 @@ use second::random::Random;
 use second::samples::{states, Tally};
 use second::state::{Datum, State, DATUM_TERMS, MOST_DATA, MOST_ENTRIES};
 use std::collections::BTreeSet;
-
-// ---- what is compared
-
-/// A receipt without delay.
-fn receipt(message: Message, readings: Option<Readings>) -> Call {
-    Call::Receive { least: 0, greatest: 0, readings, message: message.bytes() }
-}
-
-/// The state after taken messages without readings.
-fn heard(before: &State, messages: &[Message]) -> State {
-    let calls = messages.iter().map(|message| receipt(message.clone(), None));
-    calls.fold(before.clone(), |state, call| taken(&state, &call).0)
-}
-
-/// The same with readings a, b and w of the one message.
-fn watched(before: &State, message: Message, (a, b, w): (u64, u64, u64)) -> (State, Branches) {
-    taken(before, &receipt(message, Some(Readings::of(a, b, w, 0))))
-}
-
-/// The answer at a limit: kind, left and right.
-fn ask(state: &State, limit: u64) -> [u64; 3] {
-    let out = tried(&Call::Ask { limit }, &state.bytes(), ANSWER_BYTES).2;
-    std::array::from_fn(|i| u64::from_le_bytes(*out[8 * i..].first_chunk().expect("a number")))
-}
 
 // ---- states and messages
 

@@ -4,8 +4,10 @@
 use second::asking::{ANSWER_BYTES, FEWEST_BYTES, GREATEST_LIMIT};
 use second::book;
 use second::booked::Run;
-use second::branches::{Branch, Branches};
-use second::calls::{refused, taken, tried, Call};
+use second::branches::Branch;
+use second::calls::{
+    ask, fewest, heard, numbers, receipt, refused, taken, tried, watched, Call, CONTRADICTED, OPEN,
+};
 use second::clocks::Readings;
 use second::instants::{Interval, GREATEST_END};
 use second::message::Message;
@@ -19,39 +21,6 @@ use second::state::{
 };
 
 // ---- what is compared
-
-/// A receipt without delay.
-fn receipt(message: Message, readings: Option<Readings>) -> Call {
-    Call::Receive { least: 0, greatest: 0, readings, message: message.bytes() }
-}
-
-/// The state after taken messages without readings.
-fn heard(before: &State, messages: &[Message]) -> State {
-    let calls = messages.iter().map(|message| receipt(message.clone(), None));
-    calls.fold(before.clone(), |state, call| taken(&state, &call).0)
-}
-
-/// The state after a message with readings a, b and w of a sender without drift.
-fn watched(before: &State, message: Message, (a, b, w): (u64, u64, u64)) -> (State, Branches) {
-    taken(before, &receipt(message, Some(Readings::of(a, b, w, 0))))
-}
-
-/// The answer at a limit: kind, left and right.
-fn ask(state: &State, limit: u64) -> [u64; 3] {
-    numbers(&tried(&Call::Ask { limit }, &state.bytes(), ANSWER_BYTES).2)
-}
-
-/// The fewest failures: count and mask.
-fn fewest(state: &State) -> [u64; 2] {
-    numbers(&tried(&Call::Fewest, &state.bytes(), FEWEST_BYTES).2)
-}
-
-fn numbers<const N: usize>(out: &[u8]) -> [u64; N] {
-    std::array::from_fn(|i| u64::from_le_bytes(*out[8 * i..].first_chunk().expect("a number")))
-}
-
-const CONTRADICTED: [u64; 3] = [0, 0, 0];
-const OPEN: [u64; 3] = [1, 0, 0];
 
 fn between(left: u64, right: u64) -> [u64; 3] {
     [2, left, right]

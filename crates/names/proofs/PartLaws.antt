@@ -2,15 +2,14 @@
 -- has no more names is that other (`subset-same`); most of the rest follows from it. No contract cites this file. Assumes nothing.
 use mathlib.Core.Path.{_≡_, sym, ap, subst, _∙_}
 use mathlib.Core.Logic.{_⊎_, inl, inr}
-use mathlib.Core.Bool.{Bool, not}
-use Prim.Native.Nat.{ℕ, zero, suc, _+_, _-_, _*_, _/_, _%_, _^_, _≤_, _<_, min}
+use mathlib.Core.Bool.{not}
+use Prim.Native.Nat.{ℕ, zero, suc, _+_, _-_, _*_, _/_, _%_, _^_, _≤_, _<_, min, max}
 use native.Mathlib.Nat.{mod-eq-of-lt}
 use native.Mathlib.Omega.{arith}
 use native.Mathlib.Decide.{ℕ-discrete, decLe}
-use lib.Dec.{T, T-not, not-T, eqb, eqb→eq, leb, leb→le, le→leb}
-use borrow.Author.Tests.{eq-eqb}
+use lib.Dec.{T, T-not, not-T}
 use lib.Arith.{bin-ind}
-use lib.Bits.{bitAnd, and-step, and-comm, and-self, and-le-l, and-mask, or-add-and}
+use lib.Bits.{bitAnd, bitOr, and-step, and-comm, and-self, and-le-l, and-mask, and-zero-r, or-step, or-zero-l, or-add-and}
 use lib.Count.{ones, ones-step}
 use Rattle.names.specs.Sets.{noSet, subset, setUnion, has, minus}
 use Rattle.names.specs.code.Parts.{digit}
@@ -190,21 +189,6 @@ least-name-one =
         let same : leastName s / 2 ≡ 0 = omega (arith, least-name-odd s (omega arith)) in
         omega (arith, ones-step (leastName s), ap ones same, ones-empty, least-name-odd s (omega arith))
 
--- ---- at most one name
-
--- a set of one name is its least name
-pub least-name-only : (s : ℕ) → 0 < s → eqb (bitAnd s (s - 1)) 0 ≡ leb (ones s) 1
-unfolding leastName
-least-name-only s k =
-    let one = least-name-one s k in
-    let below = and-le-l s (s - 1) in
-    test-ext (eqb (bitAnd s (s - 1)) 0) (leb (ones s) 1)
-    (λ h. let e = eqb→eq (bitAnd s (s - 1)) 0 h in
-    let same : leastName s ≡ s = omega (arith, e) in le→leb (ones s) 1 (omega (arith, ap ones same, one)))
-    (λ h. let few = leb→le (ones s) 1 h in
-    let same : leastName s ≡ s = subset-same (leastName s) s (least-name-in s) (omega (arith, one, few)) in
-    subst (λ (b : Bool). T b) (sym (eq-eqb (bitAnd s (s - 1)) 0 (omega (arith, same, below)))) tt)
-
 -- ---- what a set t adds to another
 
 -- nothing exactly where the set holds it
@@ -218,6 +202,17 @@ pub added : (s t : ℕ) → setUnion s (minus t s) ≡ setUnion s t
 added s t =
     digits-ext (setUnion s (minus t s)) (setUnion s t) (λ n.
     omega (arith, digit-union s (minus t s) n, digit-union s t n, digit-minus t s n, digit-lt s n, digit-lt t n))
+
+-- together they have the names of the set and those that are added
+pub ones-added : (s t : ℕ) → ones (setUnion s t) ≡ ones s + ones (minus t s)
+unfolding setUnion shared
+ones-added =
+    bin-ind (λ (s : ℕ). (t : ℕ) → ones (bitOr s t) ≡ ones s + ones (minus t s)) (λ t. omega (arith, ones-empty, ap ones (or-zero-l t), ap ones (minus-none t 0 (and-zero-r t))))
+    (λ s ih t.
+    let half : bitOr s t / 2 ≡ bitOr (s / 2) (t / 2) = omega (arith, or-step s t) in
+    let low : bitOr s t % 2 ≡ max (s % 2) (t % 2) = omega (arith, or-step s t) in
+    let more = minus-step t s in
+    omega (arith, ones-step s, ones-step (bitOr s t), ones-step (minus t s), ap ones half, ap ones (more .0), ih (t / 2)))
 
 -- one name exactly where the least of what it adds is all of it
 pub adds-one : (s t : ℕ) → 0 < minus t s → minus t s ≡ leastName (minus t s) → ones (setUnion s t) ≤ ones s + 1

@@ -53,14 +53,11 @@ pub fn count(s: u32) -> u32
     u32::count_ones(s)
 }
 
-// Whether s holds at most one name: taking its least name away leaves nothing. Counting takes longer.
+// Whether s holds at most one name.
 pub fn at_most_one(s: u32) -> bool
     ensures { λ r. ⌜ r ≡ leb (ones s) 1 ⌝ }
 {
-    if s == 0 {
-        return true;
-    }
-    s & (s - 1) == 0
+    count(s) <= 1
 }
 
 // The set of the name n alone.

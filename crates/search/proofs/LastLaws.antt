@@ -14,8 +14,7 @@ use lib.Count.{ones}
 use Rattle.names.specs.Sets.{subset, setUnion, minus}
 use Rattle.names.specs.code.Parts.{shared, leastName}
 use Rattle.names.proofs.SetLaws.{subset-refl, subset-trans, subset-antisym, union-left, union-right, union-least, ones-mono, ones-union}
-use Rattle.numbers.proofs.NumberLaws.{above-zero}
-use Rattle.names.proofs.PartLaws.{without-one, adds-none, adds-some, adds-one, one-added, shared-left, shared-right, shared-greatest, minus-subset, minus-mono, minus-add, minus-apart, union-add, subset-same, ones-more, single-part, least-name-least, least-name-in, least-name-one}
+use Rattle.names.proofs.PartLaws.{without-one, ones-added, shared-left, shared-right, shared-greatest, minus-subset, minus-mono, minus-add, minus-apart, union-add, subset-same, ones-more, single-part, least-name-least, least-name-in, least-name-one}
 use Rattle.predicates.specs.Lists.{all, In}
 use Rattle.predicates.specs.Predicates.{holds}
 use Rattle.predicates.proofs.ListLaws.{both, both-l, both-r, cond-ind}
@@ -23,29 +22,16 @@ use Rattle.predicates.proofs.PredicateLaws.{holds-in, holds-out, holds-mono}
 use Rattle.search.specs.code.Search.{Fits, Best, gather, alone, narrowed}
 use Rattle.search.proofs.SearchLaws.{best-none, best-of}
 
--- what is free once a term was tried: v is what it adds
-module _ (s t free v : ℕ) (a : v ≡ minus t s) where
+-- what is free once a term was tried: v is what it adds, n names
+module _ (s t free v n : ℕ) (a : v ≡ minus t s) (b : n ≡ ones v) where
   abbrev after : ℕ
   after = cond (eqb (ones (setUnion s t)) (ones s + 1)) (minus free t) free
 
-  pub freed-none : v ≡ 0 → free ≡ after
-  freed-none z =
-      let held = union-least s t s (subset-refl s) (adds-none s t (sym a ∙ z)) in
-      rw (ne-eqb (ones (setUnion s t)) (ones s + 1) (λ e. omega (arith, e, ones-mono (setUnion s t) s held))) refl
+  pub freed-one : n ≡ 1 → (r : ℕ) → r ≡ minus free t → r ≡ after
+  freed-one k r e = rw (eq-eqb (ones (setUnion s t)) (ones s + 1) (omega (arith, ones-added s t, ap ones a))) e
 
-  module _ (f : v ≡ 0 → ⊥) where
-    some : 0 < minus t s
-    some = rw a at (above-zero f)
-
-    pub freed-one : v ≡ leastName v → (r : ℕ) → r ≡ minus free t → r ≡ after
-    freed-one k r e =
-        let more = ones-more s (setUnion s t) (union-left s t) (λ q.
-        adds-some s t (λ z. f (a ∙ z)) (subst (λ (x : ℕ). T (subset t x)) (sym q) (union-right s t))) in
-        rw (eq-eqb (ones (setUnion s t)) (ones s + 1) (omega (arith, more, adds-one s t some (sym a ∙ k ∙ ap leastName a)))) e
-
-    pub freed-more : (v ≡ leastName v → ⊥) → free ≡ after
-    freed-more k =
-        rw (ne-eqb (ones (setUnion s t)) (ones s + 1) (λ e. k (a ∙ one-added s t some (omega (arith, e)) ∙ ap leastName (sym a)))) refl
+  pub freed-more : (n ≡ 1 → ⊥) → free ≡ after
+  freed-more k = rw (ne-eqb (ones (setUnion s t)) (ones s + 1) (λ e. k (omega (arith, ones-added s t, ap ones a)))) refl
 
 module _ (limit s : ℕ) (last : ones s + 1 ≡ limit) where
   -- ---- the names that alone do for one predicate

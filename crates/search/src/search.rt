@@ -122,8 +122,8 @@ fn next_unexplained(
     n
 }
 
-// Of the names those that are in `base` or alone, beside the set, make the terms' sum true; all of them where the set makes it true. A term that the
-// set does not hold adds one name where its lowest is all that it adds.
+// Of the names those that are in `base` or alone, beside the set, make the terms' sum true; all of them where the set makes it true: where a term
+// adds no name to it.
 fn narrow_terms(p: &[u32], set: u32, base: u32, names: u32) -> u32
     ensures { λ r. ⌜ r ≡ cond (Predicates·holds set (now (p .entry))) names (shared names (gather base (ones set + 1) set (now (p .entry)))) ⌝ }
 {
@@ -132,11 +132,11 @@ fn narrow_terms(p: &[u32], set: u32, base: u32, names: u32) -> u32
     while 0 < i {
         i -= 1;
         let t = p[i];
-        let added = names::minus(t, set);
+        let added = names::count(names::minus(t, set));
         if added == 0 {
             return names;
         }
-        if added == names::least_name(added) {
+        if added == 1 {
             does = names::union(names::union(set, t), does);
         }
     }
@@ -264,11 +264,7 @@ pub(crate) fn worth(t: u32, set: u32, free: u32, limit: u32, best: u32) -> bool
 pub(crate) fn freed(t: u32, set: u32, free: u32) -> u32
     ensures { λ r. ⌜ r ≡ cond (eqb (ones (setUnion set t)) (ones set + 1)) (minus free t) free ⌝ }
 {
-    let added = names::minus(t, set);
-    if added == 0 {
-        return free;
-    }
-    if added == names::least_name(added) {
+    if names::count(names::minus(t, set)) == 1 {
         return names::minus(free, t);
     }
     free

@@ -1,24 +1,18 @@
--- `search::search::freed` meets its contract: a term adds one name where the lowest of what it adds is all of it.
-use mathlib.Core.Path.{sym, _∙_}
+-- `search::search::freed` meets its contract: the set with the term has one name more exactly where the term adds one.
 use borrow.Author.Needs.{needs}
-use Rattle.search.proofs.LastLaws.{freed-none, freed-one, freed-more}
+use Rattle.search.proofs.LastLaws.{freed-one, freed-more}
 use Rattle.search.proofs.search.freed.Statement.{statement}
 use Rattle.search.proofs.search.freed.Tie as tie
 
 returns : tie.Need-returns
-returns c = freed-none _ _ _ _ (c .before .minus .ensures) (c .if1 .taken)
+returns c =
+    let at-count = c .before .before in
+    freed-one _ _ _ _ _ (at-count .before .minus .ensures) (at-count .count .ensures .0) (c .before .if1 .taken) _ (c .minus2 .ensures)
 
 returns-2 : tie.Need-returns-2
 returns-2 c =
-    freed-one _ _ _ _ (c .before .before .before .before .minus .ensures) (c .before .before .before .if1 .left)
-    (c .before .if2 .taken ∙ c .before .before .least-name .ensures) _ (c .minus2 .ensures)
-
-returns-3 : tie.Need-returns-3
-returns-3 c =
-    freed-more _ _ _ _ (c .before .before .before .minus .ensures) (c .before .before .if1 .left)
-    (λ q. c .if2 .left (q ∙ sym (c .before .least-name .ensures)))
+    let at-count = c .before in
+    freed-more _ _ _ _ _ (at-count .before .minus .ensures) (at-count .count .ensures .0) (c .if1 .left)
 
 pub freed-spec : {M : Type 1} → statement M
-freed-spec =
-    tie.close
-    (tie.spec (λ c κs. search needs) returns (λ c κs. search needs) (λ c κs. search needs) returns-2 returns-3)
+freed-spec = tie.close (tie.spec (λ c κs. search needs) (λ c κs. search needs) (λ c κs. search needs) returns returns-2)
