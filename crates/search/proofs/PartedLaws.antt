@@ -4,22 +4,22 @@
 use Prim.Native.Nat.{ℕ, _+_, _-_, _*_, _≤_, _<_}
 use mathlib.Core.Path.{_≡_, refl, sym, ap, subst, _∙_}
 use mathlib.Core.Logic.{_⊎_, inl, inr}
-use mathlib.Core.Bool.{Bool, true, false, not, cond}
+use mathlib.Core.Bool.{true, not, cond}
 use mathlib.Core.List.{List, [], _∷_}
 use native.Mathlib.Omega.{arith}
-use borrow.Author.Tests.{le-leb, eq-eqb}
-use lib.Dec.{T, T-not, eqb→eq, leb, leb→le, le→leb}
+use borrow.Author.Tests.{le-leb}
+use lib.Dec.{T, T-not, eqb→eq, leb}
 use lib.Count.{ones}
 use lib.ListN.{getD, take, drop, length-drop}
 use lib.Seq.{length-take-le, take-add, drop-drop, drop-at}
 use Rattle.names.specs.Sets.{subset, setUnion}
 use Rattle.names.specs.code.Parts.{shared}
-use Rattle.names.proofs.SetLaws.{test-ext, digit-union, digits-ext, subset-empty, subset-out, subset-trans, union-left, union-right, union-left-comm, ones-empty, ones-none, ones-union, union-none}
+use Rattle.names.proofs.SetLaws.{test-ext, digit-union, digits-ext, subset-empty, subset-out, subset-trans, union-left, union-right, union-left-comm, ones-empty, ones-union, union-none}
 use Rattle.names.proofs.PartLaws.{shared-greatest}
 use Rattle.predicates.specs.Lists.{In, keep}
 use Rattle.predicates.specs.Predicates.{holds}
 use Rattle.predicates.specs.code.Marks.{singles}
-use Rattle.predicates.proofs.ListLaws.{true-T, T-true, T-false, split, cond-ind, keep-in, keep-out}
+use Rattle.predicates.proofs.ListLaws.{T-true, T-false, split, cond-ind, keep-in, keep-out}
 use Rattle.predicates.proofs.PredicateLaws.{holds-in, holds-out}
 use Rattle.predicates.proofs.MarkLaws.{singles-holds}
 use Rattle.search.specs.code.Search.{Rows, rowWidth, gather, alone, isSingle, rowTerms, Parted, several}
@@ -28,19 +28,6 @@ use Rattle.search.specs.code.Search.{Rows, rowWidth, gather, alone, isSi
 
 is-single-one : (t : ℕ) → T (isSingle t) → ones t ≡ 1
 is-single-one t h = eqb→eq (ones t) 1 h
-
-pub is-single-zero : (t : ℕ) → t ≡ 0 → false ≡ isSingle t
-is-single-zero t z = rw (z, ones-empty) refl
-
--- of those that have a name, the ones that have at most one
-pub is-single-some : (t : ℕ) (r : Bool) → (t ≡ 0 → ⊥) → r ≡ leb (ones t) 1 → r ≡ isSingle t
-is-single-some t r f e =
-    e ∙ test-ext (leb (ones t) 1) (isSingle t)
-    (λ h. true-T _ (eq-eqb (ones t) 1 (just (ones t) (λ z. f (ones-none t z)) (leb→le (ones t) 1 h))))
-    (λ h. le→leb (ones t) 1 (omega (arith, is-single-one t h)))
-  where
-    just : (n : ℕ) → (n ≡ 0 → ⊥) → n ≤ 1 → n ≡ 1
-    just n g l = omega arith
 
 one-not-empty : (c : ℕ) → ones c ≡ 1 → c ≡ 0 → ⊥
 one-not-empty c e z = absurd (omega (arith, e, ap ones z, ones-empty))

@@ -18,7 +18,7 @@ use Rattle.numbers.specs.Numbers.{tab}
 use Rattle.numbers.proofs.NumberLaws.{above-zero, length-tab, getD-tab}
 use Rattle.names.specs.Sets.{subset, setUnion, minus}
 use Rattle.names.specs.code.Parts.{shared, leastName}
-use Rattle.names.proofs.SetLaws.{subset-le, subset-refl, subset-trans, subset-antisym, union-right, union-least, ones-empty, ones-none, ones-mono}
+use Rattle.names.proofs.SetLaws.{subset-le, subset-refl, subset-trans, subset-antisym, union-right, union-least, ones-none, ones-mono}
 use Rattle.names.proofs.PartLaws.{shared-greatest, minus-add, minus-apart, subset-same, least-name-in, least-name-one, added, adds-none, adds-some, ones-added}
 use Rattle.predicates.specs.Predicates.{holds}
 use Rattle.predicates.proofs.ListLaws.{both, both-l, both-r, true-T, T-true, T-false, split, cond-ind}
@@ -245,31 +245,32 @@ worth-few limit s free t best w =
 -- ---- the names that do alone
 
 -- one term that the set holds is enough
-pub terms-hold : (s : ℕ) (p : List ℕ) (t v m names x : ℕ) → In t p → v ≡ minus t s → m ≡ ones v → m ≡ 0 → names ≡ cond (holds s p) names x
-terms-hold s p t v m names x i a b z =
-    let yes : holds s p ≡ true = T-true (holds s p) (holds-in s p t i (adds-none s t (sym a ∙ ones-none v (sym b ∙ z)))) in
+pub terms-hold : (s : ℕ) (p : List ℕ) (t v names x : ℕ) → In t p → v ≡ minus t s → v ≡ 0 → names ≡ cond (holds s p) names x
+terms-hold s p t v names x m a z =
+    let yes : holds s p ≡ true = T-true (holds s p) (holds-in s p t m (adds-none s t (sym a ∙ z))) in
     rw yes
 
 -- from the last term to the first: i is the place before which the names are known, v what the term before it adds, m names
-module _ (d s : ℕ) (p : List ℕ) (i does v m : ℕ) (h : 0 < i) (l : i ≤ length p) (e : does ≡ gather d (ones s + 1) s (drop i p))
-    (f : holds s (drop i p) ≡ false) (a : v ≡ minus (getD p (i - 1) 0) s) (b : m ≡ ones v) (g : m ≡ 0 → ⊥) where
+module _ (d s : ℕ) (p : List ℕ) (i does v : ℕ) (h : 0 < i) (l : i ≤ length p) (e : does ≡ gather d (ones s + 1) s (drop i p))
+    (f : holds s (drop i p) ≡ false) (a : v ≡ minus (getD p (i - 1) 0) s) (g : v ≡ 0 → ⊥) where
   last : drop (i - 1) p ≡ getD p (i - 1) 0 ∷ drop i p
   last = let back : i - 1 + 1 ≡ i = omega arith in rw back at (drop-next p (i - 1) (omega arith))
 
   pub terms-false : holds s (drop (i - 1) p) ≡ false
   unfolding holds
   terms-false =
-      let no : subset (getD p (i - 1) 0) s ≡ false = T-false (subset (getD p (i - 1) 0) s) (not-T (subset (getD p (i - 1) 0) s) (adds-some s (getD p (i - 1) 0) (λ z. g (b ∙ ap ones (a ∙ z) ∙ ones-empty)))) in
+      let no : subset (getD p (i - 1) 0) s ≡ false = T-false (subset (getD p (i - 1) 0) s) (not-T (subset (getD p (i - 1) 0) s) (adds-some s (getD p (i - 1) 0) (λ z. g (a ∙ z)))) in
       rw (last, no) f
 
-  pub terms-with : m ≡ 1 → (w r : ℕ) → w ≡ setUnion s (getD p (i - 1) 0) → r ≡ setUnion w does → r ≡ gather d (ones s + 1) s (drop (i - 1) p)
+  pub terms-with : (m : ℕ) → m ≡ ones v → m ≡ 1 → (w r : ℕ) → w ≡ setUnion s (getD p (i - 1) 0) → r ≡ setUnion w does → r ≡ gather d (ones s + 1) s (drop (i - 1) p)
   unfolding gather
-  terms-with k w r q c =
+  terms-with m b k w r q c =
       rw (last, le-leb (ones (setUnion s (getD p (i - 1) 0))) (ones s + 1) (omega (arith, ones-added s (getD p (i - 1) 0), ap ones a)), sym q, sym e) c
 
-  pub terms-past : (m ≡ 1 → ⊥) → does ≡ gather d (ones s + 1) s (drop (i - 1) p)
+  pub terms-past : (m : ℕ) → m ≡ ones v → (m ≡ 1 → ⊥) → does ≡ gather d (ones s + 1) s (drop (i - 1) p)
   unfolding gather
-  terms-past k =
+  terms-past m b k =
+      let some : 0 < ones v = above-zero (λ z. g (ones-none v z)) in
       rw (last, lt-leb (ones (setUnion s (getD p (i - 1) 0))) (ones s + 1) (omega (arith, ones-added s (getD p (i - 1) 0), ap ones a))) e
 
 -- what is left of the names after a predicate

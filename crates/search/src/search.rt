@@ -132,11 +132,11 @@ fn narrow_terms(p: &[u32], set: u32, base: u32, names: u32) -> u32
     while 0 < i {
         i -= 1;
         let t = p[i];
-        let added = names::count(names::minus(t, set));
+        let added = names::minus(t, set);
         if added == 0 {
             return names;
         }
-        if added == 1 {
+        if names::count(added) == 1 {
             does = names::union(names::union(set, t), does);
         }
     }

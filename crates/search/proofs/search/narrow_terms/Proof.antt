@@ -29,36 +29,35 @@ loop-holds c =
 
 returns : tie.Need-returns Inv-loop μ-loop
 returns c =
-    let term = c .before .before in
-    let head = term .before .before .before in
+    let head = c .before .before .before .before in
     let p = head .before .before .args .p .now in
-    let in-front : head .loop .i - 1 < length p = omega (arith, head .loop .inv .0, term .before .before .loop-test .taken) in
-    terms-hold _ p _ _ _ _ _ (at-in p 0 (head .loop .i - 1) in-front) (term .minus .ensures) (c .before .count .ensures .0) (c .if1 .taken)
+    let in-front : head .loop .i - 1 < length p = omega (arith, head .loop .inv .0, c .before .before .before .loop-test .taken) in
+    terms-hold _ p _ _ _ _ (at-in p 0 (head .loop .i - 1) in-front)
+    (c .before .minus .ensures) (c .if1 .taken)
 
 loop-again : tie.Need-loop-again Inv-loop μ-loop
 loop-again c =
-    let at-count = c .before .before .before .before in
-    let term = at-count .before in
+    let term = c .before .before .before .before .before in
     let head = term .before .before .before in
     let inv = head .loop .inv in (
       omega arith,
-      terms-with _ _ _ (head .loop .i) _ _ _ (term .before .before .loop-test .taken) (inv .0) (inv .1) (inv .2) (term .minus .ensures) (at-count .count .ensures .0)
-          (c .before .before .before .if1 .left) (c .before .before .if2 .taken) _ _ (c .before .union .ensures) (c .union2 .ensures),
-      terms-false _ _ _ (head .loop .i) _ _ _ (term .before .before .loop-test .taken) (inv .0) (inv .1) (inv .2) (term .minus .ensures) (at-count .count .ensures .0)
-          (c .before .before .before .if1 .left),
+      terms-with _ _ _ (head .loop .i) _ _ (term .before .before .loop-test .taken) (inv .0) (inv .1) (inv .2) (term .minus .ensures)
+          (c .before .before .before .before .if1 .left) _ (c .before .before .before .count .ensures .0) (c .before .before .if2 .taken) _ _
+          (c .before .union .ensures) (c .union2 .ensures),
+      terms-false _ _ _ (head .loop .i) _ _ (term .before .before .loop-test .taken) (inv .0) (inv .1) (inv .2) (term .minus .ensures)
+          (c .before .before .before .before .if1 .left),
     )
 
 loop-again-2 : tie.Need-loop-again-2 Inv-loop μ-loop
 loop-again-2 c =
-    let at-count = c .before .before in
-    let term = at-count .before in
+    let term = c .before .before .before in
     let head = term .before .before .before in
     let inv = head .loop .inv in (
       omega arith,
-      terms-past _ _ _ (head .loop .i) _ _ _ (term .before .before .loop-test .taken) (inv .0) (inv .1) (inv .2) (term .minus .ensures) (at-count .count .ensures .0)
-          (c .before .if1 .left) (c .if2 .left),
-      terms-false _ _ _ (head .loop .i) _ _ _ (term .before .before .loop-test .taken) (inv .0) (inv .1) (inv .2) (term .minus .ensures) (at-count .count .ensures .0)
-          (c .before .if1 .left),
+      terms-past _ _ _ (head .loop .i) _ _ (term .before .before .loop-test .taken) (inv .0) (inv .1) (inv .2) (term .minus .ensures)
+          (c .before .before .if1 .left) _ (c .before .count .ensures .0) (c .if2 .left),
+      terms-false _ _ _ (head .loop .i) _ _ (term .before .before .loop-test .taken) (inv .0) (inv .1) (inv .2) (term .minus .ensures)
+          (c .before .before .if1 .left),
     )
 
 returns-2 : tie.Need-returns-2 Inv-loop μ-loop
@@ -78,8 +77,8 @@ narrow-terms-spec =
     (λ c. search needs)
     (λ c. search needs)
     (λ c κs. search needs)
-    (λ c κs. search needs)
     returns
+    (λ c κs. search needs)
     (λ c κs. search needs)
     (λ c κs. search needs)
     (λ c. search needs)
