@@ -76,8 +76,8 @@ extern "C" {
 #define MONITOR_GREATEST_END ((UINT64_C(1) << 58) - 1)
 
 /** The greatest clock reading and half width that monitor_receive_with_readings takes: 101 days of microseconds. Readings have one beginning as long
- *  as a state lives. After this one receive without readings, or set up afresh: counted from a later beginning on a state that goes on, every
- *  honest clock would seem to have jumped. */
+ *  as a state lives. After this one receive without readings, or set up afresh: counted from a later beginning on a state that goes on, they fall
+ *  below those that are saved, and every honest clock seems to have jumped. */
 #define MONITOR_GREATEST_CLOCK ((UINT64_C(1) << 43) - 1)
 
 /** The count that monitor_fewest writes when more than MONITOR_GREATEST_LIMIT monitors must have failed. */
@@ -130,7 +130,7 @@ enum monitor_refusal {
     MONITOR_LIMIT = 22,         /**< limit above MONITOR_GREATEST_LIMIT */
     MONITOR_POSITION = 23,      /**< no held datum there */
     MONITOR_BUFFER = 24,        /**< a lent buffer is too short */
-    MONITOR_STATE_FORM = 25,    /**< state out of form: the bytes cannot be a state; in form may be damaged, or never set up */
+    MONITOR_STATE_FORM = 25,    /**< state out of form: the bytes cannot be a state. One in form can be damaged too, or never set up */
     /* caused by a filling site */
     MONITOR_END = 30,           /**< an end would pass MONITOR_GREATEST_END, be it by a fraction */
     MONITOR_TERM_COUNT = 31,    /**< more than MONITOR_MOST_TERMS terms in the new predicate's normal form, stored or not */

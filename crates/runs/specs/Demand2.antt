@@ -31,8 +31,8 @@ unfoldable pub namesIn : List ℕ → List ℕ
 namesIn m = keep (λ w. eqb (kindOf w) 0) (wordsOf m)
 
 -- "ends form"
-abbrev pub inEndsForm : List ℕ → Type 0
-inEndsForm m = T (isEnds (opening (wordsOf m)) (wordsOf m))
+abbrev pub InEndsForm : List ℕ → Type 0
+InEndsForm m = T (isEnds (opening (wordsOf m)) (wordsOf m))
 
 -- reading it is taken in every output with room and gives this sender and this interval; it has these terms, not only as many, and these epoch words
 pub record Says (m : List ℕ) (sender left right : ℕ) (terms names : List ℕ) : Type 0 where
@@ -73,10 +73,10 @@ pub record SaysAs (m w : List ℕ) : Type 0 where
 -- of every message that reading accepts, with room in the output
 pub record Rewrites (m out : List ℕ) : Type 0 where
   pub taken : rewriteNumber m out ≡ 0
-  pub ends : inEndsForm (rewrittenIn m out)
+  pub ends : InEndsForm (rewrittenIn m out)
   pub reads : SaysAs m (rewrittenIn m out)
   -- "an accepted message in ends form is written again as the same words"
-  pub same : Bytes m → inEndsForm m → rewrittenIn m out ≡ m
+  pub same : Bytes m → InEndsForm m → rewrittenIn m out ≡ m
 
 unfoldable pub RewrittenReads : Type 0
 RewrittenReads =
