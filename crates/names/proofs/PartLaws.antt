@@ -3,7 +3,7 @@
 use mathlib.Core.Path.{_≡_, sym, ap, subst, _∙_}
 use mathlib.Core.Logic.{_⊎_, inl, inr}
 use mathlib.Core.Bool.{not}
-use Prim.Native.Nat.{ℕ, zero, suc, _+_, _-_, _*_, _/_, _%_, _^_, _≤_, _<_, min, max}
+use Prim.Native.Nat.{ℕ, zero, suc, _+_, _-_, _*_, _/_, _%_, _^_, _≤_, _<_, min}
 use native.Mathlib.Nat.{mod-eq-of-lt}
 use native.Mathlib.Omega.{arith}
 use native.Mathlib.Decide.{ℕ-discrete, decLe}
@@ -14,7 +14,7 @@ use lib.Count.{ones, ones-step}
 use Rattle.names.specs.Sets.{noSet, subset, setUnion, has, minus}
 use Rattle.names.specs.code.Parts.{digit}
 use Rattle.names.specs.code.Parts.{shared, others, leastName}
-use Rattle.names.proofs.SetLaws.{test-ext, digit-lt, digit-single-same, digit-single-other, digit-zero, digit-suc, digit-and, digit-union, digit-empty, subset-and, and-subset, subset-out, subset-in, digits-ext, subset-trans, subset-antisym, subset-empty, subset-le, union-left, union-right, union-least, ones-empty, ones-none, ones-mono, ones-union, halves, has-in, has-out}
+use Rattle.names.proofs.SetLaws.{test-ext, digit-lt, digit-single-same, digit-single-other, digit-zero, digit-suc, digit-and, digit-union, digit-empty, subset-and, and-subset, subset-out, subset-in, digits-ext, subset-trans, subset-empty, subset-le, union-left, union-right, union-least, ones-empty, ones-none, ones-mono, halves, has-in, has-out}
 
 -- ---- what both hold
 
@@ -210,35 +210,8 @@ ones-added =
     bin-ind (λ (s : ℕ). (t : ℕ) → ones (bitOr s t) ≡ ones s + ones (minus t s)) (λ t. omega (arith, ones-empty, ap ones (or-zero-l t), ap ones (minus-none t 0 (and-zero-r t))))
     (λ s ih t.
     let half : bitOr s t / 2 ≡ bitOr (s / 2) (t / 2) = omega (arith, or-step s t) in
-    let low : bitOr s t % 2 ≡ max (s % 2) (t % 2) = omega (arith, or-step s t) in
     let more = minus-step t s in
-    omega (arith, ones-step s, ones-step (bitOr s t), ones-step (minus t s), ap ones half, ap ones (more .0), ih (t / 2)))
-
--- one name exactly where the least of what it adds is all of it
-pub adds-one : (s t : ℕ) → 0 < minus t s → minus t s ≡ leastName (minus t s) → ones (setUnion s t) ≤ ones s + 1
-adds-one s t h e = omega (arith, ones-union s (minus t s), ap ones (added s t), ap ones e, least-name-one (minus t s) h)
-
-pub one-added : (s t : ℕ) → 0 < minus t s → ones (setUnion s t) ≤ ones s + 1 → minus t s ≡ leastName (minus t s)
-one-added s t h few =
-    subset-antisym (minus t s) c (subset-in (minus t s) c (λ n.
-    omega (arith, digit-minus t s n, digit-union s c n, digit-union s t n, ap (λ (x : ℕ). digit x n) same, digit-lt s n, digit-lt t n, digit-lt c n)))
-    (least-name-in (minus t s))
-  where
-    c : ℕ
-    c = leastName (minus t s)
-
-    part : T (subset (setUnion s c) (setUnion s t))
-    part =
-        union-least s c (setUnion s t) (union-left s t)
-        (subset-trans c t (setUnion s t) (subset-trans c (minus t s) t (least-name-in (minus t s)) (minus-subset t s)) (union-right s t))
-
-    more : ones s < ones (setUnion s c)
-    more =
-        ones-more s (setUnion s c) (union-left s c) (λ q.
-        minus-apart t s c (least-name-in (minus t s)) (subst (λ (x : ℕ). T (subset c x)) (sym q) (union-right s c)) (least-name-one (minus t s) h))
-
-    same : setUnion s c ≡ setUnion s t
-    same = subset-same (setUnion s c) (setUnion s t) part (omega (arith, more))
+    omega (arith, or-step s t, ones-step s, ones-step (bitOr s t), ones-step (minus t s), ap ones half, ap ones (more .0), ih (t / 2)))
 
 -- what lies in a set and one name more, and lacks that name, lies in the set
 pub without-one : (s c x : ℕ) → ones c ≡ 1 → T (subset x (setUnion s c)) → (T (subset c x) → ⊥) → T (subset x s)
