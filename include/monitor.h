@@ -76,8 +76,8 @@ extern "C" {
 #define MONITOR_GREATEST_END ((UINT64_C(1) << 58) - 1)
 
 /** The greatest clock reading and half width that monitor_receive_with_readings takes: 101 days of microseconds. Readings have one beginning as long
- *  as a state lives. After this one receive without readings, or set up afresh: counted from a later beginning on a state that goes on, they fall
- *  below those that are saved, and every honest clock seems to have jumped. */
+ *  as a state lives. After this one receive without readings, or set up afresh: counted from a later beginning on a state that goes on, they can
+ *  fall below those that are saved, and then every honest clock seems to have jumped. */
 #define MONITOR_GREATEST_CLOCK ((UINT64_C(1) << 43) - 1)
 
 /** The count that monitor_fewest writes when more than MONITOR_GREATEST_LIMIT monitors must have failed. */
@@ -196,7 +196,7 @@ uint32_t monitor_receive(uint8_t *state, size_t state_len, uint64_t least, uint6
  *  one does. The new readings are saved, violating ones too;
  *  the first of a sender are saved without a test, and so are the first under a risen epoch. All this is done for a message whose predicate is true
  *  too, but not for one whose sender's epoch is below the known one: its readings are neither tested nor saved. A sender whose clock starts again at
- *  0 is blamed, unless it comes back under a new epoch.
+ *  0 is blamed, unless the half widths cover that jump or it comes back under a new epoch.
  *  @param state           the monitor's bytes; those beyond MONITOR_STATE_BYTES stay as they are
  *  @param state_len       how many bytes are lent
  *  @param least           the channel's least delay, by the own clock

@@ -42,7 +42,8 @@ struct Progress {
 // Reads once, and answers what came: the piece stands at the front of `input` then, and what it prints at the front of `out`.
 fn turn(from: Progress, input: &mut [u8], out: &mut [u8]) -> Progress
     requires { ⌜ Standing (from .session) × (length (now input) ≡ pieceMost) × (answerMost * pieceMost ≤ length (now out)) ⌝ }
-    requires { ⌜ (from .tally .read < readMost) × (from .tally .handed ≤ answerMost * from .tally .read) × (from .tally .written ≡ from .tally .handed) ⌝ }
+    requires { ⌜ (from .tally .read < readMost) × (from .tally .handed ≤ answerMost * from .tally .read)
+        × (from .tally .written ≡ from .tally .handed) ⌝ }
     ensures { λ r. ⌜ Standing (r .session) ⌝ }
     ensures { λ r. ⌜ (let piece : List ℕ = take (movedBy (r .tally .input .got)) (now (input .exit)) in
         Turned piece (keptBy (from .session)) (keptBy (r .session)) (from .tally) (r .tally)

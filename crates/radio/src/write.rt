@@ -25,8 +25,8 @@ pub fn rewrite(words: &[u32], out: &mut [u32]) -> Reading
     got
 }
 
-// Puts the names of the identifiers in the mask, under the epochs in the bytes from index `at` on, at the front of `names`, rising; the rest of `names`
-// stays. Answers how many.
+// Puts the names of the identifiers in the mask, under the epochs in the bytes from index `at` on, at the front of `names`, rising; the rest stays.
+// Answers how many.
 pub fn known_names(s: &[u8], at: usize, mask: u32, names: &mut [u32]) -> usize
     requires { ⌜ (at + epochsMost ≤ length (now s)) × (epochsMost ≤ length (now names)) ⌝ }
     ensures { λ r. ⌜ (r ≡ length (namesOf (epochsIn at (now (s .entry))) mask)) × (r ≤ epochsMost) ⌝ }

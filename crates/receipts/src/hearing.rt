@@ -21,7 +21,8 @@ fn forget(state: &mut [u8], risen: u32)
     requires { ⌜ (stateSize ≤ length (now state)) × T (inForm (now state)) ⌝ }
     ensures { λ _. ⌜ (let h : Head = headOf (now (state .entry)) in
         now (state .exit)
-        ≡ put 0 (stateBytes (record { head = withClocks h (cleared risen (h .clocks)); store = storeOf (now (state .entry)) })) (now (state .entry))) ⌝ }
+        ≡ put 0 (stateBytes (record { head = withClocks h (cleared risen (h .clocks)); store = storeOf (now (state .entry)) }))
+        (now (state .entry))) ⌝ }
 {
     let mut i: usize = 0;
     while i < state::CLOCKS_MOST {

@@ -285,8 +285,8 @@ fn first_in_stretch(
     Reached { end, set }
 }
 
-// The first of the left ends of rows n to `rows` that some set within the limit explains, with such a set. Which of these sets it is, and what is left
-// in `listed`, is free.
+// The first of the left ends of rows n to `rows` that some set within the limit explains, with such a set. Which of these sets it is, and what is
+// left in `listed`, is free.
 pub fn first_end(
     lefts: &[u64],
     rights: &[u64],
