@@ -1,5 +1,5 @@
 -- The answer is the one that the instants which count give, and instants give one answer. The two steps: what one set leaves is the common part of
--- the active intervals (`leaves-given`), and the listed sets are the allowed ones (`allowed-in`, `allowed-out`). Assumes nothing.
+-- the active intervals (`leaves-given`), and the listed sets are the allowed ones (`allowed_in`, `allowed_out`). Assumes nothing.
 use mathlib.Core.Path.{◌≡◌, refl, sym, ap, ap₂, subst, ◌∙◌}
 use mathlib.Core.Logic.{◌⊎◌, inl, inr, ⊎_elim}
 use mathlib.Core.Bool.{not, cond}
@@ -11,17 +11,17 @@ use lib.Dec.{T, T_not, not_T, leb, leb→le, nleb→lt, eqb, eqb→eq, eqb_refl}
 use lib.Pow.{pow_pos}
 use lib.Count.{ones}
 use lib.IntN.{ℤ, pos, negsuc}
-use Rattle.names.specs.Sets.{setUnion, has}
-use Rattle.names.proofs.SetLaws.{digit-single-same, union_left, union_right, union-above, ones-empty, ones_none, ones_above, has_in, has-mono, has-not-union, has-empty, has-single}
+use Rattle.names.specs.Sets.{set_union, has}
+use Rattle.names.proofs.SetLaws.{digit-single-same, union_left, union_right, union-above, ones-empty, ones_none, ones_above, has_in, has_mono, has_not_union, has-empty, has-single}
 use Rattle.predicates.specs.Lists.{all, In}
 use Rattle.predicates.specs.Predicates.{holds}
-use Rattle.predicates.proofs.ListLaws.{cond_ind, in-l, in-r, in-cases, map-in, map-out}
+use Rattle.predicates.proofs.ListLaws.{cond_ind, in_l, in_r, in_cases, map_in, map_out}
 use Rattle.state.specs.Model.{Datum, Store, State}
 use Rattle.asking.specs.declared.Answer.{Answer}
 use Rattle.asking.specs.declared.Answer.TheVariants.{Contradicted, Open, Between}
 use Rattle.asking.specs.Instants.{Within, InAll, Fine, Allowed, Counts, Gives}
-use Rattle.asking.specs.Asking.{interval, cut, common, active, leaves, setsOf, setsWithin, either, leftBy, exact, rounded, answer}
-use Rattle.asking.proofs.InstantLaws.{within_none, within_wider, within-meet, inall-between}
+use Rattle.asking.specs.Asking.{interval, cut, common, active, leaves, sets_of, sets_within, either, left_by, exact, rounded, answer}
+use Rattle.asking.proofs.InstantLaws.{within_none, within_wider, within-meet, inall_between}
 
 -- ---- instants give one answer
 
@@ -78,7 +78,7 @@ common-given s (d ∷ ds) =
     let rest = common-given s ds in
     cond_ind (λ (es : List Datum). Gives (InAll s (d ∷ ds)) (common es)) (not (holds s d.terms)) (d ∷ active s ds) (active s ds)
     (λ t. gives_same (λ x. Within d.left d.right x × InAll s ds x) (InAll s (d ∷ ds)) (cut d (common (active s ds)))
-    (λ x h. (λ _. h.0, h.1)) (λ x h. (h.0 t, h.1)) (cut-given (InAll s ds) (inall-between s ds) d (common (active s ds)) rest))
+    (λ x h. (λ _. h.0, h.1)) (λ x h. (h.0 t, h.1)) (cut-given (InAll s ds) (inall_between s ds) d (common (active s ds)) rest))
     (λ t. gives_same (InAll s ds) (InAll s (d ∷ ds)) (common (active s ds))
     (λ x h. (λ a. absurd (T_not (not (holds s d.terms)) t a), h)) (λ x h. h.1) rest)
 
@@ -121,13 +121,13 @@ module _ (P Q : ℤ → Type 0) where
         (λ q. within_wider m s (min l m) (max r s) x (omega arith) (omega arith) (k.2 x q)),
   )
 
-leftBy-given : (ss : List ℕ) (k : Store) → Gives (λ x. (s : ℕ) × In s ss × Fine s k x) (leftBy ss k)
-unfolding leftBy
-leftBy-given [] k = λ x h. h.1
-leftBy-given (s ∷ ss) k =
-    gives_same (λ x. Fine s k x ⊎ ((u : ℕ) × In u ss × Fine u k x)) (λ x. (u : ℕ) × In u (s ∷ ss) × Fine u k x) (either (leaves s k) (leftBy ss k))
+left_by-given : (ss : List ℕ) (k : Store) → Gives (λ x. (s : ℕ) × In s ss × Fine s k x) (left_by ss k)
+unfolding left_by
+left_by-given [] k = λ x h. h.1
+left_by-given (s ∷ ss) k =
+    gives_same (λ x. Fine s k x ⊎ ((u : ℕ) × In u ss × Fine u k x)) (λ x. (u : ℕ) × In u (s ∷ ss) × Fine u k x) (either (leaves s k) (left_by ss k))
     (λ x. ⊎_elim (λ h. (s, inl refl, h)) (λ h. (h.0, inr h.1, h.2))) (λ x h. back x h.0 h.1 h.2)
-    (either-given (λ x. Fine s k x) (λ x. (u : ℕ) × In u ss × Fine u k x) (leaves s k) (leftBy ss k) (leaves-given s k) (leftBy-given ss k))
+    (either-given (λ x. Fine s k x) (λ x. (u : ℕ) × In u ss × Fine u k x) (leaves s k) (left_by ss k) (leaves-given s k) (left_by-given ss k))
   where
     back : (x : ℤ) (u : ℕ) → In u (s ∷ ss) → Fine u k x → Fine s k x ⊎ ((u : ℕ) × In u ss × Fine u k x)
     back x u (inl e) h = inl (subst (λ (v : ℕ). Fine v k x) e h)
@@ -142,51 +142,51 @@ module _ (own : ℕ) where
 
   -- the listed sets with the name n
   abbrev higher : ℕ → ℕ → List ℕ
-  higher n limit = map (λ u. setUnion (2 ^ n) u) (setsOf own n limit)
+  higher n limit = map (λ u. set_union (2 ^ n) u) (sets_of own n limit)
 
   empty-small : (n limit s : ℕ) → s ≡ 0 → Small n limit s
   empty-small n limit s e = (omega (arith, pow_pos n), omega (arith, ap ones e, ones-empty), rw e (has-empty own))
 
-  setsOf-in : (n limit s : ℕ) → Small n limit s → In s (setsOf own n limit)
-  unfolding setsOf
-  setsOf-in zero limit s h = inl (omega arith)
-  setsOf-in (suc n) zero s h = inl (ones_none s (omega arith))
-  setsOf-in (suc n) (suc limit) s h = go (dec_lt s (2 ^ n)) (setsOf-in n (suc limit) s) (setsOf-in n limit (s - 2 ^ n))
+  sets_of_in : (n limit s : ℕ) → Small n limit s → In s (sets_of own n limit)
+  unfolding sets_of
+  sets_of_in zero limit s h = inl (omega arith)
+  sets_of_in (suc n) zero s h = inl (ones_none s (omega arith))
+  sets_of_in (suc n) (suc limit) s h = go (dec_lt s (2 ^ n)) (sets_of_in n (suc limit) s) (sets_of_in n limit (s - 2 ^ n))
     where
       -- without n, s has one name less
-      go : Dec (s < 2 ^ n) → (Small n (suc limit) s → In s (setsOf own n (suc limit)))
-          → (Small n limit (s - 2 ^ n) → In (s - 2 ^ n) (setsOf own n limit))
-          → In s (setsOf own n (suc limit) ++ cond (eqb n own) [] (higher n limit))
-      go (yes l) low high = in-l s (setsOf own n (suc limit)) (cond (eqb n own) [] (higher n limit)) (low (l, h.1, h.2))
+      go : Dec (s < 2 ^ n) → (Small n (suc limit) s → In s (sets_of own n (suc limit)))
+          → (Small n limit (s - 2 ^ n) → In (s - 2 ^ n) (sets_of own n limit))
+          → In s (sets_of own n (suc limit) ++ cond (eqb n own) [] (higher n limit))
+      go (yes l) low high = in_l s (sets_of own n (suc limit)) (cond (eqb n own) [] (higher n limit)) (low (l, h.1, h.2))
       go (no l) low high =
           let t = s - 2 ^ n in
           let less : t < 2 ^ n = omega arith in
           let sum : s ≡ 2 ^ n + t = omega arith in
-          let whole : s ≡ setUnion (2 ^ n) t = sum ∙ sym (union-above n t less) in
-          let named : T (has n s) = rw whole (has-mono n (2 ^ n) (setUnion (2 ^ n) t) (union_left (2 ^ n) t) (has_in n (2 ^ n) (digit-single-same n))) in
+          let whole : s ≡ set_union (2 ^ n) t = sum ∙ sym (union-above n t less) in
+          let named : T (has n s) = rw whole (has_mono n (2 ^ n) (set_union (2 ^ n) t) (union_left (2 ^ n) t) (has_in n (2 ^ n) (digit-single-same n))) in
           let other : T (not (has own t)) =
-          not_T (has own t) (λ i. T_not (has own s) h.2 (rw whole (has-mono own t (setUnion (2 ^ n) t) (union_right (2 ^ n) t) i)))
+          not_T (has own t) (λ i. T_not (has own s) h.2 (rw whole (has_mono own t (set_union (2 ^ n) t) (union_right (2 ^ n) t) i)))
           in
           let rest = high (less, omega (arith, ap ones sum, ones_above n t less), other) in
-          in-r s (setsOf own n (suc limit)) (cond (eqb n own) [] (higher n limit))
+          in_r s (sets_of own n (suc limit)) (cond (eqb n own) [] (higher n limit))
           (cond_ind (λ (us : List ℕ). In s us) (eqb n own) [] (higher n limit)
           (λ e. absurd (T_not (has own s) h.2 (subst (λ (m : ℕ). T (has m s)) (eqb→eq n own e) named)))
-          (λ _. subst (λ (u : ℕ). In u (higher n limit)) (sym whole) (map-in (λ u. setUnion (2 ^ n) u) (setsOf own n limit) t rest)))
+          (λ _. subst (λ (u : ℕ). In u (higher n limit)) (sym whole) (map_in (λ u. set_union (2 ^ n) u) (sets_of own n limit) t rest)))
 
-  setsOf-out : (n limit s : ℕ) → In s (setsOf own n limit) → Small n limit s
-  unfolding setsOf
-  setsOf-out zero limit s (inl e) = empty-small 0 limit s e
-  setsOf-out zero limit s (inr m) = absurd m
-  setsOf-out (suc n) zero s (inl e) = empty-small (suc n) 0 s e
-  setsOf-out (suc n) zero s (inr m) = absurd m
-  setsOf-out (suc n) (suc limit) s m =
-      ⊎_elim (λ i. let r = setsOf-out n (suc limit) s i in (omega arith, r.1, r.2))
+  sets_of_out : (n limit s : ℕ) → In s (sets_of own n limit) → Small n limit s
+  unfolding sets_of
+  sets_of_out zero limit s (inl e) = empty-small 0 limit s e
+  sets_of_out zero limit s (inr m) = absurd m
+  sets_of_out (suc n) zero s (inl e) = empty-small (suc n) 0 s e
+  sets_of_out (suc n) zero s (inr m) = absurd m
+  sets_of_out (suc n) (suc limit) s m =
+      ⊎_elim (λ i. let r = sets_of_out n (suc limit) s i in (omega arith, r.1, r.2))
       (cond_ind (λ (us : List ℕ). In s us → Small (suc n) (suc limit) s) (eqb n own) [] (higher n limit) (λ _ i. absurd i)
-      (λ e i. top e (setsOf-out n limit) (map-out (λ u. setUnion (2 ^ n) u) (setsOf own n limit) s i)))
-      (in-cases s (setsOf own n (suc limit)) (cond (eqb n own) [] (higher n limit)) m)
+      (λ e i. top e (sets_of_out n limit) (map_out (λ u. set_union (2 ^ n) u) (sets_of own n limit) s i)))
+      (in_cases s (sets_of own n (suc limit)) (cond (eqb n own) [] (higher n limit)) m)
     where
-      top : T (not (eqb n own)) → ((t : ℕ) → In t (setsOf own n limit) → Small n limit t)
-          → (t : ℕ) × In t (setsOf own n limit) × (s ≡ setUnion (2 ^ n) t) → Small (suc n) (suc limit) s
+      top : T (not (eqb n own)) → ((t : ℕ) → In t (sets_of own n limit) → Small n limit t)
+          → (t : ℕ) × In t (sets_of own n limit) × (s ≡ set_union (2 ^ n) t) → Small (suc n) (suc limit) s
       top e rest r =
           let t = r.0 in
           let low = rest t r.1 in
@@ -196,30 +196,30 @@ module _ (own : ℕ) where
           in (
             omega (arith, low.0),
             omega (arith, ap ones sum, ones_above n t low.0, low.1),
-            rw r.2 (has-not-union own (2 ^ n) t other low.2),
+            rw r.2 (has_not_union own (2 ^ n) t other low.2),
           )
 
-pub allowed-in : (limit own s : ℕ) → Allowed limit own s → In s (setsWithin own limit)
-unfolding setsWithin
-allowed-in limit own s a = setsOf-in own 29 limit s (a.names, a.few, a.others)
+pub allowed_in : (limit own s : ℕ) → Allowed limit own s → In s (sets_within own limit)
+unfolding sets_within
+allowed_in limit own s a = sets_of_in own 29 limit s (a.names, a.few, a.others)
 
-pub allowed-out : (limit own s : ℕ) → In s (setsWithin own limit) → Allowed limit own s
-unfolding setsWithin
-allowed-out limit own s m = let r = setsOf-out own 29 limit s m in record { names = r.0; few = r.1; others = r.2 }
+pub allowed_out : (limit own s : ℕ) → In s (sets_within own limit) → Allowed limit own s
+unfolding sets_within
+allowed_out limit own s m = let r = sets_of_out own 29 limit s m in record { names = r.0; few = r.1; others = r.2 }
 
 -- ---- the answer
 
 pub answer-given : (limit : ℕ) (st : State) → Gives (Counts limit st) (exact limit st)
 unfolding exact
 answer-given limit st =
-    gives_same (λ x. (s : ℕ) × In s (setsWithin st.head.own limit) × Fine s st.store x) (Counts limit st)
-    (leftBy (setsWithin st.head.own limit) st.store)
-    (λ x h. (h.0, allowed-out limit st.head.own h.0 h.1, h.2))
-    (λ x h. (h.0, allowed-in limit st.head.own h.0 h.1, h.2))
-    (leftBy-given (setsWithin st.head.own limit) st.store)
+    gives_same (λ x. (s : ℕ) × In s (sets_within st.head.own limit) × Fine s st.store x) (Counts limit st)
+    (left_by (sets_within st.head.own limit) st.store)
+    (λ x h. (h.0, allowed_out limit st.head.own h.0 h.1, h.2))
+    (λ x h. (h.0, allowed_in limit st.head.own h.0 h.1, h.2))
+    (left_by-given (sets_within st.head.own limit) st.store)
 
-pub answer-is : (limit : ℕ) (st : State) (a : Answer) → Gives (Counts limit st) a → a ≡ exact limit st
-answer-is limit st a h = gives_one (Counts limit st) a (exact limit st) h (answer-given limit st)
+pub answer_is : (limit : ℕ) (st : State) (a : Answer) → Gives (Counts limit st) a → a ≡ exact limit st
+answer_is limit st a h = gives_one (Counts limit st) a (exact limit st) h (answer-given limit st)
 
 pub answer-rounded : (limit : ℕ) (st : State) (a : Answer) → a ≡ exact limit st → rounded a ≡ answer limit st
 unfolding answer

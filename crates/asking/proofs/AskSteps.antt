@@ -13,72 +13,72 @@ use lib.Dec.{T}
 use lib.ListN.{length, get_or, drop, drop_of_length-le}
 use lib.Seq.{drop-cons}
 use Rattle.numbers.specs.Numbers.{num, tab}
-use Rattle.numbers.proofs.NumberLaws.{above_zero, length-tab, getD-tab}
-use Rattle.names.specs.Sets.{noSet}
+use Rattle.numbers.proofs.NumberLaws.{above_zero, length-tab, get_or-tab}
+use Rattle.names.specs.Sets.{no_set}
 use Rattle.names.specs.code.Parts.{others}
-use Rattle.names.proofs.SetLaws.{subset-refl}
-use Rattle.names.proofs.PartLaws.{others-lt}
+use Rattle.names.proofs.SetLaws.{subset_refl}
+use Rattle.names.proofs.PartLaws.{others_lt}
 use Rattle.predicates.specs.Lists.{In}
-use Rattle.state.specs.Model.{Datum, Store, State, endLimit, lastWhole}
-use Rattle.state.specs.Layout.{heldCount, entryCount, datumAt, head_of, store_of, state_of, own_at}
-use Rattle.state.specs.Form.{inForm}
-use Rattle.state.proofs.StateLaws.{length-held, length-entries, form-ok}
-use Rattle.state.proofs.StoreLaws.{column-front, length-column}
+use Rattle.state.specs.Model.{Datum, Store, State, end_limit, last_whole}
+use Rattle.state.specs.Layout.{held_count, entry_count, datum_at, head_of, store_of, state_of, own_at}
+use Rattle.state.specs.Form.{in_form}
+use Rattle.state.proofs.StateLaws.{length-held, length-entries, form_ok}
+use Rattle.state.proofs.StoreLaws.{column_front, length_column}
 use Rattle.asking.specs.declared.Answer.TheVariants.{Contradicted, Open, Between}
 use Rattle.asking.specs.Asking.{interval, exact, answer}
-use Rattle.asking.specs.code.Plain.{greatestLeft, leastRight}
+use Rattle.asking.specs.code.Plain.{greatest_left, least_right}
 use Rattle.asking.specs.code.Claims.{inside, needed_at, everything, Explained}
 use Rattle.search.specs.code.Search.{Rows, Fits, Best, preds}
-use Rattle.claims.specs.code.Tables.{entryClaim, claimAt, Loaded, Bounded, claimLeft, claimRight}
+use Rattle.claims.specs.code.Tables.{entry_claim, claim_at, Loaded, Bounded, claim_left, claim_right}
 use Rattle.search.specs.code.LeftEnds.{outside, Ready, needs, FirstEnd, Complete}
 use Rattle.claims.specs.declared.keys.Scale.{Scale}
-use Rattle.claims.specs.code.Keys.{scale_of, step_of, downBy, upBy, key_of, lastKey, keyed, keyedState}
-use Rattle.claims.proofs.KeyLaws.{mapped-loaded, bounded-in, keys-low}
-use Rattle.claims.proofs.ReadyLaws.{ready-in, rows-most}
+use Rattle.claims.specs.code.Keys.{scale_of, step_of, down_by, up_by, key_of, last_key, keyed, keyed_state}
+use Rattle.claims.proofs.KeyLaws.{mapped_loaded, bounded_in, keys_low}
+use Rattle.claims.proofs.ReadyLaws.{ready_in, rows_most_lem}
 use Rattle.ends.specs.Ends.{count_of, Split, up}
 use Rattle.ends.specs.declared.End.{End}
 use Rattle.ends.proofs.EndLaws.{count-whole}
-use Rattle.asking.proofs.PlainLaws.{plain-contradicted, plain-open, plain-interval, form-bare, form-right}
+use Rattle.asking.proofs.PlainLaws.{plain-contradicted, plain_open, plain-interval, form-bare, form-right}
 use Rattle.asking.proofs.AnswerLaws.{answer-rounded}
 use Rattle.asking.proofs.MappedLaws.{answer-keyed, keyed-low, keyed-everything}
-use Rattle.asking.proofs.EndLaws.{answer-open, answer-none, answer-between, right-too}
-use Rattle.predicates.proofs.IndexLaws.{in-at}
-use Rattle.claims.proofs.TableLaws.{claim-datum}
-use Rattle.asking.proofs.ArrayLaws.{fits-allowed, allowed-fits, order-everything, everything-order, needs-needed, needed-needs, left-outside, right-outside}
+use Rattle.asking.proofs.EndLaws.{answer_open, answer-none, answer-between, right_too}
+use Rattle.predicates.proofs.IndexLaws.{in_at}
+use Rattle.claims.proofs.TableLaws.{claim_datum}
+use Rattle.asking.proofs.ArrayLaws.{fits_allowed, allowed_fits, order-everything, everything-order, needs_needed, needed_needs, left-outside, right-outside}
 
 -- ---- the held data, one after the other
 
-module _ (s : List ℕ) (i : ℕ) (h : i < heldCount s) where
+module _ (s : List ℕ) (i : ℕ) (h : i < held_count s) where
   abbrev held : List Datum
   held = (store_of s).held
 
-  pub held_next : drop i held ≡ datumAt s i ∷ drop (i + 1) held
+  pub held_next : drop i held ≡ datum_at s i ∷ drop (i + 1) held
   unfolding store_of
   held_next =
       rw add-one
-      (drop-cons (tab (heldCount s) (datumAt s)) i (datumAt s i) (rw length-tab h)
-      ∙ ap (λ (d : Datum). d ∷ drop (suc i) (tab (heldCount s) (datumAt s))) (getD-tab (heldCount s) i (datumAt s) (datumAt s i) h))
+      (drop-cons (tab (held_count s) (datum_at s)) i (datum_at s i) (rw length-tab h)
+      ∙ ap (λ (d : Datum). d ∷ drop (suc i) (tab (held_count s) (datum_at s))) (get_or-tab (held_count s) i (datum_at s) (datum_at s i) h))
 
-  pub greatest-left-turn : (m l r : ℕ) → l ≡ (datumAt s i).left → r ≡ max m l → greatestLeft r (drop (i + 1) held) ≡ greatestLeft m (drop i held)
-  unfolding greatestLeft
-  greatest-left-turn m l r e f = sym (ap (greatestLeft m) held_next ∙ ap (λ (x : ℕ). greatestLeft x (drop (i + 1) held)) (sym (f ∙ ap (max m) e)))
+  pub greatest_left-turn : (m l r : ℕ) → l ≡ (datum_at s i).left → r ≡ max m l → greatest_left r (drop (i + 1) held) ≡ greatest_left m (drop i held)
+  unfolding greatest_left
+  greatest_left-turn m l r e f = sym (ap (greatest_left m) held_next ∙ ap (λ (x : ℕ). greatest_left x (drop (i + 1) held)) (sym (f ∙ ap (max m) e)))
 
-  pub least-right-turn : (m l r : ℕ) → l ≡ (datumAt s i).right → r ≡ min m l → leastRight r (drop (i + 1) held) ≡ leastRight m (drop i held)
-  unfolding leastRight
-  least-right-turn m l r e f = sym (ap (leastRight m) held_next ∙ ap (λ (x : ℕ). leastRight x (drop (i + 1) held)) (sym (f ∙ ap (min m) e)))
+  pub least_right-turn : (m l r : ℕ) → l ≡ (datum_at s i).right → r ≡ min m l → least_right r (drop (i + 1) held) ≡ least_right m (drop i held)
+  unfolding least_right
+  least_right-turn m l r e f = sym (ap (least_right m) held_next ∙ ap (λ (x : ℕ). least_right x (drop (i + 1) held)) (sym (f ∙ ap (min m) e)))
 
-module _ (s : List ℕ) (i m : ℕ) (h : heldCount s ≤ i) where
+module _ (s : List ℕ) (i m : ℕ) (h : held_count s ≤ i) where
   pub none_left : drop i (store_of s).held ≡ []
   unfolding store_of
-  none_left = drop_of_length-le (tab (heldCount s) (datumAt s)) {i = i} (rw length-tab h)
+  none_left = drop_of_length-le (tab (held_count s) (datum_at s)) {i = i} (rw length-tab h)
 
-  pub greatest-left-done : greatestLeft m (drop i (store_of s).held) ≡ m
-  unfolding greatestLeft
-  greatest-left-done = ap (greatestLeft m) none_left
+  pub greatest_left-done : greatest_left m (drop i (store_of s).held) ≡ m
+  unfolding greatest_left
+  greatest_left-done = ap (greatest_left m) none_left
 
-  pub least-right-done : leastRight m (drop i (store_of s).held) ≡ m
-  unfolding leastRight
-  least-right-done = ap (leastRight m) none_left
+  pub least_right-done : least_right m (drop i (store_of s).held) ≡ m
+  unfolding least_right
+  least_right-done = ap (least_right m) none_left
 
 -- ---- the search over all claims, and over the ends
 
@@ -90,62 +90,62 @@ module _ (limit : ℕ) (st : State) (n rows : ℕ) (table : Rows) (order : List 
   abbrev free : ℕ
   free = others st.head.own
 
-  module _ (r : ℕ) (b : Best noSet limit 0 free (preds rows order table) noSet r) where
-    pub open-found : r < noSet → Open ≡ exact limit st
-    open-found h = sym (answer-open limit st (go b.from))
+  module _ (r : ℕ) (b : Best no_set limit 0 free (preds rows order table) no_set r) where
+    pub open_found : r < no_set → Open ≡ exact limit st
+    open_found h = sym (answer_open limit st (go b.from))
       where
-        go : (r ≡ noSet) ⊎ Fits limit 0 free (preds rows order table) r → Explained limit st (everything k)
+        go : (r ≡ no_set) ⊎ Fits limit 0 free (preds rows order table) r → Explained limit st (everything k)
         go (inl e) = absurd (omega arith)
-        go (inr f) = (r, fits-allowed limit st.head.own r (preds rows order table) f, order-everything k n rows table order loaded complete r f.holding)
+        go (inr f) = (r, fits_allowed limit st.head.own r (preds rows order table) f, order-everything k n rows table order loaded complete r f.holding)
 
-    pub open_none : noSet ≤ r → Explained limit st (everything k) → ⊥
+    pub open_none : no_set ≤ r → Explained limit st (everything k) → ⊥
     open_none h w =
-        let fits = allowed-fits limit st.head.own w.0 (preds rows order table) w.1 (everything-order k n rows table order loaded complete w.0 w.2) in
+        let fits = allowed_fits limit st.head.own w.0 (preds rows order table) w.1 (everything-order k n rows table order loaded complete w.0 w.2) in
         ⊎_elim (λ e. absurd (omega (arith, w.1.names))) (λ e. absurd (omega arith)) (b.least w.0 fits)
 
   -- arrays of ends in which x stands for the instant y
-  module _ (lefts rights : List ℕ) (x y : ℕ) (same : (i : ℕ) → i < rows → outside lefts rights x i ≡ not (inside y (claimAt k i))) where
-    explained-in : (u : ℕ) → Fits limit 0 free (needs rows lefts rights table order x) u → Explained limit st (needed_at y k)
-    explained-in u f = (
+  module _ (lefts rights : List ℕ) (x y : ℕ) (same : (i : ℕ) → i < rows → outside lefts rights x i ≡ not (inside y (claim_at k i))) where
+    explained_in : (u : ℕ) → Fits limit 0 free (needs rows lefts rights table order x) u → Explained limit st (needed_at y k)
+    explained_in u f = (
       u,
-      fits-allowed limit st.head.own u (needs rows lefts rights table order x) f,
-      needs-needed k n rows table order loaded complete u lefts rights x y same f.holding,
+      fits_allowed limit st.head.own u (needs rows lefts rights table order x) f,
+      needs_needed k n rows table order loaded complete u lefts rights x y same f.holding,
     )
 
-    explained-out : (w : Explained limit st (needed_at y k)) → Fits limit 0 free (needs rows lefts rights table order x) w.0
-    explained-out w =
-        allowed-fits limit st.head.own w.0 (needs rows lefts rights table order x) w.1
-        (needed-needs k n rows table order loaded complete w.0 lefts rights x y same w.2)
+    explained_out : (w : Explained limit st (needed_at y k)) → Fits limit 0 free (needs rows lefts rights table order x) w.0
+    explained_out w =
+        allowed_fits limit st.head.own w.0 (needs rows lefts rights table order x) w.1
+        (needed_needs k n rows table order loaded complete w.0 lefts rights x y same w.2)
 
   -- the row of a held datum
-  row_of : (d : Datum) → In d k.held → (i : ℕ) × (n ≤ i) × (i < rows) × (claimAt k i ≡ d)
+  row_of : (d : Datum) → In d k.held → (i : ℕ) × (n ≤ i) × (i < rows) × (claim_at k i ≡ d)
   row_of d m =
-      let w = in-at k.held (entryClaim []) d m in
-      (length k.entries + w.0, omega (arith, loaded.entries-are), omega (arith, loaded.rows_are, loaded.entries-are, w.1), claim-datum k w.0 ∙ sym w.2)
+      let w = in_at k.held (entry_claim []) d m in
+      (length k.entries + w.0, omega (arith, loaded.entries-are), omega (arith, loaded.rows_are, loaded.entries-are, w.1), claim_datum k w.0 ∙ sym w.2)
 
   module _ (every : Explained limit st (everything k) → ⊥) (lefts rights : List ℕ) (bounded : Bounded k rows lefts rights) where
-    left-same : (x y : ℕ) → x ≡ y → (i : ℕ) → i < rows → outside lefts rights x i ≡ not (inside y (claimAt k i))
-    left-same x y e i l = left-outside k rows lefts rights bounded x i l ∙ ap (λ (z : ℕ). not (inside z (claimAt k i))) e
+    left-same : (x y : ℕ) → x ≡ y → (i : ℕ) → i < rows → outside lefts rights x i ≡ not (inside y (claim_at k i))
+    left-same x y e i l = left-outside k rows lefts rights bounded x i l ∙ ap (λ (z : ℕ). not (inside z (claim_at k i))) e
 
-    left_is : (d : Datum) (i : ℕ) → i < rows → claimAt k i ≡ d → get_or lefts i 0 ≡ d.left
+    left_is : (d : Datum) (i : ℕ) → i < rows → claim_at k i ≡ d → get_or lefts i 0 ≡ d.left
     left_is d i l e = bounded.left_is i l ∙ ap (λ (c : Datum). c.left) e
 
     module _ (end set : ℕ) (first : FirstEnd n rows lefts rights table order limit free end set) where
-      pub ends-contradicted : noSet ≤ set → Contradicted ≡ exact limit st
+      pub ends-contradicted : no_set ≤ set → Contradicted ≡ exact limit st
       ends-contradicted h =
           sym (answer-none limit st every (λ d m w.
           let r = row_of d m in
           let e = left_is d r.0 r.2 r.3 in
-          first.others r.0 r.1 r.2 (inl h) w.0 (explained-out lefts rights (get_or lefts r.0 0) d.left (left-same _ _ e) w)))
+          first.others r.0 r.1 r.2 (inl h) w.0 (explained_out lefts rights (get_or lefts r.0 0) d.left (left-same _ _ e) w)))
 
-      module _ (some : set < noSet) (last : ℕ) (low high : List ℕ) (lows : (i : ℕ) → i < rows → get_or low i 0 ≡ last - get_or rights i 0)
+      module _ (some : set < no_set) (last : ℕ) (low high : List ℕ) (lows : (i : ℕ) → i < rows → get_or low i 0 ≡ last - get_or rights i 0)
           (highs : (i : ℕ) → i < rows → get_or high i 0 ≡ last - get_or lefts i 0)
           (below : (i : ℕ) → i < rows → (get_or lefts i 0 ≤ last) × (get_or rights i 0 ≤ last))
           (end' set' : ℕ) (first' : FirstEnd n rows low high table order limit free end' set') where
-        right-same : (x y : ℕ) → y ≤ last → x ≡ last - y → (i : ℕ) → i < rows → outside low high x i ≡ not (inside y (claimAt k i))
+        right-same : (x y : ℕ) → y ≤ last → x ≡ last - y → (i : ℕ) → i < rows → outside low high x i ≡ not (inside y (claim_at k i))
         right-same x y h e i l = right-outside k rows lefts rights bounded last low high lows highs below x y i h e l
 
-        right_is : (d : Datum) (i : ℕ) → i < rows → claimAt k i ≡ d → (get_or low i 0 ≡ last - d.right) × (d.right ≤ last)
+        right_is : (d : Datum) (i : ℕ) → i < rows → claim_at k i ≡ d → (get_or low i 0 ≡ last - d.right) × (d.right ≤ last)
         right_is d i l e =
             let r : get_or rights i 0 ≡ d.right = bounded.right_is i l ∙ ap (λ (c : Datum). c.right) e in
             (omega (arith, lows i l), omega (arith, (below i l).1))
@@ -153,20 +153,20 @@ module _ (limit : ℕ) (st : State) (n rows : ℕ) (table : Rows) (order : List 
         at_left : Explained limit st (needed_at end k)
         at_left =
             let f = first.found some in
-            explained-in lefts rights end end (left-same end end refl) set f.4
+            explained_in lefts rights end end (left-same end end refl) set f.4
 
         -- a right end is explained once a left one is
-        found : set' < noSet
-        found = go (dec_lt set' noSet)
+        found : set' < no_set
+        found = go (dec_lt set' no_set)
           where
-            go : Dec (set' < noSet) → set' < noSet
+            go : Dec (set' < no_set) → set' < no_set
             go (yes h) = h
             go (no h) =
-                let w = right-too limit st every end at_left in
+                let w = right_too limit st every end at_left in
                 let r = row_of w.0 w.1 in
                 let e = right_is w.0 r.0 r.2 r.3 in
                 absurd (first'.others r.0 r.1 r.2 (inl (omega arith)) w.2.0
-                (explained-out low high (get_or low r.0 0) w.0.right (right-same _ _ e.1 e.0) w.2))
+                (explained_out low high (get_or low r.0 0) w.0.right (right-same _ _ e.1 e.0) w.2))
 
         place : (i : ℕ) × (i < rows) × (end' ≡ last - get_or rights i 0) × (get_or rights i 0 ≤ last)
         place = let f = first'.found found in (f.0, f.2, f.3 ∙ lows f.0 f.2, (below f.0 f.2).1)
@@ -183,37 +183,37 @@ module _ (limit : ℕ) (st : State) (n rows : ℕ) (table : Rows) (order : List 
             (λ d m l w.
             let r = row_of d m in
             let e = left_is d r.0 r.2 r.3 in
-            first.others r.0 r.1 r.2 (inr (omega (arith, e))) w.0 (explained-out lefts rights (get_or lefts r.0 0) d.left (left-same _ _ e) w))
-            (explained-in low high end' y (right-same end' y p.3 p.2) set' (first'.found found).4)
+            first.others r.0 r.1 r.2 (inr (omega (arith, e))) w.0 (explained_out lefts rights (get_or lefts r.0 0) d.left (left-same _ _ e) w))
+            (explained_in low high end' y (right-same end' y p.3 p.2) set' (first'.found found).4)
             (λ d m l w.
             let r = row_of d m in
             let e = right_is d r.0 r.2 r.3 in
             first'.others r.0 r.1 r.2 (inr (omega (arith, e.0, e.1, p.2, p.3))) w.0
-            (explained-out low high (get_or low r.0 0) d.right (right-same _ _ e.1 e.0) w))))
+            (explained_out low high (get_or low r.0 0) d.right (right-same _ _ e.1 e.0) w))))
 
 -- ---- the answer at limit 0
 
-module _ (s : List ℕ) (t : T (inForm s)) where
+module _ (s : List ℕ) (t : T (in_form s)) where
   abbrev st : State
   st = state_of s
 
-  pub plain_known : (n : ℕ) → n ≡ entryCount s → 0 < n → Contradicted ≡ answer 0 st
+  pub plain_known : (n : ℕ) → n ≡ entry_count s → 0 < n → Contradicted ≡ answer 0 st
   unfolding state_of
-  plain_known n e h = answer-rounded 0 st Contradicted (sym (plain-contradicted st (form-bare st (form-ok s t)) (rw length-entries (omega arith))))
+  plain_known n e h = answer-rounded 0 st Contradicted (sym (plain-contradicted st (form-bare st (form_ok s t)) (rw length-entries (omega arith))))
 
-  module _ (n : ℕ) (a : n ≡ entryCount s) (z : n ≤ 0) where
-    pub plain-free : (h : ℕ) → h ≡ heldCount s → h ≡ 0 → Open ≡ answer 0 st
+  module _ (n : ℕ) (a : n ≡ entry_count s) (z : n ≤ 0) where
+    pub plain_free : (h : ℕ) → h ≡ held_count s → h ≡ 0 → Open ≡ answer 0 st
     unfolding state_of
-    plain-free h b e =
+    plain_free h b e =
         answer-rounded 0 st Open
-        (sym (plain-open st (form-bare st (form-ok s t)) (rw length-entries (omega arith)) (rw length-held (omega arith))))
+        (sym (plain_open st (form-bare st (form_ok s t)) (rw length-entries (omega arith)) (rw length-held (omega arith))))
 
-    module _ (h : ℕ) (b : h ≡ heldCount s) (some : h ≡ 0 → ⊥) (l r : End) (c : count_of l ≡ greatestLeft 0 (store_of s).held)
-        (d : count_of r ≡ leastRight endLimit (store_of s).held) where
+    module _ (h : ℕ) (b : h ≡ held_count s) (some : h ≡ 0 → ⊥) (l r : End) (c : count_of l ≡ greatest_left 0 (store_of s).held)
+        (d : count_of r ≡ least_right end_limit (store_of s).held) where
       ends : exact 0 st ≡ interval (count_of l) (count_of r)
       unfolding state_of
       ends =
-          rw (c, d) (plain-interval st (form-bare st (form-ok s t)) (rw length-entries (omega arith)) (rw length-held (rw b at (above_zero some))) (form-right st (form-ok s t)))
+          rw (c, d) (plain-interval st (form-bare st (form_ok s t)) (rw length-entries (omega arith)) (rw length-held (rw b at (above_zero some))) (form-right st (form_ok s t)))
 
       pub plain-apart : count_of r < count_of l → Contradicted ≡ answer 0 st
       plain-apart k = answer-rounded 0 st Contradicted (sym (ends ∙ rw (lt-leb (count_of l) (count_of r) k)))
@@ -226,70 +226,70 @@ module _ (s : List ℕ) (t : T (inForm s)) where
 -- ---- the ends of a state in form, in the arrays that the code fills
 
 abbrev last : ℕ
-last = lastKey
+last = last_key
 
-module _ (s : List ℕ) (t : T (inForm s)) (n rows : ℕ) (table : Rows) (order : List ℕ) (loaded : Loaded (store_of s) n rows table)
+module _ (s : List ℕ) (t : T (in_form s)) (n rows : ℕ) (table : Rows) (order : List ℕ) (loaded : Loaded (store_of s) n rows table)
     (complete : Complete rows order) where
-  entries-count : n ≡ entryCount s
+  entries-count : n ≡ entry_count s
   entries-count = loaded.entries-are ∙ length-entries s
 
-  pub rows-count : rows ≡ n + heldCount s
+  pub rows-count : rows ≡ n + held_count s
   rows-count = loaded.rows_are ∙ ap (λ (h : ℕ). n + h) (length-held s)
 
   pub rows_fit : rows ≤ 48
   unfolding state_of
-  rows_fit = rows-most (state_of s) (form-ok s t) loaded
+  rows_fit = rows_most_lem (state_of s) (form_ok s t) loaded
 
   -- the search over all claims
-  module _ (limit free r : ℕ) (g : free ≡ others (num own_at 4 s)) (b : Best noSet limit 0 free (preds rows order table) noSet r) where
-    pub asked-open : r < noSet → Open ≡ answer limit (state_of s)
+  module _ (limit free r : ℕ) (g : free ≡ others (num own_at 4 s)) (b : Best no_set limit 0 free (preds rows order table) no_set r) where
+    pub asked_open : r < no_set → Open ≡ answer limit (state_of s)
     unfolding state_of head_of
-    asked-open h = answer-rounded limit (state_of s) Open (open-found limit (state_of s) n rows table order loaded complete r (rw g at b) h)
+    asked_open h = answer-rounded limit (state_of s) Open (open_found limit (state_of s) n rows table order loaded complete r (rw g at b) h)
 
-    pub asked-tied : noSet ≤ r → Explained limit (state_of s) (everything (store_of s)) → ⊥
+    pub asked_tied : no_set ≤ r → Explained limit (state_of s) (everything (store_of s)) → ⊥
     unfolding state_of head_of
-    asked-tied h = open_none limit (state_of s) n rows table order loaded complete r (rw g at b) h
+    asked_tied h = open_none limit (state_of s) n rows table order loaded complete r (rw g at b) h
 
   -- keys for ends
-  keyed-loaded : Loaded (keyed s) n rows table
+  keyed_loaded : Loaded (keyed s) n rows table
   unfolding keyed
-  keyed-loaded = mapped-loaded (key_of s) (store_of s) loaded
+  keyed_loaded = mapped_loaded (key_of s) (store_of s) loaded
 
-  keyed-tied : (limit : ℕ) → (Explained limit (state_of s) (everything (store_of s)) → ⊥) → Explained limit (keyedState s) (everything (keyed s)) → ⊥
-  unfolding state_of keyedState
-  keyed-tied limit every = rw (keyed-everything s t) every
+  keyed_tied : (limit : ℕ) → (Explained limit (state_of s) (everything (store_of s)) → ⊥) → Explained limit (keyed_state s) (everything (keyed s)) → ⊥
+  unfolding state_of keyed_state
+  keyed_tied limit every = rw (keyed-everything s t) every
 
-  module _ (l₀ r₀ l r : List ℕ) (p : rows ≤ length l₀) (q : rows ≤ length r₀) (e : l ≡ tab rows (claimLeft (key_of s) s n) ++ drop rows l₀)
-      (f : r ≡ tab rows (claimRight (key_of s) s n) ++ drop rows r₀) where
-    pub ends-bounded : Bounded (keyed s) rows l r
-    ends-bounded = bounded-in s t n rows entries-count rows-count l₀ r₀ l r p q e f
+  module _ (l₀ r₀ l r : List ℕ) (p : rows ≤ length l₀) (q : rows ≤ length r₀) (e : l ≡ tab rows (claim_left (key_of s) s n) ++ drop rows l₀)
+      (f : r ≡ tab rows (claim_right (key_of s) s n) ++ drop rows r₀) where
+    pub ends_bounded : Bounded (keyed s) rows l r
+    ends_bounded = bounded_in s t n rows entries-count rows-count l₀ r₀ l r p q e f
 
     pub ends_low : (i : ℕ) → i < rows → (get_or l i 0 ≤ last) × (get_or r i 0 ≤ last)
-    ends_low = keys-low s t n rows entries-count rows-count l₀ r₀ l r p q e f
+    ends_low = keys_low s t n rows entries-count rows-count l₀ r₀ l r p q e f
 
-    pub ends-ready : Ready n rows l r table order
-    ends-ready = ready-in keyed-loaded rows_fit l r order ends-bounded complete (λ i h. omega (arith, (ends_low i h).0))
+    pub ends_ready : Ready n rows l r table order
+    ends_ready = ready_in keyed_loaded rows_fit l r order ends_bounded complete (λ i h. omega (arith, (ends_low i h).0))
 
     -- as seen from the last end
     module _ (low₀ high₀ low high : List ℕ) (a : rows ≤ length low₀) (b : rows ≤ length high₀)
         (c : low ≡ tab rows (λ i. last - get_or r i 0) ++ drop rows low₀) (d : high ≡ tab rows (λ i. last - get_or l i 0) ++ drop rows high₀) where
-      low-is : (i : ℕ) → i < rows → get_or low i 0 ≡ last - get_or r i 0
-      low-is i h = column-front (λ k. last - get_or r k 0) rows i low₀ low c h
+      low_is : (i : ℕ) → i < rows → get_or low i 0 ≡ last - get_or r i 0
+      low_is i h = column_front (λ k. last - get_or r k 0) rows i low₀ low c h
 
       high_is : (i : ℕ) → i < rows → get_or high i 0 ≡ last - get_or l i 0
-      high_is i h = column-front (λ k. last - get_or l k 0) rows i high₀ high d h
+      high_is i h = column_front (λ k. last - get_or l k 0) rows i high₀ high d h
 
-      pub mirror-ready : Ready n rows low high table order
-      mirror-ready =
-          let w = ends-ready in
+      pub mirror_ready : Ready n rows low high table order
+      mirror_ready =
+          let w = ends_ready in
           record {
-            entries-le = w.entries-le;
+            entries_le = w.entries-le;
             most = w.most;
-            lefts-long = omega (arith, length-column (λ k. last - get_or r k 0) rows low₀ low c a);
-            rights-long = omega (arith, length-column (λ k. last - get_or l k 0) rows high₀ high d b);
-            below = λ i h. omega (arith, low-is i h);
+            lefts-long = omega (arith, length_column (λ k. last - get_or r k 0) rows low₀ low c a);
+            rights-long = omega (arith, length_column (λ k. last - get_or l k 0) rows high₀ high d b);
+            below = λ i h. omega (arith, low_is i h);
             empty = λ i h.
-                let j : i < rows = omega (arith, w.entries-le) in omega (arith, low-is i j, high_is i j, w.empty i h, ends_low i j);
+                let j : i < rows = omega (arith, w.entries-le) in omega (arith, low_is i j, high_is i j, w.empty i h, ends_low i j);
             ordered = w.ordered;
             placed = w.placed;
             present = w.present;
@@ -297,34 +297,34 @@ module _ (s : List ℕ) (t : T (inForm s)) (n rows : ℕ) (table : Rows) (order 
           }
 
       module _ (limit free : ℕ) (g : free ≡ others (num own_at 4 s)) (every : Explained limit (state_of s) (everything (store_of s)) → ⊥)
-          (end set end' set' : ℕ) (first : FirstEnd n rows l r table order limit free end set) (some : set < noSet)
+          (end set end' set' : ℕ) (first : FirstEnd n rows l r table order limit free end set) (some : set < no_set)
           (first' : FirstEnd n rows low high table order limit free end' set') where
         pub between-room : end' ≤ last
-        unfolding keyedState head_of
+        unfolding keyed_state head_of
         between-room =
-            ends-room limit (keyedState s) n rows table order keyed-loaded complete (keyed-tied limit every) l r ends-bounded end set (rw g at first) some
-            last low high low-is high_is ends_low end' set' (rw g at first')
+            ends-room limit (keyed_state s) n rows table order keyed_loaded complete (keyed_tied limit every) l r ends_bounded end set (rw g at first) some
+            last low high low_is high_is ends_low end' set' (rw g at first')
 
-        exact-between : Between end (last - end') ≡ exact limit (keyedState s)
-        unfolding keyedState head_of
+        exact-between : Between end (last - end') ≡ exact limit (keyed_state s)
+        unfolding keyed_state head_of
         exact-between =
-            ends-between limit (keyedState s) n rows table order keyed-loaded complete (keyed-tied limit every) l r ends-bounded end set (rw g at first) some
-            last low high low-is high_is ends_low end' set' (rw g at first')
+            ends-between limit (keyed_state s) n rows table order keyed_loaded complete (keyed_tied limit every) l r ends_bounded end set (rw g at first) some
+            last low high low_is high_is ends_low end' set' (rw g at first')
 
         module _ (scale : Scale) (k : scale ≡ scale_of s) where
-          pub between-low : (scale.base ≤ lastWhole) × (last - end' + step_of scale ≤ 2 ^ 64)
+          pub between-low : (scale.base ≤ last_whole) × (last - end' + step_of scale ≤ 2 ^ 64)
           between-low = keyed-low s t limit scale k end (last - end') exact-between
 
-          pub between_is : Between (downBy scale end) (upBy scale (last - end')) ≡ answer limit (state_of s)
+          pub between_is : Between (down_by scale end) (up_by scale (last - end')) ≡ answer limit (state_of s)
           between_is = answer-keyed s t limit scale k (Between end (last - end')) exact-between
 
     pub between_none : (limit free : ℕ) → free ≡ others (num own_at 4 s) → (Explained limit (state_of s) (everything (store_of s)) → ⊥) → (end set : ℕ)
-        → FirstEnd n rows l r table order limit free end set → noSet ≤ set → Contradicted ≡ answer limit (state_of s)
-    unfolding keyedState head_of
+        → FirstEnd n rows l r table order limit free end set → no_set ≤ set → Contradicted ≡ answer limit (state_of s)
+    unfolding keyed_state head_of
     between_none limit free g every end set first h =
         answer-keyed s t limit (scale_of s) refl Contradicted
-        (ends-contradicted limit (keyedState s) n rows table order keyed-loaded complete (keyed-tied limit every) l r ends-bounded end set (rw g at first) h)
+        (ends-contradicted limit (keyed_state s) n rows table order keyed_loaded complete (keyed_tied limit every) l r ends_bounded end set (rw g at first) h)
 
 -- no other name is beyond 28
-pub free-lt : (own free : ℕ) → free ≡ others own → free < noSet
-free-lt own free e = rw e (others-lt own (others own) (subset-refl (others own)))
+pub free_lt : (own free : ℕ) → free ≡ others own → free < no_set
+free_lt own free e = rw e (others_lt own (others own) (subset_refl (others own)))

@@ -1,5 +1,5 @@
 -- The answer from what a search over the ends of the held intervals finds. What one set leaves is open, or it begins at a left end and stops at a
--- right end of held data (`fine-ends`); so an instant counts for it only between two ends that do. Assumes nothing.
+-- right end of held data (`fine_ends`); so an instant counts for it only between two ends that do. Assumes nothing.
 use mathlib.Core.Path.{◌≡◌, refl, sym, subst}
 use mathlib.Core.Logic.{◌⊎◌, inl, inr, ⊎_elim}
 use mathlib.Core.Bool.{not}
@@ -11,7 +11,7 @@ use lib.Dec.{T, leb}
 use lib.IntN.{ℤ, pos}
 use Rattle.predicates.specs.Lists.{all, In}
 use Rattle.predicates.specs.Predicates.{holds}
-use Rattle.predicates.proofs.ListLaws.{split, cond_ind, keep-in, keep_out}
+use Rattle.predicates.proofs.ListLaws.{split, cond_ind, keep_in, keep_out}
 use Rattle.state.specs.Model.{Datum, Store, State}
 use Rattle.asking.specs.declared.Answer.{Answer}
 use Rattle.asking.specs.declared.Answer.TheVariants.{Contradicted, Open, Between}
@@ -19,8 +19,8 @@ use Rattle.asking.specs.Instants.{Within, InAll, Fine, Counts, Gives}
 use Rattle.asking.specs.Asking.{cut, common, active, exact}
 use Rattle.asking.specs.code.Claims.{needed_at, everything, Explained}
 use Rattle.asking.proofs.InstantLaws.{within_wider}
-use Rattle.asking.proofs.ClaimLaws.{everything-in, everything-out, needed-in, counts-in}
-use Rattle.asking.proofs.AnswerLaws.{common-given, answer-is}
+use Rattle.asking.proofs.ClaimLaws.{everything_in, everything_out, needed_in, counts_in}
+use Rattle.asking.proofs.AnswerLaws.{common-given, answer_is}
 
 -- ---- the ends of what one set leaves
 
@@ -60,24 +60,24 @@ pub record Reached (s : ℕ) (k : Store) (x : ℤ) : Type 0 where
   pub last : Datum
   pub first-held : In first k.held
   pub last-held : In last k.held
-  pub first-true : T (all (holds s) (needed_at first.left k))
-  pub last-true : T (all (holds s) (needed_at last.right k))
+  pub first_true : T (all (holds s) (needed_at first.left k))
+  pub last_true : T (all (holds s) (needed_at last.right k))
   pub reached : Within first.left last.right x
 
-pub fine-ends : (s : ℕ) (k : Store) (x : ℤ) → Fine s k x → T (all (holds s) (everything k)) ⊎ Reached s k x
+pub fine_ends : (s : ℕ) (k : Store) (x : ℤ) → Fine s k x → T (all (holds s) (everything k)) ⊎ Reached s k x
 unfolding active
-fine-ends s k x h = go (common (active s k.held)) (common-given s k.held) (common-ends (active s k.held))
+fine_ends s k x h = go (common (active s k.held)) (common-given s k.held) (common-ends (active s k.held))
   where
     held-active : (d : Datum) → In d (active s k.held) → In d k.held
     held-active d m = (keep_out (λ (e : Datum). not (holds s e.terms)) k.held d m).0
 
     go : (a : Answer) → Gives (InAll s k.held) a → EndsOf (active s k.held) a → T (all (holds s) (everything k)) ⊎ Reached s k x
     go Contradicted g e = absurd (g x h.1)
-    go Open g e = inl (everything-in s k h.0 (λ d m. hold d m (split (holds s d.terms))))
+    go Open g e = inl (everything_in s k h.0 (λ d m. hold d m (split (holds s d.terms))))
       where
         hold : (d : Datum) → In d k.held → T (holds s d.terms) ⊎ T (not (holds s d.terms)) → T (holds s d.terms)
         hold d m (inl t) = t
-        hold d m (inr a) = absurd (e d (keep-in (λ (c : Datum). not (holds s c.terms)) k.held d m a))
+        hold d m (inr a) = absurd (e d (keep_in (λ (c : Datum). not (holds s c.terms)) k.held d m a))
     go (Between l r) g e =
         let a = e.0 in
         let b = e.1 in
@@ -86,26 +86,26 @@ fine-ends s k x h = go (common (active s k.held)) (common-given s k.held) (commo
           last = b.0;
           first-held = held-active a.0 a.1;
           last-held = held-active b.0 b.1;
-          first-true = needed-in s k a.0.left (h.0, subst (λ (n : ℕ). InAll s k.held (pos n)) a.2 g.0);
-          last-true = needed-in s k b.0.right (h.0, subst (λ (n : ℕ). InAll s k.held (pos n)) b.2 g.1);
+          first_true = needed_in s k a.0.left (h.0, subst (λ (n : ℕ). InAll s k.held (pos n)) a.2 g.0);
+          last_true = needed_in s k b.0.right (h.0, subst (λ (n : ℕ). InAll s k.held (pos n)) b.2 g.1);
           reached = within_wider l r a.0.left b.0.right x (omega (arith, a.2)) (omega (arith, b.2)) (g.2 x h.1);
         })
 
 -- ---- the answer from the ends that count
 
 module _ (limit : ℕ) (st : State) where
-  pub answer-open : Explained limit st (everything st.store) → exact limit st ≡ Open
-  answer-open h = sym (answer-is limit st Open (λ x. (h.0, h.1, everything-out h.0 st.store h.2 x)))
+  pub answer_open : Explained limit st (everything st.store) → exact limit st ≡ Open
+  answer_open h = sym (answer_is limit st Open (λ x. (h.0, h.1, everything_out h.0 st.store h.2 x)))
 
   module _ (tied : Explained limit st (everything st.store) → ⊥) where
     -- not all instants count: those that do lie between ends that do
     counts-reached : (x : ℤ) (c : Counts limit st x) → Reached c.0 st.store x
-    counts-reached x c = ⊎_elim (λ t. absurd (tied (c.0, c.1, t))) (λ r. r) (fine-ends c.0 st.store x c.2)
+    counts-reached x c = ⊎_elim (λ t. absurd (tied (c.0, c.1, t))) (λ r. r) (fine_ends c.0 st.store x c.2)
 
     pub answer-none : ((d : Datum) → In d st.store.held → Explained limit st (needed_at d.left st.store) → ⊥)
         → exact limit st ≡ Contradicted
     answer-none f =
-        sym (answer-is limit st Contradicted (λ x c.
+        sym (answer_is limit st Contradicted (λ x c.
         let e = counts-reached x c in f e.first e.first-held (c.0, c.1, e.first-true)))
 
     pub answer-between : (l r : ℕ) → Explained limit st (needed_at l st.store)
@@ -114,7 +114,7 @@ module _ (limit : ℕ) (st : State) where
         → ((d : Datum) → In d st.store.held → r < d.right → Explained limit st (needed_at d.right st.store) → ⊥)
         → exact limit st ≡ Between l r
     answer-between l r a f b g =
-        sym (answer-is limit st (Between l r) (counts-in limit st l a, counts-in limit st r b, λ x c. wide x c (counts-reached x c)))
+        sym (answer_is limit st (Between l r) (counts_in limit st l a, counts_in limit st r b, λ x c. wide x c (counts-reached x c)))
       where
         wide : (x : ℤ) (c : Counts limit st x) → Reached c.0 st.store x → Within l r x
         wide x c e =
@@ -129,9 +129,9 @@ module _ (limit : ℕ) (st : State) where
             high (no h) = absurd (g e.last e.last-held (omega arith) (c.0, c.1, e.last-true))
 
     -- once an instant counts, a right end does
-    pub right-too : (l : ℕ) → Explained limit st (needed_at l st.store)
+    pub right_too : (l : ℕ) → Explained limit st (needed_at l st.store)
         → (d : Datum) × In d st.store.held × Explained limit st (needed_at d.right st.store)
-    right-too l h =
-        let c = counts-in limit st l h in
+    right_too l h =
+        let c = counts_in limit st l h in
         let e = counts-reached (pos l) c in
         (e.last, e.last-held, (c.0, c.1, e.last-true))

@@ -35,13 +35,13 @@ meet_within a b c d x h = (
   within_wider (max a c) (min b d) c d x (omega arith) (omega arith) h,
 )
 
-pub inside-in : (x : ℕ) (d : Datum) → Within d.left d.right (pos x) → T (inside x d)
+pub inside_in : (x : ℕ) (d : Datum) → Within d.left d.right (pos x) → T (inside x d)
 unfolding inside
-inside-in x d h = both (leb d.left x) (leb x d.right) (le→leb d.left x h.0) (le→leb x d.right h.1)
+inside_in x d h = both (leb d.left x) (leb x d.right) (le→leb d.left x h.0) (le→leb x d.right h.1)
 
-pub inside-out : (x : ℕ) (d : Datum) → T (inside x d) → Within d.left d.right (pos x)
+pub inside_out : (x : ℕ) (d : Datum) → T (inside x d) → Within d.left d.right (pos x)
 unfolding inside
-inside-out x d h = (
+inside_out x d h = (
   leb→le d.left x (both_l (leb d.left x) (leb x d.right) h),
   leb→le x d.right (both_r (leb d.left x) (leb x d.right) h),
 )
@@ -57,20 +57,20 @@ module _ (s : ℕ) where
   abbrev pub Allows : ℤ → Datum → Type 0
   Allows x d = Active d → Within d.left d.right x
 
-  pub not-active : (d : Datum) → T (holds s d.terms) → (x : ℤ) → Allows x d
-  not-active d h x a = absurd (T_not (holds s d.terms) a h)
+  pub not_active : (d : Datum) → T (holds s d.terms) → (x : ℤ) → Allows x d
+  not_active d h x a = absurd (T_not (holds s d.terms) a h)
 
-  pub inall-out : (ds : List Datum) (x : ℤ) → InAll s ds x → (d : Datum) → In d ds → Allows x d
-  inall-out [] x h d m = absurd m
-  inall-out (e ∷ ds) x h d (inl p) = subst (λ (c : Datum). Allows x c) (sym p) h.0
-  inall-out (e ∷ ds) x h d (inr m) = inall-out ds x h.1 d m
+  pub inall_out : (ds : List Datum) (x : ℤ) → InAll s ds x → (d : Datum) → In d ds → Allows x d
+  inall_out [] x h d m = absurd m
+  inall_out (e ∷ ds) x h d (inl p) = subst (λ (c : Datum). Allows x c) (sym p) h.0
+  inall_out (e ∷ ds) x h d (inr m) = inall_out ds x h.1 d m
 
-  pub inall-in : (ds : List Datum) (x : ℤ) → ((d : Datum) → In d ds → Allows x d) → InAll s ds x
-  inall-in [] x f = tt
-  inall-in (e ∷ ds) x f = (f e (inl refl), inall-in ds x (λ d m. f d (inr m)))
+  pub inall_in : (ds : List Datum) (x : ℤ) → ((d : Datum) → In d ds → Allows x d) → InAll s ds x
+  inall_in [] x f = tt
+  inall_in (e ∷ ds) x f = (f e (inl refl), inall_in ds x (λ d m. f d (inr m)))
 
   -- what lies between two instants that s allows
-  pub inall-between : (ds : List Datum) (a b c : ℕ) → a ≤ b → b ≤ c → InAll s ds (pos a) → InAll s ds (pos c) → InAll s ds (pos b)
-  inall-between ds a b c l r h k =
-      inall-in ds (pos b) (λ d m v.
-      let p = inall-out ds (pos a) h d m v in let q = inall-out ds (pos c) k d m v in (omega arith, omega arith))
+  pub inall_between : (ds : List Datum) (a b c : ℕ) → a ≤ b → b ≤ c → InAll s ds (pos a) → InAll s ds (pos c) → InAll s ds (pos b)
+  inall_between ds a b c l r h k =
+      inall_in ds (pos b) (λ d m v.
+      let p = inall_out ds (pos a) h d m v in let q = inall_out ds (pos c) k d m v in (omega arith, omega arith))

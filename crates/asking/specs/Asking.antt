@@ -1,7 +1,7 @@
 -- The answer over a state (document 01, "Asking"), set by set: the instants that each set leaves, and what all sets within the limit leave
 -- together. Assumes nothing: these are definitions.
 use Rattle.std.specs.Prelude.{ℕ, zero, suc, ◌^◌, min, max, not, cond, List, [], ◌∷◌, ◌++◌, map, leb, eqb}
-use Rattle.names.specs.Sets.{setUnion}
+use Rattle.names.specs.Sets.{set_union}
 use Rattle.predicates.specs.Lists.{all, keep}
 use Rattle.predicates.specs.Predicates.{holds}
 use Rattle.ends.specs.Ends.{down, up}
@@ -38,14 +38,14 @@ leaves s k = cond (all (holds s) k.entries) (common (active s k.held)) Contradic
 -- ---- all sets within the limit
 
 -- the sets of at most `limit` of the first n names, without the own one
-unfoldable pub setsOf : ℕ → ℕ → ℕ → List ℕ
-setsOf own zero limit = 0 ∷ []
-setsOf own (suc n) zero = 0 ∷ []
-setsOf own (suc n) (suc limit) = setsOf own n (suc limit) ++ cond (eqb n own) [] (map (λ s. setUnion (2 ^ n) s) (setsOf own n limit))
+unfoldable pub sets_of : ℕ → ℕ → ℕ → List ℕ
+sets_of own zero limit = 0 ∷ []
+sets_of own (suc n) zero = 0 ∷ []
+sets_of own (suc n) (suc limit) = sets_of own n (suc limit) ++ cond (eqb n own) [] (map (λ s. set_union (2 ^ n) s) (sets_of own n limit))
 
 -- "A name is 0 to 28."
-unfoldable pub setsWithin : ℕ → ℕ → List ℕ
-setsWithin own limit = setsOf own 29 limit
+unfoldable pub sets_within : ℕ → ℕ → List ℕ
+sets_within own limit = sets_of own 29 limit
 
 -- the instants of either: "gaps belong to it"
 unfoldable pub either : Answer → Answer → Answer
@@ -55,13 +55,13 @@ either (Between l r) Contradicted = Between l r
 either (Between l r) Open = Open
 either (Between l r) (Between m s) = Between (min l m) (max r s)
 
-unfoldable pub leftBy : List ℕ → Store → Answer
-leftBy [] k = Contradicted
-leftBy (s ∷ ss) k = either (leaves s k) (leftBy ss k)
+unfoldable pub left_by : List ℕ → Store → Answer
+left_by [] k = Contradicted
+left_by (s ∷ ss) k = either (leaves s k) (left_by ss k)
 
 -- with the ends as they are held, in millionths
 unfoldable pub exact : ℕ → State → Answer
-exact limit st = leftBy (setsWithin st.head.own limit) st.store
+exact limit st = left_by (sets_within st.head.own limit) st.store
 
 -- "Answers and messages round the left end down and the right end up" (document 02, W-205)
 abbrev pub rounded : Answer → Answer
@@ -75,7 +75,7 @@ answer limit st = rounded (exact limit st)
 
 -- ---- for C: "0 contradicted, 1 open, 2 between; left; right, both 0 unless between"
 
-unfoldable pub answerNumbers : Answer → List ℕ
-answerNumbers Contradicted = 0 ∷ 0 ∷ 0 ∷ []
-answerNumbers Open = 1 ∷ 0 ∷ 0 ∷ []
-answerNumbers (Between l r) = 2 ∷ l ∷ r ∷ []
+unfoldable pub answer_numbers : Answer → List ℕ
+answer_numbers Contradicted = 0 ∷ 0 ∷ 0 ∷ []
+answer_numbers Open = 1 ∷ 0 ∷ 0 ∷ []
+answer_numbers (Between l r) = 2 ∷ l ∷ r ∷ []

@@ -9,18 +9,18 @@ use Rattle.asking.specs.declared.Answer.TheVariants.{Contradicted, Open, Between
 use Rattle.asking.specs.declared.Fewest.{Fewest}
 use Rattle.asking.specs.declared.Fewest.TheVariants.{Over, Few}
 use Rattle.asking.specs.Instants.{Fine, Allowed}
-use Rattle.asking.specs.Asking.{leaves, setsWithin}
+use Rattle.asking.specs.Asking.{leaves, sets_within}
 
 -- ---- computed
 
-abbrev pub notContradicted : Answer → Bool
-notContradicted Contradicted = false
-notContradicted Open = true
-notContradicted (Between l r) = true
+abbrev pub not_contradicted : Answer → Bool
+not_contradicted Contradicted = false
+not_contradicted Open = true
+not_contradicted (Between l r) = true
 
 -- an instant counts for the set
 unfoldable pub works : Store → ℕ → Bool
-works k s = notContradicted (leaves s k)
+works k s = not_contradicted (leaves s k)
 
 -- "the smallest, and of those the least mask"
 unfoldable pub smaller : ℕ → ℕ → Bool
@@ -36,7 +36,7 @@ choose (s ∷ ss) = Few (ones (best s ss)) (best s ss)
 
 -- "among sets of at most 4 names"
 unfoldable pub fewest : State → Fewest
-fewest st = choose (keep (works st.store) (setsWithin st.head.own 4))
+fewest st = choose (keep (works st.store) (sets_within st.head.own 4))
 
 -- ---- what it means
 
@@ -55,6 +55,6 @@ FewestOf W (Few n m) = W m × (ones m ≡ n) × ((s : ℕ) → W s → Smaller m
 
 -- ---- for C: "fewest 16 (count, 5 for over 4; mask, then 0)"
 
-unfoldable pub fewestNumbers : Fewest → List ℕ
-fewestNumbers Over = 5 ∷ 0 ∷ []
-fewestNumbers (Few n m) = n ∷ m ∷ []
+unfoldable pub fewest_numbers : Fewest → List ℕ
+fewest_numbers Over = 5 ∷ 0 ∷ []
+fewest_numbers (Few n m) = n ∷ m ∷ []

@@ -1,7 +1,7 @@
 -- Instants, and which of them count over a state (document 01, "Asking"). Assumes nothing: these are definitions.
 use Rattle.std.specs.Prelude.{ℕ, ◌≤◌, ◌<◌, not, List, [], ◌∷◌, T, ℤ, pos, negsuc}
 use Rattle.std.specs.Int.Count.{ones}
-use Rattle.names.specs.Sets.{noSet, has}
+use Rattle.names.specs.Sets.{no_set, has}
 use Rattle.predicates.specs.Lists.{all}
 use Rattle.predicates.specs.Predicates.{holds}
 use Rattle.state.specs.Model.{Datum, Store, State}
@@ -25,7 +25,7 @@ Fine s k x = T (all (holds s) k.entries) × InAll s k.held x
 
 -- "some set within the limit, without the own name"
 pub record Allowed (limit own s : ℕ) : Type 0 where
-  pub names : s < noSet
+  pub names : s < no_set
   pub few : ones s ≤ limit
   pub others : T (not (has own s))
 

@@ -1,21 +1,21 @@
 // Asking (document 01, "Asking"): open, contradicted, or from the first left end that can be explained to the last right end.
 ghost use Rattle.std.specs.Prelude.{◌≡◌, ◌++◌, ℕ, ◌+◌, ◌-◌, ◌^◌, ◌≤◌, ◌<◌, ◌&&◌, T, leb, length, get_or, drop};
 ghost use Rattle.numbers.specs.Numbers.{tab};
-ghost use Rattle.state.specs.Layout.{heldCount, entryCount, store_of, state_of, stateSize, dataMost, entriesMost};
-ghost use Rattle.state.specs.Form.{inForm};
+ghost use Rattle.state.specs.Layout.{held_count, entry_count, store_of, state_of, state_size, data_most, entries_most};
+ghost use Rattle.state.specs.Form.{in_form};
 ghost use Rattle.asking.specs.Asking.{answer};
-ghost use Rattle.asking.specs.code.Plain.{greatestLeft, leastRight};
-ghost use Rattle.asking.specs.Fewest.{notContradicted};
-ghost use Rattle.asking.specs.code.Claims.{everything, Explained, hopeless as Claims·hopeless};
+ghost use Rattle.asking.specs.code.Plain.{greatest_left, least_right};
+ghost use Rattle.asking.specs.Fewest.{not_contradicted};
+ghost use Rattle.asking.specs.code.Claims.{everything, Explained, hopeless};
 ghost use Rattle.predicates.specs.Lists.{all_below};
-ghost use Rattle.claims.specs.code.Degrees.{degreeWithin};
+ghost use Rattle.claims.specs.code.Degrees.{degree_within};
 ghost use Rattle.claims.specs.code.Tables.{Loaded, Room};
-ghost use Rattle.asking.specs.code.Sizes.{fewRows};
+ghost use Rattle.asking.specs.code.Sizes.{few_rows};
 ghost use Rattle.search.specs.code.LeftEnds.{Complete};
-ghost use Rattle.state.specs.Model.{endLimit, lastWhole};
+ghost use Rattle.state.specs.Model.{end_limit, last_whole};
 ghost use Rattle.search.specs.code.Search.{Rows, rows_of};
 ghost use Rattle.ends.specs.Ends.{count_of, BothSplit};
-ghost use Rattle.claims.specs.code.Keys.{step_of, downBy, upBy, lastKey};
+ghost use Rattle.claims.specs.code.Keys.{step_of, down_by, up_by, last_key};
 ghost use Rattle.asking.specs.declared.Answer.TheVariants.{Between};
 
 use super::Answer;
@@ -29,8 +29,8 @@ const FEW_MASKS: usize = FEW_ROWS * search::ROW_WIDTH;
 
 // The answer between two keys, in whole microseconds: the left end rounds down and the right end up.
 pub(crate) fn rounded(scale: Scale, left: u64, right: u64) -> Answer
-    requires { (scale.base ≤ lastWhole) × (right + step_of scale ≤ 2 ^ 64) }
-    ensures { result ≡ Between (downBy scale left) (upBy scale right) }
+    requires { (scale.base ≤ last_whole) × (right + step_of scale ≤ 2 ^ 64) }
+    ensures { result ≡ Between (down_by scale left) (up_by scale right) }
 {
     Answer::Between(
         claims::keys::down(scale, left),
@@ -40,9 +40,9 @@ pub(crate) fn rounded(scale: Scale, left: u64, right: u64) -> Answer
 
 // The greatest left end of the held data and the least right end.
 fn meeting(s: &[u8], h: usize) -> Ends
-    requires { (stateSize ≤ length s.now) × T (inForm s.now) × (h ≡ heldCount s.now) }
-    ensures { (count_of result.left ≡ greatestLeft 0 (store_of s.now).held)
-        × (count_of result.right ≡ leastRight endLimit (store_of s.now).held) × BothSplit result }
+    requires { (state_size ≤ length s.now) × T (in_form s.now) × (h ≡ held_count s.now) }
+    ensures { (count_of result.left ≡ greatest_left 0 (store_of s.now).held)
+        × (count_of result.right ≡ least_right end_limit (store_of s.now).held) × BothSplit result }
 {
     let mut left = End {
         whole: 0,
@@ -64,7 +64,7 @@ fn meeting(s: &[u8], h: usize) -> Ends
 
 // The answer at limit 0, where no name may have failed: what all held intervals have in common, if nothing is known to have failed.
 fn plain(s: &[u8]) -> Answer
-    requires { (stateSize ≤ length s.now) × T (inForm s.now) }
+    requires { (state_size ≤ length s.now) × T (in_form s.now) }
     ensures { result ≡ answer 0 (state_of s.now) }
 {
     if 0 < numbers::get32(s, state::KNOWN_AT) {
@@ -84,8 +84,8 @@ fn plain(s: &[u8]) -> Answer
 
 // Whether an instant counts where no name has failed.
 pub fn agree(s: &[u8]) -> bool
-    requires { (stateSize ≤ length s.now) × T (inForm s.now) }
-    ensures { result ≡ notContradicted (answer 0 (state_of s.now)) }
+    requires { (state_size ≤ length s.now) × T (in_form s.now) }
+    ensures { result ≡ not_contradicted (answer 0 (state_of s.now)) }
 {
     match plain(s) {
         Answer::Contradicted => false,
@@ -97,9 +97,9 @@ pub fn agree(s: &[u8]) -> bool
 // The keys as seen from the last one, so that the right ends are left ones and their falling is a rising.
 fn mirror(lefts: &[u64], rights: &[u64], rows: usize, low: &mut [u64], high: &mut [u64])
     requires rows_in_bounds { (rows ≤ length lefts.now) × (rows ≤ length rights.now) × (rows ≤ length low.old) × (rows ≤ length high.old) }
-    requires by_index { (i : ℕ) → i < rows → (get_or lefts.now i 0 ≤ lastKey) × (get_or rights.now i 0 ≤ lastKey) }
-    ensures low_after { low.new ≡ tab rows (λ i. lastKey - get_or rights.now i 0) ++ drop rows low.old }
-    ensures high_after { high.new ≡ tab rows (λ i. lastKey - get_or lefts.now i 0) ++ drop rows high.old }
+    requires by_index { (i : ℕ) → i < rows → (get_or lefts.now i 0 ≤ last_key) × (get_or rights.now i 0 ≤ last_key) }
+    ensures low_after { low.new ≡ tab rows (λ i. last_key - get_or rights.now i 0) ++ drop rows low.old }
+    ensures high_after { high.new ≡ tab rows (λ i. last_key - get_or lefts.now i 0) ++ drop rows high.old }
 {
     let mut i: usize = 0;
     while i < rows {
@@ -121,7 +121,7 @@ fn between(
     order: &[u32],
     limit: u32,
 ) -> Answer
-    requires state_size_in_bounds { (stateSize ≤ length s.now) × T (inForm s.now) × (n ≤ entriesMost) × (rows ≤ n + dataMost) }
+    requires state_size_in_bounds { (state_size ≤ length s.now) × T (in_form s.now) × (n ≤ entries_most) × (rows ≤ n + data_most) }
     requires fact { (let t : Rows = rows_of counts.now masks.now several.now singles.now in
         Loaded (store_of s.now) n rows t × Complete rows order.now) }
     requires fact_2 { Explained limit (state_of s.now) (everything (store_of s.now)) → ⊥ }
@@ -181,7 +181,7 @@ fn ask_in(
     singles: &mut [u32],
     order: &mut [u32],
 ) -> Answer
-    requires state_size_in_bounds { (stateSize ≤ length s.now) × T (inForm s.now) × (n ≡ entryCount s.now) × (rows ≡ n + heldCount s.now) }
+    requires state_size_in_bounds { (state_size ≤ length s.now) × T (in_form s.now) × (n ≡ entry_count s.now) × (rows ≡ n + held_count s.now) }
     requires room { Room rows (rows_of counts.old masks.old several.old singles.old) × (rows ≤ length order.old) }
     ensures { result ≡ answer limit (state_of s.now) }
 {
@@ -209,8 +209,8 @@ fn ask_in(
 
 // The same where the rows are few, as they mostly are: clearing arrays for all rows would take longer than the rest.
 fn ask_few(s: &[u8], limit: u32, n: usize, rows: usize) -> Answer
-    requires state_size_in_bounds { (stateSize ≤ length s.now) × T (inForm s.now) × (n ≡ entryCount s.now) × (rows ≡ n + heldCount s.now) }
-    requires rows_le_few_rows { rows ≤ fewRows }
+    requires state_size_in_bounds { (state_size ≤ length s.now) × T (in_form s.now) × (n ≡ entry_count s.now) × (rows ≡ n + held_count s.now) }
+    requires rows_le_few_rows { rows ≤ few_rows }
     ensures { result ≡ answer limit (state_of s.now) }
 {
     let mut counts = [0u32; FEW_ROWS];
@@ -233,7 +233,7 @@ fn ask_few(s: &[u8], limit: u32, n: usize, rows: usize) -> Answer
 
 // The same for any number of rows.
 fn ask_many(s: &[u8], limit: u32, n: usize, rows: usize) -> Answer
-    requires { (stateSize ≤ length s.now) × T (inForm s.now) × (n ≡ entryCount s.now) × (rows ≡ n + heldCount s.now) }
+    requires { (state_size ≤ length s.now) × T (in_form s.now) × (n ≡ entry_count s.now) × (rows ≡ n + held_count s.now) }
     ensures { result ≡ answer limit (state_of s.now) }
 {
     let mut counts = [0u32; search::ROWS_MOST];
@@ -256,16 +256,16 @@ fn ask_many(s: &[u8], limit: u32, n: usize, rows: usize) -> Answer
 
 // Whether the entries tell by themselves that no set within the limit makes all of them true.
 pub fn hopeless(s: &[u8], n: usize, limit: u32) -> bool
-    requires { (stateSize ≤ length s.now) × T (inForm s.now) × (n ≡ entryCount s.now) }
-    ensures { result ≡ Claims·hopeless limit (state_of s.now) }
+    requires { (state_size ≤ length s.now) × T (in_form s.now) × (n ≡ entry_count s.now) }
+    ensures { result ≡ hopeless limit (state_of s.now) }
 {
     !claims::degrees::within(s, n, n, limit)
 }
 
 // Whether every claim needs one name at most and there are no more claims than the limit has names: then a set within it makes all of them true.
 fn affordable(s: &[u8], n: usize, rows: usize, limit: u32) -> bool
-    requires { (stateSize ≤ length s.now) × T (inForm s.now) × (n ≡ entryCount s.now) × (rows ≤ n + heldCount s.now) }
-    ensures { result ≡ (leb rows limit && all_below rows (degreeWithin (store_of s.now) 1)) }
+    requires { (state_size ≤ length s.now) × T (in_form s.now) × (n ≡ entry_count s.now) × (rows ≤ n + held_count s.now) }
+    ensures { result ≡ (leb rows limit && all_below rows (degree_within (store_of s.now) 1)) }
 {
     if (limit as usize) < rows {
         return false;
@@ -275,7 +275,7 @@ fn affordable(s: &[u8], n: usize, rows: usize, limit: u32) -> bool
 
 // The answer over a state in form.
 pub fn ask(s: &[u8], limit: u32) -> Answer
-    requires { (stateSize ≤ length s.now) × T (inForm s.now) }
+    requires { (state_size ≤ length s.now) × T (in_form s.now) }
     ensures { result ≡ answer limit (state_of s.now) }
 {
     if limit == 0 {

@@ -2,13 +2,13 @@
 // where the name is one of its terms, so a mask for each held datum tells all, and one pass over the keys of the ends tells what a name leaves.
 ghost use Rattle.std.specs.Prelude.{◌≡◌, Bool, cond, ◌≤◌, ◌<◌, min, max, T, ltb, length, List};
 ghost use Rattle.std.specs.Int.Count.{ones};
-ghost use Rattle.state.specs.Layout.{state_of, stateSize};
-ghost use Rattle.state.specs.Form.{inForm};
+ghost use Rattle.state.specs.Layout.{state_of, state_size};
+ghost use Rattle.state.specs.Form.{in_form};
 ghost use Rattle.state.specs.Model.{Datum};
-ghost use Rattle.search.specs.code.LeftEnds.{noEnd};
+ghost use Rattle.search.specs.code.LeftEnds.{no_end};
 ghost use Rattle.asking.specs.Asking.{active, answer};
-ghost use Rattle.asking.specs.code.Plain.{greatestLeft, leastRight};
-ghost use Rattle.asking.specs.code.One.{commonNames, allNames, InArrays, Lacking, AtMostOne, Hull, LeastLeaving, FewestOne};
+ghost use Rattle.asking.specs.code.Plain.{greatest_left, least_right};
+ghost use Rattle.asking.specs.code.One.{common_names, all_names, InArrays, Lacking, AtMostOne, Hull, LeastLeaving, FewestOne};
 
 use super::Answer;
 
@@ -21,7 +21,7 @@ pub struct Overlap {
 
 // The names that all masks have in common with these.
 fn common_names(masks: &[u32], names: u32) -> u32
-    ensures { result ≡ commonNames names masks.now }
+    ensures { result ≡ common_names names masks.now }
 {
     let mut left = names;
     let mut i: usize = 0;
@@ -34,7 +34,7 @@ fn common_names(masks: &[u32], names: u32) -> u32
 
 // The names that some mask has.
 fn all_names(masks: &[u32]) -> u32
-    ensures { result ≡ allNames 0 masks.now }
+    ensures { result ≡ all_names 0 masks.now }
 {
     let mut names: u32 = 0;
     let mut i: usize = 0;
@@ -50,7 +50,7 @@ fn all_names(masks: &[u32]) -> u32
 fn span(lefts: &[u64], rights: &[u64], masks: &[u32], set: u32) -> Overlap
     requires { (length masks.now ≤ length lefts.now) × (length masks.now ≤ length rights.now) × (ones set ≤ 1) }
     ensures { (ds : List Datum) → InArrays ds lefts.now rights.now masks.now
-        → (result.left ≡ greatestLeft 0 (active set ds)) × (result.right ≡ leastRight noEnd (active set ds)) }
+        → (result.left ≡ greatest_left 0 (active set ds)) × (result.right ≡ least_right no_end (active set ds)) }
 {
     let mut left: u64 = 0;
     let mut right: u64 = search::NO_END;
@@ -115,7 +115,7 @@ fn widest(lefts: &[u64], rights: &[u64], masks: &[u32], names: u32, plain: bool)
 
 // The answer at limit 1 over a state in form.
 pub(crate) fn ask_one(s: &[u8]) -> Answer
-    requires { (stateSize ≤ length s.now) × T (inForm s.now) }
+    requires { (state_size ≤ length s.now) × T (in_form s.now) }
     ensures { result ≡ answer 1 (state_of s.now) }
 {
     let n = numbers::get32(s, state::KNOWN_AT) as usize;
@@ -158,7 +158,7 @@ fn least_leaving(lefts: &[u64], rights: &[u64], masks: &[u32], names: u32) -> u3
 
 // The least name that explains a state in form alone, as a set; 2^29 where there is none.
 pub fn fewest_one(s: &[u8]) -> u32
-    requires { (stateSize ≤ length s.now) × T (inForm s.now) }
+    requires { (state_size ≤ length s.now) × T (in_form s.now) }
     ensures { FewestOne (state_of s.now) result }
 {
     let n = numbers::get32(s, state::KNOWN_AT) as usize;

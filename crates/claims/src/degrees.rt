@@ -5,16 +5,16 @@ ghost use Rattle.numbers.specs.Numbers.{num, tab};
 ghost use Rattle.predicates.specs.Lists.{all_below};
 ghost use Rattle.predicates.specs.Predicates.{degree};
 ghost use Rattle.predicates.specs.code.Marks.{singles};
-ghost use Rattle.state.specs.Layout.{stateSize, own_at, heldCount, entryCount, row_at, store_of};
-ghost use Rattle.state.specs.Form.{inForm};
-ghost use Rattle.search.specs.code.Search.{rowWidth};
-ghost use Rattle.claims.specs.code.Tables.{claimAt};
-ghost use Rattle.claims.specs.code.Degrees.{degreeWithin, deciding};
+ghost use Rattle.state.specs.Layout.{state_size, own_at, held_count, entry_count, row_at, store_of};
+ghost use Rattle.state.specs.Form.{in_form};
+ghost use Rattle.search.specs.code.Search.{row_width};
+ghost use Rattle.claims.specs.code.Tables.{claim_at};
+ghost use Rattle.claims.specs.code.Degrees.{degree_within, deciding};
 
 // Whether the predicate of the row at `at` has a degree of at most so many names. It stops at the first term that has no more.
 fn degree_within(s: &[u8], at: usize, most: u32) -> bool
-    requires { (num at 4 s.now ≤ rowWidth) × (at + 4 + rowWidth * 4 ≤ length s.now) }
-    ensures { result ≡ leb (degree (row_at rowWidth at s.now)) most }
+    requires { (num at 4 s.now ≤ row_width) × (at + 4 + row_width * 4 ≤ length s.now) }
+    ensures { result ≡ leb (degree (row_at row_width at s.now)) most }
 {
     let count = numbers::get32(s, at) as usize;
     let mut i: usize = 0;
@@ -29,8 +29,8 @@ fn degree_within(s: &[u8], at: usize, most: u32) -> bool
 
 // Whether so many names are enough for each of the first rows: n entries, and then held data.
 pub fn within(s: &[u8], n: usize, rows: usize, most: u32) -> bool
-    requires { (stateSize ≤ length s.now) × T (inForm s.now) × (n ≡ entryCount s.now) × (rows ≤ n + heldCount s.now) }
-    ensures { result ≡ all_below rows (degreeWithin (store_of s.now) most) }
+    requires { (state_size ≤ length s.now) × T (in_form s.now) × (n ≡ entry_count s.now) × (rows ≤ n + held_count s.now) }
+    ensures { result ≡ all_below rows (degree_within (store_of s.now) most) }
 {
     let mut i: usize = 0;
     while i < rows {
@@ -44,8 +44,8 @@ pub fn within(s: &[u8], n: usize, rows: usize, most: u32) -> bool
 
 // The names that are terms of the row at `at`: each makes its predicate true alone.
 fn single_names(s: &[u8], at: usize) -> u32
-    requires { (num at 4 s.now ≤ rowWidth) × (at + 4 + rowWidth * 4 ≤ length s.now) }
-    ensures { result ≡ singles (row_at rowWidth at s.now) }
+    requires { (num at 4 s.now ≤ row_width) × (at + 4 + row_width * 4 ≤ length s.now) }
+    ensures { result ≡ singles (row_at row_width at s.now) }
 {
     let count = numbers::get32(s, at) as usize;
     let mut names: u32 = 0;
@@ -62,7 +62,7 @@ fn single_names(s: &[u8], at: usize) -> u32
 
 // The names, without the own one, that each make all n entries true alone. It stops where no name is left.
 pub fn deciding_names(s: &[u8], n: usize) -> u32
-    requires { (stateSize ≤ length s.now) × T (inForm s.now) × (n ≡ entryCount s.now) }
+    requires { (state_size ≤ length s.now) × T (in_form s.now) × (n ≡ entry_count s.now) }
     ensures { result ≡ deciding (store_of s.now) (num own_at 4 s.now) n }
 {
     let mut names = names::others(numbers::get32(s, state::OWN_AT));
@@ -79,10 +79,10 @@ pub fn deciding_names(s: &[u8], n: usize) -> u32
 
 // Makes, of each of h held data, the mask of the names that make its predicate true alone; what stands behind them stays.
 pub fn get_singles(s: &[u8], n: usize, h: usize, masks: &mut [u32])
-    requires state_size_in_bounds { (stateSize ≤ length s.now) × T (inForm s.now) × (n ≡ entryCount s.now) × (h ≡ heldCount s.now) }
+    requires state_size_in_bounds { (state_size ≤ length s.now) × T (in_form s.now) × (n ≡ entry_count s.now) × (h ≡ held_count s.now) }
     requires h_in_bounds { h ≤ length masks.old }
     ensures { masks.new ≡
-        tab h (λ i. singles (claimAt (store_of s.now) (n + i)).terms) ++ drop h masks.old }
+        tab h (λ i. singles (claim_at (store_of s.now) (n + i)).terms) ++ drop h masks.old }
 {
     let mut i: usize = 0;
     while i < h {

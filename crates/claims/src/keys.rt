@@ -4,12 +4,12 @@
 ghost use Rattle.std.specs.Prelude.{◌≡◌, ◌++◌, true, false, ◌+◌, ◌*◌, ◌^◌, ◌≤◌, ◌<◌, T, length, drop};
 ghost use Rattle.numbers.specs.Numbers.{tab};
 ghost use Rattle.ends.specs.Ends.{count_of, Split};
-ghost use Rattle.state.specs.Model.{lastWhole};
-ghost use Rattle.state.specs.Layout.{heldCount, stateSize, dataMost, entriesMost};
-ghost use Rattle.state.specs.Form.{inForm};
-ghost use Rattle.claims.specs.code.Keys.{base_of, top_of, countLimit, countable as Keys·countable, Counted, scale_of, below, partsMost};
-ghost use Rattle.claims.specs.code.Keys.{millionthsAt, countFrom, rankKey, step_of, downBy, upBy, key_of};
-ghost use Rattle.claims.specs.code.Tables.{claimLeft, claimRight};
+ghost use Rattle.state.specs.Model.{last_whole};
+ghost use Rattle.state.specs.Layout.{held_count, state_size, data_most, entries_most};
+ghost use Rattle.state.specs.Form.{in_form};
+ghost use Rattle.claims.specs.code.Keys.{base_of, top_of, count_limit, countable, Counted, scale_of, below, parts_most};
+ghost use Rattle.claims.specs.code.Keys.{millionths_at, count_from, rank_key, step_of, down_by, up_by, key_of};
+ghost use Rattle.claims.specs.code.Tables.{claim_left, claim_right};
 
 use ends::End;
 
@@ -40,8 +40,8 @@ struct Reach {
 
 // How far h held data reach. Counts start at the first microsecond, since clocks may count theirs from long ago.
 fn reach_of(s: &[u8], h: usize) -> Reach
-    requires { (stateSize ≤ length s.now) × (h ≡ heldCount s.now) × (h ≤ dataMost) }
-    ensures { (result.first ≡ base_of s.now) × (result.last ≡ top_of s.now) × (result.first ≤ lastWhole) }
+    requires { (state_size ≤ length s.now) × (h ≡ held_count s.now) × (h ≤ data_most) }
+    ensures { (result.first ≡ base_of s.now) × (result.last ≡ top_of s.now) × (result.first ≤ last_whole) }
 {
     let mut first = state::LAST_WHOLE;
     let mut last: u64 = 0;
@@ -57,8 +57,8 @@ fn reach_of(s: &[u8], h: usize) -> Reach
 
 // Reads the millionths of h held data, the left end's and the right end's of each; what stands behind them stays.
 fn get_parts(s: &[u8], h: usize, parts: &mut [u32])
-    requires { (stateSize ≤ length s.now) × (h ≤ dataMost) × (h * 2 ≤ length parts.old) }
-    ensures { parts.new ≡ tab (h * 2) (millionthsAt s.now) ++ drop (h * 2) parts.old }
+    requires { (state_size ≤ length s.now) × (h ≤ data_most) × (h * 2 ≤ length parts.old) }
+    ensures { parts.new ≡ tab (h * 2) (millionths_at s.now) ++ drop (h * 2) parts.old }
 {
     let mut j: usize = 0;
     while j < h * 2 {
@@ -70,7 +70,7 @@ fn get_parts(s: &[u8], h: usize, parts: &mut [u32])
 
 // How many of the parts are less than x.
 fn rank(parts: &[u32; PARTS_MOST], x: u32) -> u32
-    ensures { (result ≡ below partsMost parts.now x) × (result ≤ partsMost) }
+    ensures { (result ≡ below parts_most parts.now x) × (result ≤ parts_most) }
 {
     let mut r: u32 = 0;
     let mut j: usize = 0;
@@ -99,24 +99,24 @@ fn entry_keys() -> Keys
 
 // The count of an end from the base on.
 fn count_from(base: u64, e: End) -> u64
-    requires { Split e × (base ≤ e.whole) × (e.whole < base + countLimit) }
-    ensures { result ≡ countFrom base (count_of e) }
+    requires { Split e × (base ≤ e.whole) × (e.whole < base + count_limit) }
+    ensures { result ≡ count_from base (count_of e) }
 {
     (e.whole - base) * ends::MILLION + e.millionths
 }
 
 // The key of an end by its rank.
 fn rank_key(parts: &[u32; PARTS_MOST], e: End) -> u64
-    requires { Split e × (e.whole ≤ lastWhole) }
-    ensures { result ≡ rankKey parts.now (count_of e) }
+    requires { Split e × (e.whole ≤ last_whole) }
+    ensures { result ≡ rank_key parts.now (count_of e) }
 {
     e.whole * RANK_STEP + rank(parts, e.millionths as u32) as u64
 }
 
 // The keys of claim i by counts.
 fn counts(s: &[u8], n: usize, i: usize, base: u64) -> Keys
-    requires { (stateSize ≤ length s.now) × T (inForm s.now) × (i < n + heldCount s.now) × Counted s.now base }
-    ensures { (result.left ≡ claimLeft (countFrom base) s.now n i) × (result.right ≡ claimRight (countFrom base) s.now n i) }
+    requires { (state_size ≤ length s.now) × T (in_form s.now) × (i < n + held_count s.now) × Counted s.now base }
+    ensures { (result.left ≡ claim_left (count_from base) s.now n i) × (result.right ≡ claim_right (count_from base) s.now n i) }
 {
     if i < n {
         return entry_keys();
@@ -129,9 +129,9 @@ fn counts(s: &[u8], n: usize, i: usize, base: u64) -> Keys
 
 // The same by ranks.
 fn ranks(s: &[u8], n: usize, i: usize, parts: &[u32; PARTS_MOST]) -> Keys
-    requires { (stateSize ≤ length s.now) × T (inForm s.now) × (i < n + heldCount s.now) }
-    ensures { (result.left ≡ claimLeft (rankKey parts.now) s.now n i)
-        × (result.right ≡ claimRight (rankKey parts.now) s.now n i) }
+    requires { (state_size ≤ length s.now) × T (in_form s.now) × (i < n + held_count s.now) }
+    ensures { (result.left ≡ claim_left (rank_key parts.now) s.now n i)
+        × (result.right ≡ claim_right (rank_key parts.now) s.now n i) }
 {
     if i < n {
         return entry_keys();
@@ -144,10 +144,10 @@ fn ranks(s: &[u8], n: usize, i: usize, parts: &[u32; PARTS_MOST]) -> Keys
 
 // Makes the keys of all claims by counts: of n entries, and then of the held data.
 fn put_counts(s: &[u8], n: usize, rows: usize, base: u64, lefts: &mut [u64], rights: &mut [u64])
-    requires state_size_in_bounds { (stateSize ≤ length s.now) × T (inForm s.now) × (n ≤ entriesMost) × (rows ≡ n + heldCount s.now) × Counted s.now base }
+    requires state_size_in_bounds { (state_size ≤ length s.now) × T (in_form s.now) × (n ≤ entries_most) × (rows ≡ n + held_count s.now) × Counted s.now base }
     requires rows_in_bounds { (rows ≤ length lefts.old) × (rows ≤ length rights.old) }
-    ensures lefts_after { lefts.new ≡ tab rows (claimLeft (key_of s.now) s.now n) ++ drop rows lefts.old }
-    ensures rights_after { rights.new ≡ tab rows (claimRight (key_of s.now) s.now n) ++ drop rows rights.old }
+    ensures lefts_after { lefts.new ≡ tab rows (claim_left (key_of s.now) s.now n) ++ drop rows lefts.old }
+    ensures rights_after { rights.new ≡ tab rows (claim_right (key_of s.now) s.now n) ++ drop rows rights.old }
 {
     let mut i: usize = 0;
     while i < rows {
@@ -160,10 +160,10 @@ fn put_counts(s: &[u8], n: usize, rows: usize, base: u64, lefts: &mut [u64], rig
 
 // The same by ranks.
 fn put_ranks(s: &[u8], n: usize, rows: usize, lefts: &mut [u64], rights: &mut [u64])
-    requires state_size_in_bounds { (stateSize ≤ length s.now) × T (inForm s.now) × (n ≤ entriesMost) × (rows ≡ n + heldCount s.now) }
-    requires s_value { (Keys·countable s.now ≡ false) × (rows ≤ length lefts.old) × (rows ≤ length rights.old) }
-    ensures lefts_after { lefts.new ≡ tab rows (claimLeft (key_of s.now) s.now n) ++ drop rows lefts.old }
-    ensures rights_after { rights.new ≡ tab rows (claimRight (key_of s.now) s.now n) ++ drop rows rights.old }
+    requires state_size_in_bounds { (state_size ≤ length s.now) × T (in_form s.now) × (n ≤ entries_most) × (rows ≡ n + held_count s.now) }
+    requires s_value { (countable s.now ≡ false) × (rows ≤ length lefts.old) × (rows ≤ length rights.old) }
+    ensures lefts_after { lefts.new ≡ tab rows (claim_left (key_of s.now) s.now n) ++ drop rows lefts.old }
+    ensures rights_after { rights.new ≡ tab rows (claim_right (key_of s.now) s.now n) ++ drop rows rights.old }
 {
     let mut parts = [0u32; PARTS_MOST];
     get_parts(s, rows - n, &mut parts);
@@ -178,11 +178,11 @@ fn put_ranks(s: &[u8], n: usize, rows: usize, lefts: &mut [u64], rights: &mut [u
 
 // Makes the keys of the ends of all claims: of n entries, and then of the held data. Answers their scale.
 pub fn get_ends(s: &[u8], n: usize, rows: usize, lefts: &mut [u64], rights: &mut [u64]) -> Scale
-    requires state_size_in_bounds { (stateSize ≤ length s.now) × T (inForm s.now) × (n ≤ entriesMost) × (rows ≡ n + heldCount s.now) }
+    requires state_size_in_bounds { (state_size ≤ length s.now) × T (in_form s.now) × (n ≤ entries_most) × (rows ≡ n + held_count s.now) }
     requires rows_in_bounds { (rows ≤ length lefts.old) × (rows ≤ length rights.old) }
     ensures value { result ≡ scale_of s.now }
-    ensures lefts_after { lefts.new ≡ tab rows (claimLeft (key_of s.now) s.now n) ++ drop rows lefts.old }
-    ensures rights_after { rights.new ≡ tab rows (claimRight (key_of s.now) s.now n) ++ drop rows rights.old }
+    ensures lefts_after { lefts.new ≡ tab rows (claim_left (key_of s.now) s.now n) ++ drop rows lefts.old }
+    ensures rights_after { rights.new ≡ tab rows (claim_right (key_of s.now) s.now n) ++ drop rows rights.old }
 {
     let held = reach_of(s, rows - n);
     if held.last < held.first + COUNT_LIMIT {
@@ -201,8 +201,8 @@ pub fn get_ends(s: &[u8], n: usize, rows: usize, lefts: &mut [u64], rights: &mut
 
 // The whole microseconds that a left key tells: it rounds down.
 pub fn down(scale: Scale, key: u64) -> u64
-    requires { scale.base ≤ lastWhole }
-    ensures { result ≡ downBy scale key }
+    requires { scale.base ≤ last_whole }
+    ensures { result ≡ down_by scale key }
 {
     if scale.counted {
         scale.base + key / ends::MILLION
@@ -213,8 +213,8 @@ pub fn down(scale: Scale, key: u64) -> u64
 
 // The whole microseconds that a right key tells: it rounds up.
 pub fn up(scale: Scale, key: u64) -> u64
-    requires { (scale.base ≤ lastWhole) × (key + step_of scale ≤ 2 ^ 64) }
-    ensures { result ≡ upBy scale key }
+    requires { (scale.base ≤ last_whole) × (key + step_of scale ≤ 2 ^ 64) }
+    ensures { result ≡ up_by scale key }
 {
     if scale.counted {
         scale.base + (key + (ends::MILLION - 1)) / ends::MILLION

@@ -10,28 +10,28 @@ use Rattle.clocks.specs.declared.Readings.TheVariants.{Without, With}
 -- ---- what can be taken
 
 -- "each is below 2^43"
-abbrev pub tripleLimit : ℕ
-tripleLimit = 2 ^ 43
+abbrev pub triple_limit : ℕ
+triple_limit = 2 ^ 43
 
 -- "drift above 1,000" is refused, the own one (2) and a sender's (40)
-abbrev pub driftMost : ℕ
-driftMost = 1_000
+abbrev pub drift_most : ℕ
+drift_most = 1_000
 
 abbrev pub Fits : Triple → Type 0
-Fits t = (t.there < tripleLimit) × (t.here < tripleLimit) × (t.half < tripleLimit)
+Fits t = (t.there < triple_limit) × (t.here < triple_limit) × (t.half < triple_limit)
 
 -- "40 a, b or w at 2^43 or more, or a drift above 1,000"
 abbrev pub fails : Triple → ℕ → Bool
-fails t drift = leb tripleLimit t.there || (leb tripleLimit t.here || (leb tripleLimit t.half || ltb driftMost drift))
+fails t drift = leb triple_limit t.there || (leb triple_limit t.here || (leb triple_limit t.half || ltb drift_most drift))
 
 -- the same of what the host gives with a receipt: no readings, or a triple and the sender's drift
-unfoldable pub readingsFail : Readings → Bool
-readingsFail Without = false
-readingsFail (With t drift) = fails t drift
+unfoldable pub readings_fail : Readings → Bool
+readings_fail Without = false
+readings_fail (With t drift) = fails t drift
 
 -- the test for `Fits`
 abbrev pub small : Triple → Bool
-small t = ltb t.there tripleLimit && (ltb t.here tripleLimit && ltb t.half tripleLimit)
+small t = ltb t.there triple_limit && (ltb t.here triple_limit && ltb t.half triple_limit)
 
 -- ---- test (20)
 
@@ -61,8 +61,8 @@ unfoldable pub ahead_of : Triple → Triple → Triple
 ahead_of old new = cond (ahead old new) new old
 
 -- "and b − a + w, the earlier on a tie"
-unfoldable pub behindOf : Triple → Triple → Triple
-behindOf old new = cond (behind old new) new old
+unfoldable pub behind_of : Triple → Triple → Triple
+behind_of old new = cond (behind old new) new old
 
 -- what is saved of a sender: nothing yet, or the previous triple and those of the largest a − b + w and b − a + w
 pub data Saved : Type 0 where
@@ -72,7 +72,7 @@ pub data Saved : Type 0 where
 -- a new triple is saved
 unfoldable pub saving : Saved → Triple → Saved
 saving nothing new = three new new new
-saving (three previous a b) new = three new (ahead_of a new) (behindOf b new)
+saving (three previous a b) new = three new (ahead_of a new) (behind_of b new)
 
 -- a new triple violates test (20) against one that is saved
 unfoldable pub violates : ℕ → Saved → Triple → Bool
@@ -80,16 +80,16 @@ violates drifts nothing new = false
 violates drifts (three previous a b) new = strays drifts previous new || (strays drifts a new || strays drifts b new)
 
 -- each number of what is saved is "below 2^43, and no order among them is tested"
-unfoldable pub savedOk : Saved → Bool
-savedOk nothing = true
-savedOk (three previous a b) = small previous && (small a && small b)
+unfoldable pub saved_ok : Saved → Bool
+saved_ok nothing = true
+saved_ok (three previous a b) = small previous && (small a && small b)
 
 -- ---- a receipt, with readings or without
 
 -- the sender's readings violate the test, where `own` is the own drift
-unfoldable pub violatedBy : ℕ → Saved → Readings → Bool
-violatedBy own s Without = false
-violatedBy own s (With t drift) = violates (own + drift) s t
+unfoldable pub violated_by : ℕ → Saved → Readings → Bool
+violated_by own s Without = false
+violated_by own s (With t drift) = violates (own + drift) s t
 
 -- what is saved of each name after a receipt from the sender
 unfoldable pub watched : Readings → ℕ → List Saved → List Saved
@@ -99,9 +99,9 @@ watched (With t drift) sender cs = set cs sender (saving (get_or cs sender nothi
 -- ---- the same of all triples that a sender has given, oldest first
 
 -- what is saved after them
-unfoldable pub savedOf : Saved → List Triple → Saved
-savedOf s [] = s
-savedOf s (t ∷ ts) = savedOf (saving s t) ts
+unfoldable pub saved_of : Saved → List Triple → Saved
+saved_of s [] = s
+saved_of s (t ∷ ts) = saved_of (saving s t) ts
 
 -- t is the largest, "the earlier on a tie": larger than each before it, and none behind it is larger
 pub record FirstLargest (larger : Triple → Triple → Bool) (ts : List Triple) (t : Triple) : Type 0 where

@@ -3,46 +3,46 @@
 use Rattle.std.specs.Prelude.{ℕ, ◌+◌, Bool, ◌&&◌, cond, List, ◌++◌, replicate, eqb}
 use Rattle.numbers.specs.Numbers.{num, bytes}
 use Rattle.clocks.specs.declared.Triple.{Triple}
-use Rattle.clocks.specs.Clocks.{Saved, nothing, three, small, savedOk}
+use Rattle.clocks.specs.Clocks.{Saved, nothing, three, small, saved_ok}
 
 -- how many bytes a triple and a place have
-abbrev pub tripleSize : ℕ
-tripleSize = 24
+abbrev pub triple_size : ℕ
+triple_size = 24
 
-abbrev pub placeSize : ℕ
-placeSize = 76
+abbrev pub place_size : ℕ
+place_size = 76
 
 -- in a place: where the previous triple stands, and those with the largest a − b + w and b − a + w
-abbrev pub previousIn : ℕ
-previousIn = 4
+abbrev pub previous_in : ℕ
+previous_in = 4
 
-abbrev pub aheadIn : ℕ
-aheadIn = 28
+abbrev pub ahead_in : ℕ
+ahead_in = 28
 
-abbrev pub behindIn : ℕ
-behindIn = 52
+abbrev pub behind_in : ℕ
+behind_in = 52
 
 -- ---- writing
 
 -- "each a, b, w in 8-byte numbers"
-unfoldable pub tripleBytes : Triple → List ℕ
-tripleBytes t = bytes 8 t.there ++ (bytes 8 t.here ++ bytes 8 t.half)
+unfoldable pub triple_bytes : Triple → List ℕ
+triple_bytes t = bytes 8 t.there ++ (bytes 8 t.here ++ bytes 8 t.half)
 
 -- "a 4-byte flag, 0, or 1 once saved, and the three triples in the order named"; what is unused is zero
-unfoldable pub savedBytes : Saved → List ℕ
-savedBytes nothing = replicate placeSize 0
-savedBytes (three previous ahead behind) = bytes 4 1 ++ (tripleBytes previous ++ (tripleBytes ahead ++ tripleBytes behind))
+unfoldable pub saved_bytes : Saved → List ℕ
+saved_bytes nothing = replicate place_size 0
+saved_bytes (three previous ahead behind) = bytes 4 1 ++ (triple_bytes previous ++ (triple_bytes ahead ++ triple_bytes behind))
 
 -- ---- reading
 
-unfoldable pub tripleAt : ℕ → List ℕ → Triple
-tripleAt at s = record { there = num at 8 s; here = num (at + 8) 8 s; half = num (at + 16) 8 s }
+unfoldable pub triple_at : ℕ → List ℕ → Triple
+triple_at at s = record { there = num at 8 s; here = num (at + 8) 8 s; half = num (at + 16) 8 s }
 
-unfoldable pub threeAt : ℕ → List ℕ → Saved
-threeAt at s = three (tripleAt (at + previousIn) s) (tripleAt (at + aheadIn) s) (tripleAt (at + behindIn) s)
+unfoldable pub three_at : ℕ → List ℕ → Saved
+three_at at s = three (triple_at (at + previous_in) s) (triple_at (at + ahead_in) s) (triple_at (at + behind_in) s)
 
 unfoldable pub saved_at : ℕ → List ℕ → Saved
-saved_at at s = cond (eqb (num at 4 s) 0) nothing (threeAt at s)
+saved_at at s = cond (eqb (num at 4 s) 0) nothing (three_at at s)
 
 -- ---- in form
 
@@ -51,9 +51,9 @@ abbrev pub blank : Triple → Bool
 blank t = eqb t.there 0 && (eqb t.here 0 && eqb t.half 0)
 
 -- each number of the place's three triples is zero
-unfoldable pub blankAt : ℕ → List ℕ → Bool
-blankAt at s = blank (tripleAt (at + previousIn) s) && (blank (tripleAt (at + aheadIn) s) && blank (tripleAt (at + behindIn) s))
+unfoldable pub blank_at : ℕ → List ℕ → Bool
+blank_at at s = blank (triple_at (at + previous_in) s) && (blank (triple_at (at + ahead_in) s) && blank (triple_at (at + behind_in) s))
 
 -- "0, or 1 once saved", "in form each is below 2^43, and no order among them is tested"; "zeros in all that is unused"
-unfoldable pub placeFits : ℕ → List ℕ → Bool
-placeFits at s = cond (eqb (num at 4 s) 0) (blankAt at s) (eqb (num at 4 s) 1 && savedOk (threeAt at s))
+unfoldable pub place_fits : ℕ → List ℕ → Bool
+place_fits at s = cond (eqb (num at 4 s) 0) (blank_at at s) (eqb (num at 4 s) 1 && saved_ok (three_at at s))

@@ -1,10 +1,10 @@
 // The sender's clock (document 02, W-201; document 002, 3.3.2): what a monitor saves of a sender's clock readings, and the test that finds a clock
 // that has jumped. Every function here is proved, and the crate assumes nothing of its own.
 ghost use Rattle.std.specs.Prelude.{◌≡◌, ◌+◌, ◌*◌, ◌≤◌, ◌<◌};
-ghost use Rattle.clocks.specs.Clocks.{apart as Clocks·apart, strays as Clocks·strays, fails as Clocks·fails};
-ghost use Rattle.clocks.specs.Clocks.{ahead as Clocks·ahead, behind as Clocks·behind, three, violates as Clocks·violates};
-ghost use Rattle.clocks.specs.Clocks.{ahead_of, behindOf, Fits, tripleLimit, readingsFail};
-ghost use Rattle.clocks.specs.code.Drifts.{driftsMost};
+ghost use Rattle.clocks.specs.Clocks.{apart, strays, fails};
+ghost use Rattle.clocks.specs.Clocks.{ahead as the_ahead, behind as the_behind, three, violates};
+ghost use Rattle.clocks.specs.Clocks.{ahead_of, behind_of, Fits, triple_limit, readings_fail};
+ghost use Rattle.clocks.specs.code.Drifts.{drifts_most};
 
 pub mod place;
 
@@ -30,7 +30,7 @@ pub const DRIFT_MOST: u32 = 1_000;
 
 // Whether readings cannot be taken: a number at 2^43 or more, or a drift above 1,000.
 pub fn fails(t: Triple, drift: u32) -> bool
-    ensures { result ≡ Clocks·fails t drift }
+    ensures { result ≡ fails t drift }
 {
     (TRIPLE_LIMIT <= t.there)
         | ((TRIPLE_LIMIT <= t.here) | ((TRIPLE_LIMIT <= t.half) | (DRIFT_MOST < drift)))
@@ -38,7 +38,7 @@ pub fn fails(t: Triple, drift: u32) -> bool
 
 // The same of what the host gives with a receipt.
 pub fn readings_fail(readings: Readings) -> bool
-    ensures { result ≡ readingsFail readings }
+    ensures { result ≡ readings_fail readings }
 {
     match readings {
         Readings::Without => false,
@@ -48,7 +48,7 @@ pub fn readings_fail(readings: Readings) -> bool
 
 // The distance of two numbers.
 fn apart(x: u64, y: u64) -> u64
-    ensures { result ≡ Clocks·apart x y }
+    ensures { result ≡ apart x y }
 {
     if x < y {
         return y - x;
@@ -59,7 +59,7 @@ fn apart(x: u64, y: u64) -> u64
 // How far two clocks of these drifts, added, can be off each other after `gap`, where their readings are within these half widths, added: in
 // millionths of a microsecond. It needs all of 64 bits.
 fn bound(drifts: u64, gap: u64, halves: u64) -> u64
-    requires { (drifts ≤ driftsMost) × (gap < tripleLimit) × (halves < tripleLimit + tripleLimit) }
+    requires { (drifts ≤ drifts_most) × (gap < triple_limit) × (halves < triple_limit + triple_limit) }
     ensures { result ≡ drifts * gap + 1_000_000 * halves }
 {
     drifts * gap + 1_000_000 * halves
@@ -67,8 +67,8 @@ fn bound(drifts: u64, gap: u64, halves: u64) -> u64
 
 // Test (20) between a saved triple and a new one: whether they are further off each other than two clocks of these drifts, added, can be.
 fn strays(drifts: u64, old: Triple, new: Triple) -> bool
-    requires { (drifts ≤ driftsMost) × Fits old × Fits new }
-    ensures { result ≡ Clocks·strays drifts old new }
+    requires { (drifts ≤ drifts_most) × Fits old × Fits new }
+    ensures { result ≡ strays drifts old new }
 {
     let passed = apart(old.here, new.here);
     let off = apart(passed + old.there, new.there);
@@ -79,7 +79,7 @@ fn strays(drifts: u64, old: Triple, new: Triple) -> bool
 // Whether the new triple has a larger a − b + w than the old one: compared without a difference, which could lie below 0.
 fn ahead(old: Triple, new: Triple) -> bool
     requires { Fits old × Fits new }
-    ensures { result ≡ Clocks·ahead old new }
+    ensures { result ≡ the_ahead old new }
 {
     old.there + old.half + new.here < new.there + new.half + old.here
 }
@@ -87,7 +87,7 @@ fn ahead(old: Triple, new: Triple) -> bool
 // Whether the new triple has a larger b − a + w than the old one.
 fn behind(old: Triple, new: Triple) -> bool
     requires { Fits old × Fits new }
-    ensures { result ≡ Clocks·behind old new }
+    ensures { result ≡ the_behind old new }
 {
     old.here + old.half + new.there < new.here + new.half + old.there
 }
@@ -106,7 +106,7 @@ pub fn further_ahead(old: Triple, new: Triple) -> Triple
 // The one of two triples, the old one first, that has the larger b − a + w; the old one where they are equal.
 pub fn further_behind(old: Triple, new: Triple) -> Triple
     requires { Fits old × Fits new }
-    ensures { result ≡ behindOf old new }
+    ensures { result ≡ behind_of old new }
 {
     if behind(old, new) {
         return new;
@@ -116,8 +116,8 @@ pub fn further_behind(old: Triple, new: Triple) -> Triple
 
 // Whether a new triple strays from one of the three that are saved, where own and sender's drift are added.
 pub fn violates(drifts: u64, previous: Triple, ahead: Triple, behind: Triple, new: Triple) -> bool
-    requires { (drifts ≤ driftsMost) × Fits previous × Fits ahead × Fits behind × Fits new }
-    ensures { result ≡ Clocks·violates drifts (three previous ahead behind) new }
+    requires { (drifts ≤ drifts_most) × Fits previous × Fits ahead × Fits behind × Fits new }
+    ensures { result ≡ violates drifts (three previous ahead behind) new }
 {
     strays(drifts, previous, new) | (strays(drifts, ahead, new) | strays(drifts, behind, new))
 }

@@ -1,8 +1,8 @@
 // The bytes of one sender's place (document 02, W-201): its form, the test of new readings against what is saved there, and saving them.
 ghost use Rattle.std.specs.Prelude.{◌≡◌, ◌+◌, ◌≤◌, T, eqb, ltb, length};
 ghost use Rattle.numbers.specs.Numbers.{put};
-ghost use Rattle.clocks.specs.Clocks.{Fits, tripleLimit, driftMost, three, small, savedOk, violates, saving};
-ghost use Rattle.clocks.specs.Places.{tripleSize, placeSize, tripleBytes, savedBytes, tripleAt, threeAt, saved_at, blank, blankAt, placeFits};
+ghost use Rattle.clocks.specs.Clocks.{Fits, triple_limit, drift_most, three, small, saved_ok, violates, saving};
+ghost use Rattle.clocks.specs.Places.{triple_size, place_size, triple_bytes, saved_bytes, triple_at, three_at, saved_at, blank, blank_at, place_fits};
 
 use super::Triple;
 
@@ -17,16 +17,16 @@ const BEHIND_IN: usize = 52;
 
 // The numbers of the triple at `at` or-ed together: zero where each is zero, and below 2^43 where each is.
 fn bits(s: &[u8], at: usize) -> u64
-    requires { at + tripleSize ≤ length s.now }
-    ensures { (eqb result 0 ≡ blank (tripleAt at s.now)) × (ltb result tripleLimit ≡ small (tripleAt at s.now)) }
+    requires { at + triple_size ≤ length s.now }
+    ensures { (eqb result 0 ≡ blank (triple_at at s.now)) × (ltb result triple_limit ≡ small (triple_at at s.now)) }
 {
     numbers::get64(s, at) | (numbers::get64(s, at + 8) | numbers::get64(s, at + 16))
 }
 
 // The same of the place's three triples.
 fn all_bits(s: &[u8], at: usize) -> u64
-    requires { at + placeSize ≤ length s.now }
-    ensures { (eqb result 0 ≡ blankAt at s.now) × (ltb result tripleLimit ≡ savedOk (threeAt at s.now)) }
+    requires { at + place_size ≤ length s.now }
+    ensures { (eqb result 0 ≡ blank_at at s.now) × (ltb result triple_limit ≡ saved_ok (three_at at s.now)) }
 {
     bits(s, at + PREVIOUS_IN) | (bits(s, at + AHEAD_IN) | bits(s, at + BEHIND_IN))
 }
@@ -34,8 +34,8 @@ fn all_bits(s: &[u8], at: usize) -> u64
 // Whether the place at `at` is in form: nothing saved and all zero, or three triples of numbers below 2^43. The numbers are read behind the
 // test of the flag: so the compiler reads two at a time.
 pub fn fits(s: &[u8], at: usize) -> bool
-    requires { at + placeSize ≤ length s.now }
-    ensures { result ≡ placeFits at s.now }
+    requires { at + place_size ≤ length s.now }
+    ensures { result ≡ place_fits at s.now }
 {
     let flag = numbers::get32(s, at);
     if flag == 0 {
@@ -46,8 +46,8 @@ pub fn fits(s: &[u8], at: usize) -> bool
 
 // Reads the triple at `at`.
 fn get_triple(s: &[u8], at: usize) -> Triple
-    requires { at + tripleSize ≤ length s.now }
-    ensures { result ≡ tripleAt at s.now }
+    requires { at + triple_size ≤ length s.now }
+    ensures { result ≡ triple_at at s.now }
 {
     Triple {
         there: numbers::get64(s, at),
@@ -58,8 +58,8 @@ fn get_triple(s: &[u8], at: usize) -> Triple
 
 // Writes a triple to the place at `at`.
 fn put_triple(s: &mut [u8], at: usize, t: Triple)
-    requires { at + tripleSize ≤ length s.old }
-    ensures { s.new ≡ put at (tripleBytes t) s.old }
+    requires { at + triple_size ≤ length s.old }
+    ensures { s.new ≡ put at (triple_bytes t) s.old }
 {
     numbers::put64(s, at, t.there);
     numbers::put64(s, at + 8, t.here);
@@ -68,7 +68,7 @@ fn put_triple(s: &mut [u8], at: usize, t: Triple)
 
 // Whether a new triple violates test (20) against one that is saved at `at`, where own and sender's drift are given.
 pub fn violated(s: &[u8], at: usize, own: u32, drift: u32, new: Triple) -> bool
-    requires { (at + placeSize ≤ length s.now) × T (placeFits at s.now) × (own ≤ driftMost) × (drift ≤ driftMost) × Fits new }
+    requires { (at + place_size ≤ length s.now) × T (place_fits at s.now) × (own ≤ drift_most) × (drift ≤ drift_most) × Fits new }
     ensures { result ≡ violates (own + drift) (saved_at at s.now) new }
 {
     if numbers::get32(s, at) == 0 {
@@ -82,8 +82,8 @@ pub fn violated(s: &[u8], at: usize, own: u32, drift: u32, new: Triple) -> bool
 
 // Writes a place in which three triples are saved.
 fn put_three(s: &mut [u8], at: usize, previous: Triple, ahead: Triple, behind: Triple)
-    requires { at + placeSize ≤ length s.old }
-    ensures { s.new ≡ put at (savedBytes (three previous ahead behind)) s.old }
+    requires { at + place_size ≤ length s.old }
+    ensures { s.new ≡ put at (saved_bytes (three previous ahead behind)) s.old }
 {
     numbers::put32(s, at, 1);
     put_triple(s, at + PREVIOUS_IN, previous);
@@ -93,8 +93,8 @@ fn put_three(s: &mut [u8], at: usize, previous: Triple, ahead: Triple, behind: T
 
 // Saves a new triple in the place at `at`.
 pub fn save(s: &mut [u8], at: usize, new: Triple)
-    requires { (at + placeSize ≤ length s.old) × T (placeFits at s.old) × Fits new }
-    ensures { s.new ≡ put at (savedBytes (saving (saved_at at s.old) new)) s.old }
+    requires { (at + place_size ≤ length s.old) × T (place_fits at s.old) × Fits new }
+    ensures { s.new ≡ put at (saved_bytes (saving (saved_at at s.old) new)) s.old }
 {
     if numbers::get32(s, at) == 0 {
         put_three(s, at, new, new, new);

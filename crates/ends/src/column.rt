@@ -1,7 +1,7 @@
 // Ends in a column: a flat array with two numbers for each.
 ghost use Rattle.std.specs.Prelude.{◌≡◌, ◌+◌, ◌*◌, ◌<◌, length};
 ghost use Rattle.ends.specs.Ends.{count_of, Split, BothSplit};
-ghost use Rattle.ends.specs.code.Columns.{end_in, withEnd, AllSplit};
+ghost use Rattle.ends.specs.code.Columns.{end_in, with_end, AllSplit};
 
 use super::{End, Ends};
 
@@ -30,7 +30,7 @@ pub fn both(lefts: &[u64], rights: &[u64], i: usize) -> Ends
 // Makes e the end i of a column.
 pub fn put(column: &mut [u64], i: usize, e: End)
     requires { i * 2 + 1 < length column.old }
-    ensures { column.new ≡ withEnd column.old i e }
+    ensures { column.new ≡ with_end column.old i e }
 {
     column[i * 2] = e.whole;
     column[i * 2 + 1] = e.millionths;

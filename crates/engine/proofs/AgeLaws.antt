@@ -12,22 +12,22 @@ use lib.Dec.{T, leb, ltb, ltb→lt}
 use Rattle.predicates.specs.Lists.{any, all, all_below}
 use Rattle.numbers.specs.Numbers.{num, tab}
 use Rattle.ends.specs.Ends.{million, count}
-use Rattle.state.specs.Model.{Datum, Store, endLimit, readingLimit}
-use Rattle.clocks.specs.Clocks.{driftMost}
-use Rattle.state.specs.Layout.{datumAt, heldCount, head_of, store_of, state_of, driftAt, readingAt}
-use Rattle.state.specs.Form.{inForm}
+use Rattle.state.specs.Model.{Datum, Store, end_limit, reading_limit}
+use Rattle.clocks.specs.Clocks.{drift_most}
+use Rattle.state.specs.Layout.{datum_at, held_count, head_of, store_of, state_of, drift_at, reading_at}
+use Rattle.state.specs.Form.{in_form}
 use Rattle.predicates.proofs.IndexLaws.{below_out}
-use Rattle.state.proofs.StateLaws.{state-out, form-ok}
-use Rattle.engine.specs.Ageing.{leastAdvance, greatestAdvance, slow, fast, widened, aged}
-use Rattle.engine.specs.Refusals.{ageRefusal}
-use Rattle.engine.proofs.EndLaws.{ages-right}
-use Rattle.engine.specs.code.Ageing.{staysBelow}
+use Rattle.state.proofs.StateLaws.{state_out, form_ok}
+use Rattle.engine.specs.Ageing.{least_advance, greatest_advance, slow, fast, widened, aged}
+use Rattle.engine.specs.Refusals.{age_refusal}
+use Rattle.engine.proofs.EndLaws.{ages_right}
+use Rattle.engine.specs.code.Ageing.{stays_below}
 
 -- ---- the drift
 
 -- d × r by the quotient and the remainder of d
-pub drift-split : (r d : ℕ) → count (d / million * r + d % million * r / million) (d % million * r % million) ≡ d * r
-drift-split r d =
+pub drift_split : (r d : ℕ) → count (d / million * r + d % million * r / million) (d % million * r % million) ≡ d * r
+drift_split r d =
     let q = d / million in
     let m = d % million in
     let e : d * r ≡ m * r + q * million * r = ap (λ (x : ℕ). x * r) (sym (mod-add-div' d million)) ∙ add-mul m (q * million) r in
@@ -36,14 +36,14 @@ drift-split r d =
     omega arith
 
 -- d × (1,000,000 − r) and d × (1,000,000 + r)
-pub least-drift : (r d : ℕ) → r ≤ driftMost → leastAdvance r d + d * r ≡ d * million
-unfolding leastAdvance
+pub least-drift : (r d : ℕ) → r ≤ drift_most → least_advance r d + d * r ≡ d * million
+unfolding least_advance
 least-drift r d h =
     let e : (million - r) + r ≡ million = omega arith in
     sym (mul-add d (million - r) r) ∙ ap (λ (x : ℕ). d * x) e
 
-pub greatest-drift : (r d : ℕ) → greatestAdvance r d ≡ d * million + d * r
-unfolding greatestAdvance
+pub greatest-drift : (r d : ℕ) → greatest_advance r d ≡ d * million + d * r
+unfolding greatest_advance
 greatest-drift r d = mul-add d million r
 
 -- ---- the right ends
@@ -60,70 +60,70 @@ module _ {A : Type 0} (f : A → Bool) where
   all-tab-below (suc n) g = rw (all-last (tab n g) (g n), all-tab-below n g)
 
 -- the loop's test of place i
-abbrev pub staysAt : ℕ → List ℕ → ℕ → Bool
-staysAt hi s i = ltb ((datumAt s i).right + hi) endLimit
+abbrev pub stays_at : ℕ → List ℕ → ℕ → Bool
+stays_at hi s i = ltb ((datum_at s i).right + hi) end_limit
 
-pub stays-below : (hi : ℕ) (s : List ℕ) → staysBelow hi (store_of s) ≡ all_below (heldCount s) (staysAt hi s)
-unfolding staysBelow store_of
-stays-below hi s = all-tab-below (λ d. ltb (d.right + hi) endLimit) (heldCount s) (datumAt s)
+pub stays_below_lem : (hi : ℕ) (s : List ℕ) → stays_below hi (store_of s) ≡ all_below (held_count s) (stays_at hi s)
+unfolding stays_below store_of
+stays_below_lem hi s = all-tab-below (λ d. ltb (d.right + hi) end_limit) (held_count s) (datum_at s)
 
-pub stays_out : (hi : ℕ) (s : List ℕ) (i : ℕ) → T (staysBelow hi (store_of s)) → i < heldCount s → (datumAt s i).right + hi < endLimit
-stays_out hi s i t h = ltb→lt _ endLimit (below_out (heldCount s) (staysAt hi s) (rw stays-below at t) i h)
+pub stays_out : (hi : ℕ) (s : List ℕ) (i : ℕ) → T (stays_below hi (store_of s)) → i < held_count s → (datum_at s i).right + hi < end_limit
+stays_out hi s i t h = ltb→lt _ end_limit (below_out (held_count s) (stays_at hi s) (rw stays_below_lem at t) i h)
 
 -- one of two tests holds
-leb-not : (m n : ℕ) (b : Bool) → ltb n m ≡ b → leb m n ≡ not b
-leb-not m n true e = lt-leb m n (ltb-true n m e)
-leb-not m n false e = le-leb m n (ltb-false n m e)
+leb_not : (m n : ℕ) (b : Bool) → ltb n m ≡ b → leb m n ≡ not b
+leb_not m n true e = lt-leb m n (ltb-true n m e)
+leb_not m n false e = le-leb m n (ltb-false n m e)
 
-or-not : (a b : Bool) → not a || not b ≡ not (a && b)
-or-not true b = refl
-or-not false b = refl
+or_not : (a b : Bool) → not a || not b ≡ not (a && b)
+or_not true b = refl
+or_not false b = refl
 
 -- "30 an end would pass 2^58 − 1"
-passes-stays : (lo hi : ℕ) (k : Store) → any (λ d. leb endLimit d.right) (aged lo hi k).held ≡ not (staysBelow hi k)
-unfolding aged widened staysBelow
-passes-stays lo hi k = go k.held
+passes_stays : (lo hi : ℕ) (k : Store) → any (λ d. leb end_limit d.right) (aged lo hi k).held ≡ not (stays_below hi k)
+unfolding aged widened stays_below
+passes_stays lo hi k = go k.held
   where
-    go : (ds : List Datum) → any (λ d. leb endLimit d.right) (map (widened lo hi) ds) ≡ not (all (λ d. ltb (d.right + hi) endLimit) ds)
+    go : (ds : List Datum) → any (λ d. leb end_limit d.right) (map (widened lo hi) ds) ≡ not (all (λ d. ltb (d.right + hi) end_limit) ds)
     go [] = refl
-    go (d ∷ ds) = rw (leb-not endLimit (d.right + hi) (ltb (d.right + hi) endLimit) refl, go ds) (or-not (ltb (d.right + hi) endLimit) (all (λ e. ltb (e.right + hi) endLimit) ds))
+    go (d ∷ ds) = rw (leb_not end_limit (d.right + hi) (ltb (d.right + hi) end_limit) refl, go ds) (or_not (ltb (d.right + hi) end_limit) (all (λ e. ltb (e.right + hi) end_limit) ds))
 
 -- ---- the refusals
 
-pub age-early : (s : List ℕ) (reading : ℕ) → readingLimit ≤ reading → ageRefusal (state_of s) reading ≡ 3
-unfolding ageRefusal
-age-early s reading h = rw (le-leb readingLimit reading h)
+pub age_early : (s : List ℕ) (reading : ℕ) → reading_limit ≤ reading → age_refusal (state_of s) reading ≡ 3
+unfolding age_refusal
+age_early s reading h = rw (le-leb reading_limit reading h)
 
-pub age-back : (s : List ℕ) (reading last : ℕ) → last ≡ num readingAt 8 s → reading < readingLimit → reading < last → ageRefusal (state_of s) reading ≡ 20
-unfolding ageRefusal state_of head_of
-age-back s reading last e h k = rw (lt-leb readingLimit reading h, ← e, lt-ltb reading last k)
+pub age_back : (s : List ℕ) (reading last : ℕ) → last ≡ num reading_at 8 s → reading < reading_limit → reading < last → age_refusal (state_of s) reading ≡ 20
+unfolding age_refusal state_of head_of
+age_back s reading last e h k = rw (lt-leb reading_limit reading h, ← e, lt-ltb reading last k)
 
 -- the drift that the state holds
-pub drift-held : (s : List ℕ) → T (inForm s) → num driftAt 4 s ≤ driftMost
+pub drift-held : (s : List ℕ) → T (in_form s) → num drift_at 4 s ≤ drift_most
 unfolding state_of head_of
-drift-held s t = (state-out (state_of s) (form-ok s t)).drift-le
+drift-held s t = (state_out (state_of s) (form_ok s t)).drift-le
 
 -- the code's words for what passed: the last reading, the drift, and both advances
-module _ (s : List ℕ) (reading last drift : ℕ) (at_last : last ≡ num readingAt 8 s) (at-drift : drift ≡ num driftAt 4 s) where
-  slow-code : leastAdvance drift (reading - last) ≡ slow (head_of s) reading
+module _ (s : List ℕ) (reading last drift : ℕ) (at_last : last ≡ num reading_at 8 s) (at_drift : drift ≡ num drift_at 4 s) where
+  slow_code : least_advance drift (reading - last) ≡ slow (head_of s) reading
   unfolding slow head_of
-  slow-code = rw (at_last, at-drift)
+  slow_code = rw (at_last, at_drift)
 
-  fast-code : greatestAdvance drift (reading - last) ≡ fast (head_of s) reading
+  fast_code : greatest_advance drift (reading - last) ≡ fast (head_of s) reading
   unfolding fast head_of
-  fast-code = rw (at_last, at-drift)
+  fast_code = rw (at_last, at_drift)
 
-  pub aged-code : (lo hi : ℕ) (k : Store) → lo ≡ leastAdvance drift (reading - last) → hi ≡ greatestAdvance drift (reading - last)
+  pub aged_code : (lo hi : ℕ) (k : Store) → lo ≡ least_advance drift (reading - last) → hi ≡ greatest_advance drift (reading - last)
       → aged lo hi k ≡ aged (slow (head_of s) reading) (fast (head_of s) reading) k
-  aged-code lo hi k e f = rw (e, f, slow-code, fast-code)
+  aged_code lo hi k e f = rw (e, f, slow_code, fast_code)
 
   -- the last of the tests decides
-  pub age-tests : T (inForm s) → (hi : ℕ) (b : Bool) → hi ≡ greatestAdvance drift (reading - last) → reading < readingLimit → last ≤ reading → b ≡ staysBelow hi (store_of s)
-      → ageRefusal (state_of s) reading ≡ cond b 0 30
-  unfolding ageRefusal state_of head_of
+  pub age-tests : T (in_form s) → (hi : ℕ) (b : Bool) → hi ≡ greatest_advance drift (reading - last) → reading < reading_limit → last ≤ reading → b ≡ stays_below hi (store_of s)
+      → age_refusal (state_of s) reading ≡ cond b 0 30
+  unfolding age_refusal state_of head_of
   age-tests t hi b f h k e =
-      let later : ltb reading (num readingAt 8 s) ≡ false = rw at_last at (le-ltb reading last k) in
-      rw (lt-leb readingLimit reading h, later, ages-right (state_of s) reading (form-ok s t), passes-stays (slow (head_of s) reading) (fast (head_of s) reading) (store_of s), ← fast-code, ← f, ← e)
+      let later : ltb reading (num reading_at 8 s) ≡ false = rw at_last at (le-ltb reading last k) in
+      rw (lt-leb reading_limit reading h, later, ages_right (state_of s) reading (form_ok s t), passes_stays (slow (head_of s) reading) (fast (head_of s) reading) (store_of s), ← fast_code, ← f, ← e)
       (turned b)
     where
       turned : (a : Bool) → ◌≡◌ {A = ℕ} (cond (not a) 30 0) (cond a 0 30)

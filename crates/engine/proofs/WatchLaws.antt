@@ -13,14 +13,14 @@ use Rattle.predicates.proofs.IndexLaws.{all_get_d}
 use Rattle.clocks.specs.declared.Triple.{Triple}
 use Rattle.clocks.specs.declared.Readings.{Readings}
 use Rattle.clocks.specs.declared.Readings.TheVariants.{Without, With}
-use Rattle.clocks.specs.Clocks.{Fits, driftMost, Saved, nothing, savedOk, saving, violates, readingsFail, violatedBy, watched}
-use Rattle.clocks.specs.Places.{savedBytes, saved_at}
-use Rattle.clocks.proofs.PlaceLaws.{saving-ok, small-out, fails-small}
-use Rattle.state.specs.Model.{withClocks}
-use Rattle.state.specs.Layout.{stateSize, driftAt, clocksMost, clockPlace, stateBytes, head_of, store_of, state_of}
-use Rattle.state.specs.Form.{inForm}
-use Rattle.state.proofs.StateLaws.{form-ok, put-state-same, place-put, clock-read}
-use Rattle.engine.specs.Calls.{clockOf}
+use Rattle.clocks.specs.Clocks.{Fits, drift_most, Saved, nothing, saved_ok, saving, violates, readings_fail, violated_by, watched}
+use Rattle.clocks.specs.Places.{saved_bytes, saved_at}
+use Rattle.clocks.proofs.PlaceLaws.{saving_ok, small_out, fails-small}
+use Rattle.state.specs.Model.{with_clocks}
+use Rattle.state.specs.Layout.{state_size, drift_at, clocks_most, clock_place, state_bytes, head_of, store_of, state_of}
+use Rattle.state.specs.Form.{in_form}
+use Rattle.state.proofs.StateLaws.{form_ok, put-state-same, place-put, clock_read}
+use Rattle.engine.specs.Calls.{clock_of}
 
 pub all_set : {A : Type 0} (f : A → Bool) (l : List A) (i : ℕ) (v : A) → T (all f l) → T (f v) → T (all f (set l i v))
 all_set f [] i v t h = tt
@@ -32,62 +32,62 @@ unfolding watched
 length-watched Without sender cs = refl
 length-watched (With t drift) sender cs = length-set cs sender (saving (get_or cs sender nothing) t)
 
-pub watched-ok : (r : Readings) (sender : ℕ) (cs : List Saved) → T (not (readingsFail r)) → sender < length cs → T (all savedOk cs)
-    → T (all savedOk (watched r sender cs))
-unfolding readingsFail watched
-watched-ok Without sender cs h l a = a
-watched-ok (With t drift) sender cs h l a =
-    all_set savedOk cs sender _ a (saving-ok (get_or cs sender nothing) t (all_get_d savedOk cs sender nothing a l) (fails-small t drift h).0)
+pub watched_ok : (r : Readings) (sender : ℕ) (cs : List Saved) → T (not (readings_fail r)) → sender < length cs → T (all saved_ok cs)
+    → T (all saved_ok (watched r sender cs))
+unfolding readings_fail watched
+watched_ok Without sender cs h l a = a
+watched_ok (With t drift) sender cs h l a =
+    all_set saved_ok cs sender _ a (saving_ok (get_or cs sender nothing) t (all_get_d saved_ok cs sender nothing a l) (fails-small t drift h).0)
 
 -- without readings
 pub watched-none : (r : Readings) (sender : ℕ) (cs : List Saved) → r ≡ Without → watched r sender cs ≡ cs
 unfolding watched
 watched-none r sender cs e = subst (λ (x : Readings). watched x sender cs ≡ cs) (sym e) refl
 
-pub violated-none : (own : ℕ) (v : Saved) (r : Readings) → r ≡ Without → violatedBy own v r ≡ false
-unfolding violatedBy
-violated-none own v r e = subst (λ (x : Readings). violatedBy own v x ≡ false) (sym e) refl
+pub violated-none : (own : ℕ) (v : Saved) (r : Readings) → r ≡ Without → violated_by own v r ≡ false
+unfolding violated_by
+violated-none own v r e = subst (λ (x : Readings). violated_by own v x ≡ false) (sym e) refl
 
 -- of a clock of which nothing is saved
-pub none-saved : (own : ℕ) (r : Readings) → violatedBy own nothing r ≡ false
-unfolding violatedBy violates
+pub none-saved : (own : ℕ) (r : Readings) → violated_by own nothing r ≡ false
+unfolding violated_by violates
 none-saved own Without = refl
 none-saved own (With t drift) = refl
 
 -- one place, stored in a state in form
-pub place-saved : (s : List ℕ) → T (inForm s) → Bytes s → stateSize ≤ length s → (i : ℕ) (v : Saved) → i < clocksMost
-    → put (clockPlace i) (savedBytes v) s ≡ put 0 (stateBytes (record { head = withClocks (head_of s) (set (head_of s).clocks i v); store = store_of s })) s
+pub place-saved : (s : List ℕ) → T (in_form s) → Bytes s → state_size ≤ length s → (i : ℕ) (v : Saved) → i < clocks_most
+    → put (clock_place i) (saved_bytes v) s ≡ put 0 (state_bytes (record { head = with_clocks (head_of s) (set (head_of s).clocks i v); store = store_of s })) s
 unfolding state_of
 place-saved s f b h i v l =
-    ap (λ (u : List ℕ). put (clockPlace i) (savedBytes v) u) (sym (put-state-same s f b h)) ∙ place-put (state_of s) s (form-ok s f) h i v l
+    ap (λ (u : List ℕ). put (clock_place i) (saved_bytes v) u) (sym (put-state-same s f b h)) ∙ place-put (state_of s) s (form_ok s f) h i v l
 
 -- ---- readings that a call was given
 
 -- they fit
-pub with-fits : (r : Readings) (t : Triple) (drift : ℕ) → r ≡ With t drift → T (not (readingsFail r)) → Fits t × (drift ≤ driftMost)
-unfolding readingsFail
-with-fits r t drift e h =
-    let k = fails-small t drift (subst (λ (x : Readings). T (not (readingsFail x))) e h) in (small-out t k.0, k.1)
+pub with_fits : (r : Readings) (t : Triple) (drift : ℕ) → r ≡ With t drift → T (not (readings_fail r)) → Fits t × (drift ≤ drift_most)
+unfolding readings_fail
+with_fits r t drift e h =
+    let k = fails-small t drift (subst (λ (x : Readings). T (not (readings_fail x))) e h) in (small_out t k.0, k.1)
 
 -- tested against the sender's place
-pub with-violated : (s : List ℕ) (sender : ℕ) (r : Readings) (t : Triple) (drift own : ℕ) → sender < clocksMost → r ≡ With t drift → own ≡ num driftAt 4 s
-    → violates (own + drift) (saved_at (clockPlace sender) s) t ≡ violatedBy (head_of s).drift (clockOf (head_of s) sender) r
-unfolding violatedBy head_of
-with-violated s sender r t drift own l e d =
-    subst (λ (x : Readings). violates (own + drift) (saved_at (clockPlace sender) s) t ≡ violatedBy (head_of s).drift (clockOf (head_of s) sender) x) (sym e)
-    (rw (d, clock-read s sender l))
+pub with_violated : (s : List ℕ) (sender : ℕ) (r : Readings) (t : Triple) (drift own : ℕ) → sender < clocks_most → r ≡ With t drift → own ≡ num drift_at 4 s
+    → violates (own + drift) (saved_at (clock_place sender) s) t ≡ violated_by (head_of s).drift (clock_of (head_of s) sender) r
+unfolding violated_by head_of
+with_violated s sender r t drift own l e d =
+    subst (λ (x : Readings). violates (own + drift) (saved_at (clock_place sender) s) t ≡ violated_by (head_of s).drift (clock_of (head_of s) sender) x) (sym e)
+    (rw (d, clock_read s sender l))
 
 -- saved in the sender's place
-pub with-saved : (s u : List ℕ) (sender : ℕ) (r : Readings) (t : Triple) (drift : ℕ) → T (inForm s) → Bytes s → stateSize ≤ length s → sender < clocksMost
-    → r ≡ With t drift → u ≡ put (clockPlace sender) (savedBytes (saving (saved_at (clockPlace sender) s) t)) s
-    → u ≡ put 0 (stateBytes (record { head = withClocks (head_of s) (watched r sender (head_of s).clocks); store = store_of s })) s
+pub with_saved : (s u : List ℕ) (sender : ℕ) (r : Readings) (t : Triple) (drift : ℕ) → T (in_form s) → Bytes s → state_size ≤ length s → sender < clocks_most
+    → r ≡ With t drift → u ≡ put (clock_place sender) (saved_bytes (saving (saved_at (clock_place sender) s) t)) s
+    → u ≡ put 0 (state_bytes (record { head = with_clocks (head_of s) (watched r sender (head_of s).clocks); store = store_of s })) s
 unfolding watched
-with-saved s u sender r t drift f b h l e p =
-    subst (λ (x : Readings). u ≡ put 0 (stateBytes (record { head = withClocks (head_of s) (watched x sender (head_of s).clocks); store = store_of s })) s) (sym e)
-    (p ∙ rw (← (clock-read s sender l)) (place-saved s f b h sender (saving (get_or (head_of s).clocks sender nothing) t) l))
+with_saved s u sender r t drift f b h l e p =
+    subst (λ (x : Readings). u ≡ put 0 (state_bytes (record { head = with_clocks (head_of s) (watched x sender (head_of s).clocks); store = store_of s })) s) (sym e)
+    (p ∙ rw (← (clock_read s sender l)) (place-saved s f b h sender (saving (get_or (head_of s).clocks sender nothing) t) l))
 
 -- nothing is saved without them
-pub without-saved : (s : List ℕ) (sender : ℕ) (r : Readings) → T (inForm s) → Bytes s → stateSize ≤ length s → r ≡ Without
-    → s ≡ put 0 (stateBytes (record { head = withClocks (head_of s) (watched r sender (head_of s).clocks); store = store_of s })) s
+pub without-saved : (s : List ℕ) (sender : ℕ) (r : Readings) → T (in_form s) → Bytes s → state_size ≤ length s → r ≡ Without
+    → s ≡ put 0 (state_bytes (record { head = with_clocks (head_of s) (watched r sender (head_of s).clocks); store = store_of s })) s
 unfolding state_of
 without-saved s sender r f b h e = rw (watched-none r sender (head_of s).clocks e) (sym (put-state-same s f b h))

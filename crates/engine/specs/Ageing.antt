@@ -5,19 +5,19 @@ use Rattle.state.specs.Model.{Datum, Head, Store}
 
 -- "With drift r parts per million and d local microseconds passed, true time advances by at least" d × (1,000,000 − r) millionths of a microsecond: "an
 -- advance is exact" (document 02, W-205)
-unfoldable pub leastAdvance : ℕ → ℕ → ℕ
-leastAdvance r d = d * (million - r)
+unfoldable pub least_advance : ℕ → ℕ → ℕ
+least_advance r d = d * (million - r)
 
 -- "and at most" d × (1,000,000 + r)
-unfoldable pub greatestAdvance : ℕ → ℕ → ℕ
-greatestAdvance r d = d * (million + r)
+unfoldable pub greatest_advance : ℕ → ℕ → ℕ
+greatest_advance r d = d * (million + r)
 
 -- the two advances of an ageing to a reading
 unfoldable pub slow : Head → ℕ → ℕ
-slow h reading = leastAdvance h.drift (reading - h.reading)
+slow h reading = least_advance h.drift (reading - h.reading)
 
 unfoldable pub fast : Head → ℕ → ℕ
-fast h reading = greatestAdvance h.drift (reading - h.reading)
+fast h reading = greatest_advance h.drift (reading - h.reading)
 
 -- "Every left end gains the first, every right end the second."
 unfoldable pub widened : ℕ → ℕ → Datum → Datum

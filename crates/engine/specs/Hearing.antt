@@ -8,20 +8,20 @@ use Rattle.clocks.specs.declared.Readings.{Readings}
 use Rattle.clocks.specs.declared.Readings.TheVariants.{Without}
 use Rattle.clocks.specs.Clocks.{Saved, nothing}
 use Rattle.state.specs.Model.{Datum, Head}
-use Rattle.steps.specs.Withdrawn.{withdrawnDatum}
+use Rattle.steps.specs.Withdrawn.{withdrawn_datum}
 use Rattle.engine.specs.Receiving.{Delivery, grown}
 
 -- the epochs that the message speaks of, by identifier; of one that it does not name, and of the own one, it is the known one
-unfoldable pub spokenBy : Head → Delivery → List ℕ
-spokenBy h g = spoken h.own g.names h.epochs
+unfoldable pub spoken_by : Head → Delivery → List ℕ
+spoken_by h g = spoken h.own g.names h.epochs
 
 -- the identifiers whose old names it withdraws: "An epoch above the one known withdraws the old name"
 unfoldable pub risen : Head → Delivery → ℕ
-risen h g = older h.epochs (spokenBy h g)
+risen h g = older h.epochs (spoken_by h g)
 
 -- the identifiers that it names under an older epoch
 unfoldable pub late : Head → Delivery → ℕ
-late h g = older (spokenBy h g) h.epochs
+late h g = older (spoken_by h g) h.epochs
 
 -- "a name's saved triples go with its old epoch"
 unfoldable pub cleared : ℕ → List Saved → List Saved
@@ -35,7 +35,7 @@ hearing h g =
       drift = h.drift;
       reading = h.reading;
       clocks = cleared (risen h g) h.clocks;
-      epochs = raised h.epochs (spokenBy h g);
+      epochs = raised h.epochs (spoken_by h g);
     }
 
 -- "an older sender's readings being neither tested nor saved"
@@ -44,4 +44,4 @@ heeded h g = cond (has g.sender (late h g)) Without g.readings
 
 -- the datum as it is received: "an older one counts as failed". The terms with the own identifier are struck before
 unfoldable pub arrived : Head → Delivery → Datum
-arrived h g = withdrawnDatum (late h g) (grown h g)
+arrived h g = withdrawn_datum (late h g) (grown h g)

@@ -5,7 +5,7 @@ use Rattle.predicates.specs.Predicates.{formed}
 use Rattle.clocks.specs.declared.Readings.{Readings}
 use Rattle.ends.specs.Ends.{million}
 use Rattle.state.specs.Model.{Datum, Head}
-use Rattle.engine.specs.Ageing.{leastAdvance, greatestAdvance}
+use Rattle.engine.specs.Ageing.{least_advance, greatest_advance}
 
 -- what a receipt is given: the channel's least and greatest delay on the receiver's clock, clock readings or none, and what the message says
 pub record Delivery : Type 0 where
@@ -30,7 +30,7 @@ delivery least greatest readings sender names left right terms =
 unfoldable pub grown : Head → Delivery → Datum
 grown h g =
     record {
-      left = g.left * million + leastAdvance h.drift g.least;
-      right = g.right * million + greatestAdvance h.drift g.greatest;
+      left = g.left * million + least_advance h.drift g.least;
+      right = g.right * million + greatest_advance h.drift g.greatest;
       terms = formed h.own g.sender g.terms;
     }

@@ -3,97 +3,97 @@
 -- Assumes nothing: these are definitions.
 use Rattle.std.specs.Prelude.{ℕ, Bool, ◌||◌, eqb, leb, ltb, length}
 use Rattle.predicates.specs.Lists.{any}
-use Rattle.epochs.specs.Epochs.{epochMost}
-use Rattle.state.specs.Model.{Datum, Head, Store, State, nameMost, endLimit, readingLimit}
-use Rattle.clocks.specs.Clocks.{driftMost}
-use Rattle.state.specs.Layout.{datumTerms}
+use Rattle.epochs.specs.Epochs.{epoch_most}
+use Rattle.state.specs.Model.{Datum, Head, Store, State, name_most, end_limit, reading_limit}
+use Rattle.clocks.specs.Clocks.{drift_most}
+use Rattle.state.specs.Layout.{datum_terms}
 use Rattle.state.specs.Refusal.{refuse}
 use Rattle.engine.specs.Ageing.{slow, fast, aged}
 use Rattle.engine.specs.Receiving.{Delivery, grown}
 use Rattle.engine.specs.Hearing.{arrived}
-use Rattle.steps.specs.Steps.{tooMany}
+use Rattle.steps.specs.Steps.{too_many}
 use Rattle.engine.specs.Calls.{Setup, receive, made}
 
 -- ---- setting up
 
 -- "1 own name above 28; 2 drift above 1,000; 3 reading 2^58 or more (also in ageing)"
-abbrev pub ownFails : ℕ → Bool
-ownFails own = ltb nameMost own
+abbrev pub own_fails : ℕ → Bool
+own_fails own = ltb name_most own
 
-abbrev pub driftFails : ℕ → Bool
-driftFails drift = ltb driftMost drift
+abbrev pub drift_fails : ℕ → Bool
+drift_fails drift = ltb drift_most drift
 
-abbrev pub readingFails : ℕ → Bool
-readingFails reading = leb readingLimit reading
+abbrev pub reading_fails : ℕ → Bool
+reading_fails reading = leb reading_limit reading
 
 -- "41 own epoch above 15, after 1" (document 02, W-204)
-abbrev pub epochFails : ℕ → Bool
-epochFails epoch = ltb epochMost epoch
+abbrev pub epoch_fails : ℕ → Bool
+epoch_fails epoch = ltb epoch_most epoch
 
 -- "setting up 24, 1, 2, 3", with 41 after 1
-unfoldable pub setUpRefusal : Setup → ℕ
-setUpRefusal u =
-    refuse (ownFails u.own) 1
-    (refuse (epochFails u.epoch) 41
-    (refuse (driftFails u.drift) 2
-    (refuse (readingFails u.reading) 3 0)))
+unfoldable pub set_up_refusal : Setup → ℕ
+set_up_refusal u =
+    refuse (own_fails u.own) 1
+    (refuse (epoch_fails u.epoch) 41
+    (refuse (drift_fails u.drift) 2
+    (refuse (reading_fails u.reading) 3 0)))
 
 -- ---- ageing
 
 -- "20 reading below the last"
-abbrev pub goesBack : Head → ℕ → Bool
-goesBack h reading = ltb reading h.reading
+abbrev pub goes_back : Head → ℕ → Bool
+goes_back h reading = ltb reading h.reading
 
 -- "30 an end would pass 2^58 − 1": one of the datum's two ends, "with its fraction" (document 02, W-205), lies beyond it. Where left is at most right,
--- the right end decides, and the code tests no other (`ages-right` and `grows-right` of `proofs.EndLaws`)
-abbrev pub anEndPasses : Datum → Bool
-anEndPasses d = leb endLimit d.left || leb endLimit d.right
+-- the right end decides, and the code tests no other (`ages_right` and `grows_right` of `proofs.EndLaws`)
+abbrev pub an_end_passes : Datum → Bool
+an_end_passes d = leb end_limit d.left || leb end_limit d.right
 
 -- of a held datum
-unfoldable pub passesEnd : Store → Bool
-passesEnd k = any anEndPasses k.held
+unfoldable pub passes_end : Store → Bool
+passes_end k = any an_end_passes k.held
 
 -- an ageing to the reading would pass it
-abbrev pub agesPast : State → ℕ → Bool
-agesPast st reading = passesEnd (aged (slow st.head reading) (fast st.head reading) st.store)
+abbrev pub ages_past : State → ℕ → Bool
+ages_past st reading = passes_end (aged (slow st.head reading) (fast st.head reading) st.store)
 
 -- "Ageing 24, 25, 3, 20, 30"
-unfoldable pub ageRefusal : State → ℕ → ℕ
-ageRefusal st reading =
-    refuse (readingFails reading) 3
-    (refuse (goesBack st.head reading) 20
-    (refuse (agesPast st reading) 30 0))
+unfoldable pub age_refusal : State → ℕ → ℕ
+age_refusal st reading =
+    refuse (reading_fails reading) 3
+    (refuse (goes_back st.head reading) 20
+    (refuse (ages_past st reading) 30 0))
 
 -- ---- receiving
 
 -- the greatest delay that a channel may have
-abbrev pub delayMost : ℕ
-delayMost = 600_000_000
+abbrev pub delay_most : ℕ
+delay_most = 600_000_000
 
 -- 21: "least delay above greatest, or greatest above" 600,000,000 (document 02, W-202)
-abbrev pub delaysFail : ℕ → ℕ → Bool
-delaysFail least greatest = ltb greatest least || ltb delayMost greatest
+abbrev pub delays_fail : ℕ → ℕ → Bool
+delays_fail least greatest = ltb greatest least || ltb delay_most greatest
 
 -- "18 sender is the own name"
-abbrev pub fromSelf : State → Delivery → Bool
-fromSelf st g = eqb g.sender st.head.own
+abbrev pub from_self : State → Delivery → Bool
+from_self st g = eqb g.sender st.head.own
 
 -- 30, of the grown interval
-abbrev pub growsPast : State → Delivery → Bool
-growsPast st g = anEndPasses (grown st.head g)
+abbrev pub grows_past : State → Delivery → Bool
+grows_past st g = an_end_passes (grown st.head g)
 
 -- "31 more than 8 terms in the new predicate's normal form, stored or not", once old names count as failed
-abbrev pub termsFail : State → Delivery → Bool
-termsFail st g = ltb datumTerms (length (arrived st.head g).terms)
+abbrev pub terms_fail : State → Delivery → Bool
+terms_fail st g = ltb datum_terms (length (arrived st.head g).terms)
 
 -- "32 too many data or entries"
 abbrev pub overfills : State → Delivery → Bool
-overfills st g = tooMany (made st.head st.store (receive g))
+overfills st g = too_many (made st.head st.store (receive g))
 
 -- "18, 30, 31, 32; 30 comes also for a predicate that is true"
-unfoldable pub receiptRefusal : State → Delivery → ℕ
-receiptRefusal st g =
-    refuse (fromSelf st g) 18
-    (refuse (growsPast st g) 30
-    (refuse (termsFail st g) 31
+unfoldable pub receipt_refusal : State → Delivery → ℕ
+receipt_refusal st g =
+    refuse (from_self st g) 18
+    (refuse (grows_past st g) 30
+    (refuse (terms_fail st g) 31
     (refuse (overfills st g) 32 0)))

@@ -2,21 +2,21 @@
 ghost use Rattle.std.specs.Prelude.{◌≡◌, ◌+◌, ◌*◌, ◌≤◌, ◌<◌, ◌^◌, length, T};
 ghost use Rattle.numbers.specs.Numbers.{put};
 ghost use Rattle.ends.specs.Ends.{count_of, Split};
-ghost use Rattle.state.specs.Model.{Store, State, readingLimit};
-ghost use Rattle.clocks.specs.Clocks.{driftMost};
-ghost use Rattle.state.specs.Layout.{stateSize, dataAt, joined, datumBytes, stateBytes, store_of, state_of};
+ghost use Rattle.state.specs.Model.{Store, State, reading_limit};
+ghost use Rattle.clocks.specs.Clocks.{drift_most};
+ghost use Rattle.state.specs.Layout.{state_size, data_at, joined, datum_bytes, state_bytes, store_of, state_of};
 ghost use Rattle.state.specs.Refusal.{after};
-ghost use Rattle.state.specs.Form.{inForm};
-ghost use Rattle.engine.specs.Ageing.{leastAdvance, greatestAdvance, aged};
-ghost use Rattle.engine.specs.Refusals.{ageRefusal};
-ghost use Rattle.engine.specs.Calls.{age as Calls·age, done};
-ghost use Rattle.engine.specs.code.Ageing.{farBelow, staysBelow};
+ghost use Rattle.state.specs.Form.{in_form};
+ghost use Rattle.engine.specs.Ageing.{least_advance, greatest_advance, aged};
+ghost use Rattle.engine.specs.Refusals.{age_refusal};
+ghost use Rattle.engine.specs.Calls.{age, done};
+ghost use Rattle.engine.specs.code.Ageing.{far_below, stays_below};
 
 use ends::{End, Ends};
 
 // What the drift adds to d microseconds, or takes from them: d * r millionths. Split at the million, since d * r can pass 64 bits.
 fn drift_over(d: u64, r: u64) -> End
-    requires { (d < readingLimit) × (r ≤ driftMost) }
+    requires { (d < reading_limit) × (r ≤ drift_most) }
     ensures { (count_of result ≡ d * r) × Split result × (result.whole ≤ d) }
 {
     let low = d % ends::MILLION * r;
@@ -29,8 +29,8 @@ fn drift_over(d: u64, r: u64) -> End
 // How much true time advances at least while d microseconds pass on a clock of drift r. It lacks a whole microsecond where the drift takes a part of
 // one.
 pub fn least_advance(d: u64, r: u64) -> End
-    requires { (d < readingLimit) × (r ≤ driftMost) }
-    ensures { (count_of result ≡ leastAdvance r d) × Split result × (result.whole ≤ d) }
+    requires { (d < reading_limit) × (r ≤ drift_most) }
+    ensures { (count_of result ≡ least_advance r d) × Split result × (result.whole ≤ d) }
 {
     let over = drift_over(d, r);
     if over.millionths == 0 {
@@ -47,8 +47,8 @@ pub fn least_advance(d: u64, r: u64) -> End
 
 // How much it advances at most.
 pub fn greatest_advance(d: u64, r: u64) -> End
-    requires { (d < readingLimit) × (r ≤ driftMost) }
-    ensures { (count_of result ≡ greatestAdvance r d) × Split result × (result.whole ≤ d + d) }
+    requires { (d < reading_limit) × (r ≤ drift_most) }
+    ensures { (count_of result ≡ greatest_advance r d) × Split result × (result.whole ≤ d + d) }
 {
     let over = drift_over(d, r);
     End {
@@ -59,8 +59,8 @@ pub fn greatest_advance(d: u64, r: u64) -> End
 
 // Whether the whole microseconds alone tell that every held datum's right end can be stored when it gains these and less than one more.
 fn far_below(s: &[u8], hi: u64) -> bool
-    requires { (stateSize ≤ length s.now) × T (inForm s.now) × (hi < 2 ^ 59) }
-    ensures { result ≡ farBelow hi s.now }
+    requires { (state_size ≤ length s.now) × T (in_form s.now) × (hi < 2 ^ 59) }
+    ensures { result ≡ far_below hi s.now }
 {
     let n = numbers::get32(s, state::HELD_AT) as usize;
     let mut ok = true;
@@ -76,8 +76,8 @@ fn far_below(s: &[u8], hi: u64) -> bool
 
 // Whether every held datum's right end can be stored when it gains hi, by both numbers of each.
 fn each_below(s: &[u8], hi: End) -> bool
-    requires { (stateSize ≤ length s.now) × T (inForm s.now) × Split hi × (hi.whole < 2 ^ 59) }
-    ensures { result ≡ staysBelow (count_of hi) (store_of s.now) }
+    requires { (state_size ≤ length s.now) × T (in_form s.now) × Split hi × (hi.whole < 2 ^ 59) }
+    ensures { result ≡ stays_below (count_of hi) (store_of s.now) }
 {
     let n = numbers::get32(s, state::HELD_AT) as usize;
     let mut ok = true;
@@ -92,8 +92,8 @@ fn each_below(s: &[u8], hi: End) -> bool
 
 // The same; the whole microseconds nearly always tell.
 fn stays_below(s: &[u8], hi: End) -> bool
-    requires { (stateSize ≤ length s.now) × T (inForm s.now) × Split hi × (hi.whole < 2 ^ 59) }
-    ensures { result ≡ staysBelow (count_of hi) (store_of s.now) }
+    requires { (state_size ≤ length s.now) × T (in_form s.now) × Split hi × (hi.whole < 2 ^ 59) }
+    ensures { result ≡ stays_below (count_of hi) (store_of s.now) }
 {
     if far_below(s, hi.whole) {
         return true;
@@ -103,9 +103,9 @@ fn stays_below(s: &[u8], hi: End) -> bool
 
 // Adds lo to every held datum's left end and hi to its right end.
 fn widen(s: &mut [u8], lo: End, hi: End)
-    requires { (stateSize ≤ length s.old) × T (inForm s.old) × Split lo × Split hi × (lo.whole < 2 ^ 59) × (hi.whole < 2 ^ 59) }
+    requires { (state_size ≤ length s.old) × T (in_form s.old) × Split lo × Split hi × (lo.whole < 2 ^ 59) × (hi.whole < 2 ^ 59) }
     ensures { (let k : Store = aged (count_of lo) (count_of hi) (store_of s.old) in
-        s.new ≡ put dataAt (joined datumBytes k.held) s.old) }
+        s.new ≡ put data_at (joined datum_bytes k.held) s.old) }
 {
     let n = numbers::get32(s, state::HELD_AT) as usize;
     let mut i: usize = 0;
@@ -122,10 +122,10 @@ fn widen(s: &mut [u8], lo: End, hi: End)
 
 // Ages the state to a reading of the own clock. Answers 0, or the number of the refusal and leaves the bytes as they are.
 pub fn age(state: &mut [u8], reading: u64) -> u32
-    requires { (stateSize ≤ length state.old) × T (inForm state.old) }
-    ensures value { result ≡ ageRefusal (state_of state.old) reading }
-    ensures state_after { (let st : State = done (state_of state.old) (Calls·age reading) in
-        state.new ≡ after result (stateBytes st) state.old) }
+    requires { (state_size ≤ length state.old) × T (in_form state.old) }
+    ensures value { result ≡ age_refusal (state_of state.old) reading }
+    ensures state_after { (let st : State = done (state_of state.old) (age reading) in
+        state.new ≡ after result (state_bytes st) state.old) }
 {
     if state::READING_LIMIT <= reading {
         return 3;

@@ -1,18 +1,18 @@
 // Setting up (document 01, "State bytes"): a fresh state holds nothing and knows nothing.
 ghost use Rattle.std.specs.Prelude.{◌≡◌, ◌≤◌, length};
 ghost use Rattle.numbers.specs.Numbers.{put};
-ghost use Rattle.epochs.specs.Epochs.{epochMost};
-ghost use Rattle.state.specs.Model.{nameMost};
-ghost use Rattle.state.specs.Layout.{stateSize, stateBytes};
+ghost use Rattle.epochs.specs.Epochs.{epoch_most};
+ghost use Rattle.state.specs.Model.{name_most};
+ghost use Rattle.state.specs.Layout.{state_size, state_bytes};
 ghost use Rattle.state.specs.Refusal.{after};
-ghost use Rattle.engine.specs.Calls.{setup, setUp};
-ghost use Rattle.engine.specs.Refusals.{setUpRefusal};
+ghost use Rattle.engine.specs.Calls.{setup, set_up};
+ghost use Rattle.engine.specs.Refusals.{set_up_refusal};
 
 // Puts the fresh state of an own name, a drift, a reading and an epoch, part by part: the head, no data, the fresh knowledge, nothing saved of any
 // clock, and of the epochs the own one.
 fn put_fresh(s: &mut [u8], own: u32, drift: u32, reading: u64, epoch: u64)
-    requires { (stateSize ≤ length s.old) × (own ≤ nameMost) × (epoch ≤ epochMost) }
-    ensures { s.new ≡ put 0 (stateBytes (setUp (setup own drift reading epoch))) s.old }
+    requires { (state_size ≤ length s.old) × (own ≤ name_most) × (epoch ≤ epoch_most) }
+    ensures { s.new ≡ put 0 (state_bytes (set_up (setup own drift reading epoch))) s.old }
 {
     numbers::put32(s, state::OWN_AT, own);
     numbers::put32(s, state::DRIFT_AT, drift);
@@ -30,9 +30,9 @@ fn put_fresh(s: &mut [u8], own: u32, drift: u32, reading: u64, epoch: u64)
 
 // Sets a monitor up. Answers 0, or the number of the refusal and leaves the bytes as they are.
 pub fn set_up(state: &mut [u8], own: u32, drift: u32, reading: u64, epoch: u64) -> u32
-    requires { stateSize ≤ length state.old }
-    ensures value { result ≡ setUpRefusal (setup own drift reading epoch) }
-    ensures state_after { state.new ≡ after result (stateBytes (setUp (setup own drift reading epoch))) state.old }
+    requires { state_size ≤ length state.old }
+    ensures value { result ≡ set_up_refusal (setup own drift reading epoch) }
+    ensures state_after { state.new ≡ after result (state_bytes (set_up (setup own drift reading epoch))) state.old }
 {
     if state::NAME_MOST < own {
         return 1;

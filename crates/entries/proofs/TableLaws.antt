@@ -3,7 +3,7 @@
 -- a row stays right until the row is gone. No contract cites this file. Assumes nothing.
 use Prim.Native.Nat.{ℕ, zero, suc, ◌+◌, ◌*◌, ◌-◌, ◌^◌, ◌≤◌, ◌<◌}
 use mathlib.Core.Path.{◌≡◌, refl, sym, ap, ap₂, subst, ◌∙◌}
-use mathlib.Core.Bool.{Bool, true, false, ◌&&◌, ◌||◌, not, cond, and-false, or-false, or-true}
+use mathlib.Core.Bool.{Bool, true, false, ◌&&◌, ◌||◌, not, cond, and-false, or-false, or_true}
 use mathlib.Core.List.{List, [], ◌∷◌, ◌++◌, append_assoc}
 use native.Mathlib.Nat.{mul-le-mul_right, suc-mul}
 use native.Mathlib.Numerals.{add-one}
@@ -14,43 +14,43 @@ use lib.Seq.{sets, sets-eq, length-sets, take_at, drop_at, take-append-le, drop-
 use lib.Dec.{T, not_T}
 use Rattle.names.specs.Sets.{subset}
 use Rattle.numbers.specs.Numbers.{tab}
-use Rattle.numbers.proofs.NumberLaws.{length-tab, getD-tab, tab-cong, tab-suc}
+use Rattle.numbers.proofs.NumberLaws.{length-tab, get_or-tab, tab_cong, tab_suc}
 use Rattle.predicates.specs.Lists.{any, keep}
 use Rattle.predicates.specs.Predicates.{holds, implies, normal}
 use Rattle.predicates.specs.code.Marks.{mark_of, Apart}
 use Rattle.entries.specs.Entries.{explained, learn}
-use Rattle.state.specs.code.Tables.{table, TableFits, row_of, hasTerms, entriesIn}
-use Rattle.entries.specs.code.Marks.{Marked, Left, anyBelow, givenUp}
-use Rattle.predicates.proofs.ListLaws.{T_false, cond_ind, any-in, keep_append, any_append}
+use Rattle.state.specs.code.Tables.{table, TableFits, row_of, has_terms, entries_in}
+use Rattle.entries.specs.code.Marks.{Marked, Left, any_below, given_up}
+use Rattle.predicates.proofs.ListLaws.{T_false, cond_ind, any_in, keep_append, any_append}
 use Rattle.predicates.proofs.IndexLaws.{take_in}
 use Rattle.predicates.proofs.PredicateLaws.{implies-normal}
-use Rattle.predicates.proofs.MarkLaws.{implies-not}
-use Rattle.state.proofs.RowLaws.{row-empty, table-less}
+use Rattle.predicates.proofs.MarkLaws.{implies_not}
+use Rattle.state.proofs.RowLaws.{row-empty, table_less}
 use Rattle.state.proofs.StoreLaws.{front_rest}
 
 -- ---- a loop that looks for a row
 
-pub any-below-next : (n : ℕ) (f : ℕ → Bool) → anyBelow n f ≡ false → f n ≡ false → anyBelow (n + 1) f ≡ false
-unfolding anyBelow
-any-below-next n f e h = rw (add-one, e, h)
+pub any_below_next : (n : ℕ) (f : ℕ → Bool) → any_below n f ≡ false → f n ≡ false → any_below (n + 1) f ≡ false
+unfolding any_below
+any_below_next n f e h = rw (add-one, e, h)
 
-pub any-below-none : (n : ℕ) (f : ℕ → Bool) → ((i : ℕ) → i < n → f i ≡ false) → anyBelow n f ≡ false
-unfolding anyBelow
-any-below-none zero f h = refl
-any-below-none (suc n) f h = rw (any-below-none n f (λ i p. h i (omega arith)), h n (omega arith))
+pub any_below-none : (n : ℕ) (f : ℕ → Bool) → ((i : ℕ) → i < n → f i ≡ false) → any_below n f ≡ false
+unfolding any_below
+any_below-none zero f h = refl
+any_below-none (suc n) f h = rw (any_below-none n f (λ i p. h i (omega arith)), h n (omega arith))
 
-pub any-below-here : (n i : ℕ) (f : ℕ → Bool) → i < n → f i ≡ true → anyBelow n f ≡ true
-unfolding anyBelow
-any-below-here zero i f h e = absurd (omega arith)
-any-below-here (suc n) i f h e = go (λ p. any-below-here n i f p e) (ℕ_discrete i n)
+pub any_below-here : (n i : ℕ) (f : ℕ → Bool) → i < n → f i ≡ true → any_below n f ≡ true
+unfolding any_below
+any_below-here zero i f h e = absurd (omega arith)
+any_below-here (suc n) i f h e = go (λ p. any_below-here n i f p e) (ℕ_discrete i n)
   where
-    go : (i < n → anyBelow n f ≡ true) → Dec (i ≡ n) → anyBelow n f || f n ≡ true
-    go rest (yes p) = ap (λ (b : Bool). anyBelow n f || b) (ap f (sym p) ∙ e) ∙ or-true (anyBelow n f)
+    go : (i < n → any_below n f ≡ true) → Dec (i ≡ n) → any_below n f || f n ≡ true
+    go rest (yes p) = ap (λ (b : Bool). any_below n f || b) (ap f (sym p) ∙ e) ∙ or_true (any_below n f)
     go rest (no p) = ap (λ (b : Bool). b || f n) (rest (omega arith))
 
 -- a test of the rows in use, row by row
-pub any-kept : {A : Type 0} (g f : A → Bool) (n : ℕ) (r : ℕ → A) → any f (keep g (tab n r)) ≡ anyBelow n (λ i. g (r i) && f (r i))
-unfolding tab anyBelow
+pub any-kept : {A : Type 0} (g f : A → Bool) (n : ℕ) (r : ℕ → A) → any f (keep g (tab n r)) ≡ any_below n (λ i. g (r i) && f (r i))
+unfolding tab any_below
 any-kept g f zero r = refl
 any-kept g f (suc n) r =
     ap (λ l. any f l) (keep_append g (tab n r) (r n ∷ [])) ∙ any_append f (keep g (tab n r)) (keep g (r n ∷ []))
@@ -63,34 +63,34 @@ any-kept g f (suc n) r =
 -- ---- a loop that gives rows up
 
 module _ (test : ℕ → Bool) (counts : List ℕ) where
-  pub given-up-none : givenUp 0 test counts ≡ counts
-  unfolding givenUp tab
-  given-up-none = refl
+  pub given_up-none : given_up 0 test counts ≡ counts
+  unfolding given_up tab
+  given_up-none = refl
 
   -- a row that has not been reached is as it was
-  given-up-behind : (m i : ℕ) → m ≤ i → get_or (givenUp m test counts) i 0 ≡ get_or counts i 0
-  unfolding givenUp
-  given-up-behind m = let f : ℕ → ℕ = λ k. cond (test k) 0 (get_or counts k 0) in front_rest (tab m f) m counts (tab m f ++ drop m counts) (length-tab m f) refl
+  given_up-behind : (m i : ℕ) → m ≤ i → get_or (given_up m test counts) i 0 ≡ get_or counts i 0
+  unfolding given_up
+  given_up-behind m = let f : ℕ → ℕ = λ k. cond (test k) 0 (get_or counts k 0) in front_rest (tab m f) m counts (tab m f ++ drop m counts) (length-tab m f) refl
 
-  pub given-up-at : (i : ℕ) → get_or (givenUp i test counts) i 0 ≡ get_or counts i 0
-  given-up-at i = given-up-behind i i (omega arith)
+  pub given_up_at : (i : ℕ) → get_or (given_up i test counts) i 0 ≡ get_or counts i 0
+  given_up_at i = given_up-behind i i (omega arith)
 
-  pub length-given-up : (i : ℕ) → i ≤ length counts → length (givenUp i test counts) ≡ length counts
-  unfolding givenUp
-  length-given-up i h =
+  pub length-given_up : (i : ℕ) → i ≤ length counts → length (given_up i test counts) ≡ length counts
+  unfolding given_up
+  length-given_up i h =
       let f : ℕ → ℕ = λ k. cond (test k) 0 (get_or counts k 0) in
       omega (arith, length-append (tab i f) (drop i counts), length-tab i f, length-drop i counts)
 
   -- the next row stays, or is given up
-  pub given-up-next : (i : ℕ) → i < length counts → givenUp (i + 1) test counts ≡ cond (test i) (set (givenUp i test counts) i 0) (givenUp i test counts)
-  unfolding givenUp
-  given-up-next i h = go (test i) refl
+  pub given_up_next : (i : ℕ) → i < length counts → given_up (i + 1) test counts ≡ cond (test i) (set (given_up i test counts) i 0) (given_up i test counts)
+  unfolding given_up
+  given_up_next i h = go (test i) refl
     where
       f : ℕ → ℕ
       f k = cond (test k) 0 (get_or counts k 0)
 
       opened : tab (i + 1) f ++ drop (i + 1) counts ≡ tab i f ++ (f i ∷ drop (i + 1) counts)
-      opened = ap (λ (l : List ℕ). l ++ drop (i + 1) counts) (tab-suc i f) ∙ append_assoc (tab i f) (f i ∷ []) (drop (i + 1) counts)
+      opened = ap (λ (l : List ℕ). l ++ drop (i + 1) counts) (tab_suc i f) ∙ append_assoc (tab i f) (f i ∷ []) (drop (i + 1) counts)
 
       front : tab i f ++ drop i counts ≡ tab i f ++ (get_or counts i 0 ∷ drop (i + 1) counts)
       front = ap (λ (l : List ℕ). tab i f ++ l) (drop-cons counts i 0 h ∙ ap (λ (k : ℕ). get_or counts i 0 ∷ drop k counts) (sym (add-one i)))
@@ -102,49 +102,49 @@ module _ (test : ℕ → Bool) (counts : List ℕ) where
       go false e = opened ∙ ap (λ (x : ℕ). tab i f ++ (x ∷ drop (i + 1) counts)) (ap (λ (b : Bool). cond b 0 (get_or counts i 0)) e) ∙ sym front
 
   -- the count of a row afterwards
-  pub given-up-count : (n i : ℕ) → i < n → get_or (givenUp n test counts) i 0 ≡ cond (test i) 0 (get_or counts i 0)
-  unfolding givenUp
-  given-up-count n i h =
+  pub given_up-count : (n i : ℕ) → i < n → get_or (given_up n test counts) i 0 ≡ cond (test i) 0 (get_or counts i 0)
+  unfolding given_up
+  given_up-count n i h =
       let f : ℕ → ℕ = λ k. cond (test k) 0 (get_or counts k 0) in
-      get_or-append (tab n f) (drop n counts) 0 i (omega (arith, length-tab n f)) ∙ getD-tab n i f 0 h
+      get_or-append (tab n f) (drop n counts) 0 i (omega (arith, length-tab n f)) ∙ get_or-tab n i f 0 h
 
   -- told row by row
-  pub given-up-is : (n : ℕ) (c : List ℕ) → n ≤ length counts → length c ≡ length counts → ((i : ℕ) → i < n → get_or c i 0 ≡ cond (test i) 0 (get_or counts i 0))
-      → ((i : ℕ) → n ≤ i → get_or c i 0 ≡ get_or counts i 0) → c ≡ givenUp n test counts
-  given-up-is n c h e front rest = ext_get_or 0 c (givenUp n test counts) (e ∙ sym (length-given-up n h)) (λ i l. go i (dec_lt i n))
+  pub given_up_is : (n : ℕ) (c : List ℕ) → n ≤ length counts → length c ≡ length counts → ((i : ℕ) → i < n → get_or c i 0 ≡ cond (test i) 0 (get_or counts i 0))
+      → ((i : ℕ) → n ≤ i → get_or c i 0 ≡ get_or counts i 0) → c ≡ given_up n test counts
+  given_up_is n c h e front rest = ext_get_or 0 c (given_up n test counts) (e ∙ sym (length-given_up n h)) (λ i l. go i (dec_lt i n))
     where
-      go : (i : ℕ) → Dec (i < n) → get_or c i 0 ≡ get_or (givenUp n test counts) i 0
-      go i (yes l) = front i l ∙ sym (given-up-count n i l)
-      go i (no l) = rest i (omega arith) ∙ sym (given-up-behind n i (omega arith))
+      go : (i : ℕ) → Dec (i < n) → get_or c i 0 ≡ get_or (given_up n test counts) i 0
+      go i (yes l) = front i l ∙ sym (given_up-count n i l)
+      go i (no l) = rest i (omega arith) ∙ sym (given_up-behind n i (omega arith))
 
 -- ---- rows that have been given up or are as they were
 
-pub left-given-up : (n : ℕ) (test : ℕ → Bool) (counts c : List ℕ) → c ≡ givenUp n test counts → Left n counts c
-left-given-up n test counts c p i h f =
-    let same : get_or c i 0 ≡ cond (test i) 0 (get_or counts i 0) = rw p (given-up-count test counts n i h) in
+pub left-given_up : (n : ℕ) (test : ℕ → Bool) (counts c : List ℕ) → c ≡ given_up n test counts → Left n counts c
+left-given_up n test counts c p i h f =
+    let same : get_or c i 0 ≡ cond (test i) 0 (get_or counts i 0) = rw p (given_up-count test counts n i h) in
     cond_ind (λ (x : ℕ). get_or c i 0 ≡ x → get_or c i 0 ≡ get_or counts i 0) (test i) 0 (get_or counts i 0) (λ _ z. absurd (f z)) (λ _ z. z) same
 
 -- those that are given up, and one that is put behind them
-pub left-learnt : (n v : ℕ) (test : ℕ → Bool) (counts a b : List ℕ) → a ≡ givenUp n test counts → b ≡ set a n v → Left n counts b
+pub left-learnt : (n v : ℕ) (test : ℕ → Bool) (counts a b : List ℕ) → a ≡ given_up n test counts → b ≡ set a n v → Left n counts b
 left-learnt n v test counts a b p q i h f =
     let same : get_or b i 0 ≡ get_or a i 0 = rw q (get_or-set_other a n i v 0 (λ e. omega arith)) in
-    same ∙ left-given-up n test counts a p i h (λ z. f (same ∙ z))
+    same ∙ left-given_up n test counts a p i h (λ z. f (same ∙ z))
 
-pub left-trans : (n : ℕ) (a b c : List ℕ) → Left n a b → Left n b c → Left n a c
-left-trans n a b c p q i l f = q i l f ∙ p i l (λ z. f (q i l f ∙ z))
+pub left_trans : (n : ℕ) (a b c : List ℕ) → Left n a b → Left n b c → Left n a c
+left_trans n a b c p q i l f = q i l f ∙ p i l (λ z. f (q i l f ∙ z))
 
 -- ---- rows in use
 
 -- an empty predicate in place of each that passes the test: those that pass are gone
-pub keep-emptied : (t : List ℕ → Bool) (n : ℕ) (r : ℕ → List ℕ) → keep hasTerms (tab n (λ i. cond (t (r i)) [] (r i))) ≡ keep (λ p. not (t p)) (keep hasTerms (tab n r))
-unfolding tab hasTerms
-keep-emptied t zero r = refl
-keep-emptied t (suc n) r =
-    keep_append hasTerms (tab n (λ i. cond (t (r i)) [] (r i))) (cond (t (r n)) [] (r n) ∷ [])
-    ∙ ap₂ (λ (a b : List (List ℕ)). a ++ b) (keep-emptied t n r) (last (r n) (t (r n)) refl)
-    ∙ sym (ap (λ l. keep (λ p. not (t p)) l) (keep_append hasTerms (tab n r) (r n ∷ [])) ∙ keep_append (λ p. not (t p)) (keep hasTerms (tab n r)) (keep hasTerms (r n ∷ [])))
+pub keep_emptied : (t : List ℕ → Bool) (n : ℕ) (r : ℕ → List ℕ) → keep has_terms (tab n (λ i. cond (t (r i)) [] (r i))) ≡ keep (λ p. not (t p)) (keep has_terms (tab n r))
+unfolding tab has_terms
+keep_emptied t zero r = refl
+keep_emptied t (suc n) r =
+    keep_append has_terms (tab n (λ i. cond (t (r i)) [] (r i))) (cond (t (r n)) [] (r n) ∷ [])
+    ∙ ap₂ (λ (a b : List (List ℕ)). a ++ b) (keep_emptied t n r) (last (r n) (t (r n)) refl)
+    ∙ sym (ap (λ l. keep (λ p. not (t p)) l) (keep_append has_terms (tab n r) (r n ∷ [])) ∙ keep_append (λ p. not (t p)) (keep has_terms (tab n r)) (keep has_terms (r n ∷ [])))
   where
-    last : (p : List ℕ) (b : Bool) → t p ≡ b → keep hasTerms (cond b [] p ∷ []) ≡ keep (λ q. not (t q)) (keep hasTerms (p ∷ []))
+    last : (p : List ℕ) (b : Bool) → t p ≡ b → keep has_terms (cond b [] p ∷ []) ≡ keep (λ q. not (t q)) (keep has_terms (p ∷ []))
     last [] true e = refl
     last [] false e = refl
     last (u ∷ p) true e = rw e
@@ -157,13 +157,13 @@ row-cond w true counts c masks i e = rw e
 row-cond w false counts c masks i e = rw e
 
 -- the rows given up are those that pass
-pub rows-given-up : (w n : ℕ) (t : List ℕ → Bool) (counts masks : List ℕ) →
-    keep hasTerms (tab n (row_of w (table (givenUp n (λ i. t (row_of w (table counts masks) i)) counts) masks))) ≡ keep (λ p. not (t p)) (keep hasTerms (tab n (row_of w (table counts masks))))
-rows-given-up w n t counts masks =
-    ap (λ l. keep hasTerms l)
-    (tab-cong n (row_of w (table (givenUp n (λ i. t (row_of w (table counts masks) i)) counts) masks)) (λ i. cond (t (row_of w (table counts masks) i)) [] (row_of w (table counts masks) i))
-    (λ i h. row-cond w (t (row_of w (table counts masks) i)) counts (givenUp n (λ k. t (row_of w (table counts masks) k)) counts) masks i (given-up-count (λ k. t (row_of w (table counts masks) k)) counts n i h)))
-    ∙ keep-emptied t n (row_of w (table counts masks))
+pub rows-given_up : (w n : ℕ) (t : List ℕ → Bool) (counts masks : List ℕ) →
+    keep has_terms (tab n (row_of w (table (given_up n (λ i. t (row_of w (table counts masks) i)) counts) masks))) ≡ keep (λ p. not (t p)) (keep has_terms (tab n (row_of w (table counts masks))))
+rows-given_up w n t counts masks =
+    ap (λ l. keep has_terms l)
+    (tab_cong n (row_of w (table (given_up n (λ i. t (row_of w (table counts masks) i)) counts) masks)) (λ i. cond (t (row_of w (table counts masks) i)) [] (row_of w (table counts masks) i))
+    (λ i h. row-cond w (t (row_of w (table counts masks) i)) counts (given_up n (λ k. t (row_of w (table counts masks) k)) counts) masks i (given_up-count (λ k. t (row_of w (table counts masks) k)) counts n i h)))
+    ∙ keep_emptied t n (row_of w (table counts masks))
 
 -- a row that is put behind the others
 module _ (w n : ℕ) (counts masks e : List ℕ) (t : TableFits w n (table counts masks)) (k : n < length counts) (l : n * w + length e ≤ length masks) where
@@ -196,10 +196,10 @@ module _ (w n : ℕ) (counts masks e : List ℕ) (t : TableFits w n (table count
       sets-eq e masks (n * w) l ∙ append_assoc (take (n * w) masks) e (drop (n * w + length e) masks) in
       rw (same, parts, drop_at (take (n * w) masks) (e ++ drop (n * w + length e) masks) (n * w) m) (take_at e (drop (n * w + length e) masks) (length e) refl)
 
-  pub rows-appended : tab (n + 1) (row_of w (table (set counts n (length e)) (sets masks (n * w) e))) ≡ tab n (row_of w (table counts masks)) ++ (e ∷ [])
-  rows-appended =
-      tab-suc n (row_of w (table (set counts n (length e)) (sets masks (n * w) e)))
-      ∙ ap₂ (λ (a : List (List ℕ)) (b : List ℕ). a ++ (b ∷ [])) (tab-cong n _ (row_of w (table counts masks)) rows_before) row_last
+  pub rows_appended : tab (n + 1) (row_of w (table (set counts n (length e)) (sets masks (n * w) e))) ≡ tab n (row_of w (table counts masks)) ++ (e ∷ [])
+  rows_appended =
+      tab_suc n (row_of w (table (set counts n (length e)) (sets masks (n * w) e)))
+      ∙ ap₂ (λ (a : List (List ℕ)) (b : List ℕ). a ++ (b ∷ [])) (tab_cong n _ (row_of w (table counts masks)) rows_before) row_last
 
 -- ---- what the functions are handed and leave
 
@@ -211,12 +211,12 @@ implies-none (t ∷ e) w i counts masks h z = rw z
 
 -- a is the mark of row i, where it is still there
 module _ (i : ℕ) (counts masks p : List ℕ) (a b : ℕ) (f : (get_or counts i 0 ≡ 0 → ⊥) → a ≡ mark_of (row_of 16 (table counts masks) i)) (g : b ≡ mark_of p) where
-  pub row_apart : Apart a b → hasTerms (row_of 16 (table counts masks) i) && implies (row_of 16 (table counts masks) i) p ≡ false
+  pub row_apart : Apart a b → has_terms (row_of 16 (table counts masks) i) && implies (row_of 16 (table counts masks) i) p ≡ false
   row_apart h = go (ℕ_discrete (get_or counts i 0) 0)
     where
-      go : Dec (get_or counts i 0 ≡ 0) → hasTerms (row_of 16 (table counts masks) i) && implies (row_of 16 (table counts masks) i) p ≡ false
+      go : Dec (get_or counts i 0 ≡ 0) → has_terms (row_of 16 (table counts masks) i) && implies (row_of 16 (table counts masks) i) p ≡ false
       go (yes z) = rw (row-empty 16 i counts masks z)
-      go (no n) = rw (h (row_of 16 (table counts masks) i) p (f n) g) (and-false (hasTerms (row_of 16 (table counts masks) i)))
+      go (no n) = rw (h (row_of 16 (table counts masks) i) p (f n) g) (and-false (has_terms (row_of 16 (table counts masks) i)))
 
   pub apart-row : 0 < length p → Apart b a → implies p (row_of 16 (table counts masks) i) ≡ false
   apart-row s h = go (ℕ_discrete (get_or counts i 0) 0)
@@ -227,17 +227,17 @@ module _ (i : ℕ) (counts masks p : List ℕ) (a b : ℕ) (f : (get_or counts i
 
 -- no mark of the first n lets its row imply p
 pub rows_apart : (n : ℕ) (counts masks marks p : List ℕ) (b : ℕ) → Marked n (table counts masks) marks → b ≡ mark_of p → ((i : ℕ) → get_or marks i 0 < 2 ^ 32)
-    → any (λ m. subset m b) (take n marks) ≡ false → (i : ℕ) → i < n → hasTerms (row_of 16 (table counts masks) i) && implies (row_of 16 (table counts masks) i) p ≡ false
+    → any (λ m. subset m b) (take n marks) ≡ false → (i : ℕ) → i < n → has_terms (row_of 16 (table counts masks) i) && implies (row_of 16 (table counts masks) i) p ≡ false
 rows_apart n counts masks marks p b k g w e i h =
     let m = get_or marks i 0 in
     let none : T (subset m b) → ⊥ =
-    λ t. subst (λ (x : Bool). T x) e (any-in (λ x. subset x b) (take n marks) m (take_in n marks k.reach (i, h, refl)) t) in
-    row_apart i counts masks p m b (k.mark i h) g (λ q r x y. implies-not q r m b x y (w i) (T_false (subset m b) (not_T (subset m b) none)))
+    λ t. subst (λ (x : Bool). T x) e (any_in (λ x. subset x b) (take n marks) m (take_in n marks k.reach (i, h, refl)) t) in
+    row_apart i counts masks p m b (k.mark i h) g (λ q r x y. implies_not q r m b x y (w i) (T_false (subset m b) (not_T (subset m b) none)))
 
 pub explained-rows : (n : ℕ) (counts masks p : List ℕ) →
-    explained (entriesIn n (table counts masks)) p ≡ anyBelow n (λ i. hasTerms (row_of 16 (table counts masks) i) && implies (row_of 16 (table counts masks) i) p)
-unfolding explained entriesIn
-explained-rows n counts masks p = any-kept hasTerms (λ e. implies e p) n (row_of 16 (table counts masks))
+    explained (entries_in n (table counts masks)) p ≡ any_below n (λ i. has_terms (row_of 16 (table counts masks) i) && implies (row_of 16 (table counts masks) i) p)
+unfolding explained entries_in
+explained-rows n counts masks p = any-kept has_terms (λ e. implies e p) n (row_of 16 (table counts masks))
 
 -- to be explained is a matter of what is said, not of the form
 pub explained-normal : (es : List (List ℕ)) (p : List ℕ) → explained es (normal p) ≡ explained es p
@@ -245,23 +245,23 @@ unfolding explained
 explained-normal [] p = refl
 explained-normal (e ∷ es) p = ap₂ (λ (a b : Bool). a || b) (implies-normal e p) (explained-normal es p)
 
-pub table-given-up : (w n m : ℕ) (test : ℕ → Bool) (counts masks : List ℕ) → TableFits w n (table counts masks) → m ≤ n → TableFits w n (table (givenUp m test counts) masks)
-table-given-up w n m test counts masks t h =
-    record { counted = omega (arith, t.counted, length-given-up test counts m (omega (arith, t.counted))); long = t.long; narrow = small }
+pub table-given_up : (w n m : ℕ) (test : ℕ → Bool) (counts masks : List ℕ) → TableFits w n (table counts masks) → m ≤ n → TableFits w n (table (given_up m test counts) masks)
+table-given_up w n m test counts masks t h =
+    record { counted = omega (arith, t.counted, length-given_up test counts m (omega (arith, t.counted))); long = t.long; narrow = small }
   where
     bound : (b : Bool) (x : ℕ) → x ≤ w → cond b 0 x ≤ w
     bound true x p = omega arith
     bound false x p = p
 
-    below : (i : ℕ) → Dec (i < m) → get_or (givenUp m test counts) i 0 ≤ w
-    below i (yes p) = subst (λ (x : ℕ). x ≤ w) (sym (given-up-count test counts m i p)) (bound (test i) (get_or counts i 0) (t.narrow i))
-    below i (no p) = subst (λ (x : ℕ). x ≤ w) (sym (given-up-behind test counts m i (omega arith))) (t.narrow i)
+    below : (i : ℕ) → Dec (i < m) → get_or (given_up m test counts) i 0 ≤ w
+    below i (yes p) = subst (λ (x : ℕ). x ≤ w) (sym (given_up-count test counts m i p)) (bound (test i) (get_or counts i 0) (t.narrow i))
+    below i (no p) = subst (λ (x : ℕ). x ≤ w) (sym (given_up-behind test counts m i (omega arith))) (t.narrow i)
 
-    small : (i : ℕ) → get_or (givenUp m test counts) i 0 ≤ w
+    small : (i : ℕ) → get_or (given_up m test counts) i 0 ≤ w
     small i = below i (dec_lt i m)
 
-pub table-appended : (w n : ℕ) (counts masks e : List ℕ) → TableFits w (n + 1) (table counts masks) → length e ≤ w → TableFits w (n + 1) (table (set counts n (length e)) (sets masks (n * w) e))
-table-appended w n counts masks e t h =
+pub table_appended : (w n : ℕ) (counts masks e : List ℕ) → TableFits w (n + 1) (table counts masks) → length e ≤ w → TableFits w (n + 1) (table (set counts n (length e)) (sets masks (n * w) e))
+table_appended w n counts masks e t h =
     record { counted = omega (arith, t.counted, length-set counts n (length e)); long = omega (arith, t.long, length-sets masks (n * w) e); narrow = small }
   where
     at : (i : ℕ) → Dec (i ≡ n) → get_or (set counts n (length e)) i 0 ≤ w
@@ -277,14 +277,14 @@ unfolding row_of
 row_count w i counts c masks e = rw e
 
 -- a turn of the loop that gives rows up, with the test's result b
-pub given-up-turn : (test : ℕ → Bool) (counts c d : List ℕ) (i : ℕ) (b : Bool) → i < length counts → c ≡ givenUp i test counts → b ≡ test i
-    → d ≡ cond b (set c i 0) c → d ≡ givenUp (i + 1) test counts
-given-up-turn test counts c d i b h p q r = r ∙ rw (q, p) (sym (given-up-next test counts i h))
+pub given_up-turn : (test : ℕ → Bool) (counts c d : List ℕ) (i : ℕ) (b : Bool) → i < length counts → c ≡ given_up i test counts → b ≡ test i
+    → d ≡ cond b (set c i 0) c → d ≡ given_up (i + 1) test counts
+given_up-turn test counts c d i b h p q r = r ∙ rw (q, p) (sym (given_up_next test counts i h))
 
 -- ---- marks
 
-pub marked-less : (n m : ℕ) (counts masks marks : List ℕ) → Marked n (table counts masks) marks → m ≤ n → Marked m (table counts masks) marks
-marked-less n m counts masks marks k h = record { reach = omega (arith, k.reach); mark = λ i l. k.mark i (omega arith) }
+pub marked_less : (n m : ℕ) (counts masks marks : List ℕ) → Marked n (table counts masks) marks → m ≤ n → Marked m (table counts masks) marks
+marked_less n m counts masks marks k h = record { reach = omega (arith, k.reach); mark = λ i l. k.mark i (omega arith) }
 
 -- the next row has its mark
 pub marked_next : (i v : ℕ) (counts masks marks : List ℕ) → v ≡ mark_of (row_of 16 (table counts masks) i) → i < length marks → Marked i (table counts masks) marks
@@ -297,29 +297,29 @@ marked_next i v counts masks marks e h k = record { reach = omega (arith, length
     at j l f (no p) = get_or-set_other marks i j v 0 p ∙ k.mark j (omega arith) f
 
 -- a row that is still there has kept its mark
-marked-given-up : (n : ℕ) (test : ℕ → Bool) (counts masks marks : List ℕ) → Marked n (table counts masks) marks → Marked n (table (givenUp n test counts) masks) marks
-marked-given-up n test counts masks marks k = record { reach = k.reach; mark = λ i h. go i h (test i) (given-up-count test counts n i h) }
+marked_given_up : (n : ℕ) (test : ℕ → Bool) (counts masks marks : List ℕ) → Marked n (table counts masks) marks → Marked n (table (given_up n test counts) masks) marks
+marked_given_up n test counts masks marks k = record { reach = k.reach; mark = λ i h. go i h (test i) (given_up-count test counts n i h) }
   where
-    go : (i : ℕ) → i < n → (b : Bool) → get_or (givenUp n test counts) i 0 ≡ cond b 0 (get_or counts i 0) → (get_or (givenUp n test counts) i 0 ≡ 0 → ⊥)
-        → get_or marks i 0 ≡ mark_of (row_of 16 (table (givenUp n test counts) masks) i)
+    go : (i : ℕ) → i < n → (b : Bool) → get_or (given_up n test counts) i 0 ≡ cond b 0 (get_or counts i 0) → (get_or (given_up n test counts) i 0 ≡ 0 → ⊥)
+        → get_or marks i 0 ≡ mark_of (row_of 16 (table (given_up n test counts) masks) i)
     go i h true e f = absurd (f e)
-    go i h false e f = k.mark i h (λ z. f (e ∙ z)) ∙ ap mark_of (sym (row_count 16 i counts (givenUp n test counts) masks e))
+    go i h false e f = k.mark i h (λ z. f (e ∙ z)) ∙ ap mark_of (sym (row_count 16 i counts (given_up n test counts) masks e))
 
 -- an entry is learnt: those that it implies are given up, and it is put last
 module _ (n : ℕ) (counts masks e : List ℕ) (t : TableFits 16 (n + 1) (table counts masks)) (few : length e ≤ 16) (a b m : List ℕ)
-    (p : a ≡ givenUp n (λ i. implies e (row_of 16 (table counts masks) i)) counts) (q : b ≡ set a n (length e)) (r : m ≡ sets masks (n * 16) e) where
+    (p : a ≡ given_up n (λ i. implies e (row_of 16 (table counts masks) i)) counts) (q : b ≡ set a n (length e)) (r : m ≡ sets masks (n * 16) e) where
   gone : TableFits 16 (n + 1) (table a masks)
-  gone = rw p (table-given-up 16 (n + 1) n (λ i. implies e (row_of 16 (table counts masks) i)) counts masks t (omega arith))
+  gone = rw p (table-given_up 16 (n + 1) n (λ i. implies e (row_of 16 (table counts masks) i)) counts masks t (omega arith))
 
   pub learn-table : TableFits 16 (n + 1) (table b m)
-  learn-table = rw (q, r) (table-appended 16 n a masks e gone few)
+  learn-table = rw (q, r) (table_appended 16 n a masks e gone few)
 
-  pub learn-marked : (marks k : List ℕ) (mark : ℕ) → Marked n (table counts masks) marks → n < length marks → mark ≡ mark_of e → k ≡ set marks n mark → Marked (n + 1) (table b m) k
-  learn-marked marks k mark g h d f =
+  pub learn_marked : (marks k : List ℕ) (mark : ℕ) → Marked n (table counts masks) marks → n < length marks → mark ≡ mark_of e → k ≡ set marks n mark → Marked (n + 1) (table b m) k
+  learn_marked marks k mark g h d f =
       let near : n < length a = omega (arith, gone.counted) in
       let room : n * 16 + length e ≤ length masks = omega (arith, gone.long, suc-mul n 16) in
-      let less = table-less 16 (n + 1) n a masks gone (omega arith) in
-      let kept : Marked n (table a masks) marks = rw p (marked-given-up n (λ i. implies e (row_of 16 (table counts masks) i)) counts masks marks g) in
+      let less = table_less 16 (n + 1) n a masks gone (omega arith) in
+      let kept : Marked n (table a masks) marks = rw p (marked_given_up n (λ i. implies e (row_of 16 (table counts masks) i)) counts masks marks g) in
       let put : Marked n (table (set a n (length e)) (sets masks (n * 16) e)) marks =
       record {
         reach = kept.reach;
@@ -328,17 +328,17 @@ module _ (n : ℕ) (counts masks e : List ℕ) (t : TableFits 16 (n + 1) (table 
       } in
       rw (q, r, f) (marked_next n mark (set a n (length e)) (sets masks (n * 16) e) marks (d ∙ ap mark_of (sym (row_last 16 n a masks e less near room))) h put)
 
-  pub learn-rows : 0 < length e → explained (entriesIn n (table counts masks)) e ≡ false → entriesIn (n + 1) (table b m) ≡ learn e (entriesIn n (table counts masks))
-  unfolding learn entriesIn hasTerms
+  pub learn-rows : 0 < length e → explained (entries_in n (table counts masks)) e ≡ false → entries_in (n + 1) (table b m) ≡ learn e (entries_in n (table counts masks))
+  unfolding learn entries_in has_terms
   learn-rows h f =
-      let kept : keep hasTerms (tab n (row_of 16 (table a masks))) ≡ keep (λ x. not (implies e x)) (keep hasTerms (tab n (row_of 16 (table counts masks)))) =
-      rw p (rows-given-up 16 n (λ x. implies e x) counts masks) in
+      let kept : keep has_terms (tab n (row_of 16 (table a masks))) ≡ keep (λ x. not (implies e x)) (keep has_terms (tab n (row_of 16 (table counts masks)))) =
+      rw p (rows-given_up 16 n (λ x. implies e x) counts masks) in
       rw (q, r, f) (
-      ap (λ l. keep hasTerms l) (rows-appended 16 n a masks e (table-less 16 (n + 1) n a masks gone (omega arith)) (omega (arith, gone.counted)) (omega (arith, gone.long, suc-mul n 16)))
-      ∙ keep_append hasTerms (tab n (row_of 16 (table a masks))) (e ∷ [])
+      ap (λ l. keep has_terms l) (rows_appended 16 n a masks e (table_less 16 (n + 1) n a masks gone (omega arith)) (omega (arith, gone.counted)) (omega (arith, gone.long, suc-mul n 16)))
+      ∙ keep_append has_terms (tab n (row_of 16 (table a masks))) (e ∷ [])
       ∙ ap₂ (λ (x y : List (List ℕ)). x ++ y) kept (last e h)
       )
     where
-      last : (e : List ℕ) → 0 < length e → keep hasTerms (e ∷ []) ≡ e ∷ []
+      last : (e : List ℕ) → 0 < length e → keep has_terms (e ∷ []) ≡ e ∷ []
       last [] h = absurd (omega arith)
       last (x ∷ l) h = refl

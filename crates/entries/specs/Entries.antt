@@ -3,7 +3,7 @@
 -- Assumes nothing: these are definitions.
 use Rattle.std.specs.Prelude.{ℕ, Bool, not, cond, List, [], ◌∷◌, ◌++◌, map}
 use Rattle.predicates.specs.Lists.{any, keep}
-use Rattle.predicates.specs.Predicates.{implies, isTrue}
+use Rattle.predicates.specs.Predicates.{implies, is_true}
 use Rattle.epochs.specs.Epochs.{withdraw}
 
 -- some entry implies p
@@ -16,5 +16,5 @@ learn e es = cond (explained es e) es (keep (λ f. not (implies e f)) es ++ (e �
 
 -- the names of r are withdrawn (document 02, W-204): "it counts as failed in all held data and entries, and those that become true go; the rest are
 -- put in normal form, no more"
-unfoldable pub withdrawnEntries : ℕ → List (List ℕ) → List (List ℕ)
-withdrawnEntries r es = keep (λ e. not (isTrue e)) (map (withdraw r) es)
+unfoldable pub withdrawn_entries : ℕ → List (List ℕ) → List (List ℕ)
+withdrawn_entries r es = keep (λ e. not (is_true e)) (map (withdraw r) es)

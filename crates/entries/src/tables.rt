@@ -6,17 +6,17 @@ ghost use Rattle.std.proofs.lemmas.List.Edits.{sets};
 ghost use Rattle.numbers.specs.Numbers.{num, tab};
 ghost use Rattle.predicates.specs.Predicates.{implies, normal};
 ghost use Rattle.predicates.specs.code.Marks.{mark_of};
-ghost use Rattle.state.specs.Layout.{stateSize, entriesMost, entryTerms, entryPlace, entryCount, entry_at};
-ghost use Rattle.state.specs.Form.{inForm};
-ghost use Rattle.state.specs.code.Tables.{Table, tableFrom, entryMasks, TableFits, row_of, hasTerms, entriesIn};
-ghost use Rattle.entries.specs.code.Marks.{Marked, Left, givenUp};
-ghost use Rattle.entries.specs.Entries.{explained as Steps·explained, learn as Steps·learn};
+ghost use Rattle.state.specs.Layout.{state_size, entries_most, entry_terms, entry_place, entry_count, entry_at};
+ghost use Rattle.state.specs.Form.{in_form};
+ghost use Rattle.state.specs.code.Tables.{Table, table_from, entry_masks, TableFits, row_of, has_terms, entries_in};
+ghost use Rattle.entries.specs.code.Marks.{Marked, Left, given_up};
+ghost use Rattle.entries.specs.Entries.{explained, learn};
 
 // Copies the 16 places of row i.
 fn get_row(s: &[u8], first: usize, masks: &[u32], i: usize, row: &mut [u32])
-    requires state_size_in_bounds { (stateSize ≤ length s.now) × (first ≤ entriesMost) × (length row.old ≡ entryTerms) }
-    requires entry_terms_in_bounds { i * entryTerms + entryTerms ≤ length (entryMasks first s.now ++ masks.now) }
-    ensures { row.new ≡ take entryTerms (drop (i * entryTerms) (entryMasks first s.now ++ masks.now)) }
+    requires state_size_in_bounds { (state_size ≤ length s.now) × (first ≤ entries_most) × (length row.old ≡ entry_terms) }
+    requires entry_terms_in_bounds { i * entry_terms + entry_terms ≤ length (entry_masks first s.now ++ masks.now) }
+    ensures { row.new ≡ take entry_terms (drop (i * entry_terms) (entry_masks first s.now ++ masks.now)) }
 {
     if i < first {
         numbers::get_words(
@@ -43,13 +43,13 @@ fn row_implies(
     p: &[u32],
     bound: u32,
 ) -> bool
-    requires state_size_in_bounds { (stateSize ≤ length s.now) × (first ≤ entriesMost) × (i < length marks.now) }
-    requires table_fits { TableFits entryTerms (i + 1) (tableFrom first s.now counts.now masks.now) }
+    requires state_size_in_bounds { (state_size ≤ length s.now) × (first ≤ entries_most) × (i < length marks.now) }
+    requires table_fits { TableFits entry_terms (i + 1) (table_from first s.now counts.now masks.now) }
     requires bound_value { bound ≡ mark_of p.now }
     requires i_value { (get_or counts.now i 0 ≡ 0 → ⊥)
-        → get_or marks.now i 0 ≡ mark_of (row_of entryTerms (tableFrom first s.now counts.now masks.now) i) }
-    ensures { (let e : List ℕ = row_of entryTerms (tableFrom first s.now counts.now masks.now) i in
-        result ≡ hasTerms e && implies e p.now) }
+        → get_or marks.now i 0 ≡ mark_of (row_of entry_terms (table_from first s.now counts.now masks.now) i) }
+    ensures { (let e : List ℕ = row_of entry_terms (table_from first s.now counts.now masks.now) i in
+        result ≡ has_terms e && implies e p.now) }
 {
     if !predicates::marks::may_imply(marks[i], bound) {
         return false;
@@ -73,10 +73,10 @@ pub fn explained(
     n: usize,
     p: &[u32],
 ) -> bool
-    requires state_size_in_bounds { (stateSize ≤ length s.now) × (first ≤ entriesMost) }
-    requires fact { (let t : Table = tableFrom first s.now counts.now masks.now in TableFits entryTerms n t × Marked n t marks.now) }
-    ensures { (let t : Table = tableFrom first s.now counts.now masks.now in
-        result ≡ Steps·explained (entriesIn n t) p.now) }
+    requires state_size_in_bounds { (state_size ≤ length s.now) × (first ≤ entries_most) }
+    requires fact { (let t : Table = table_from first s.now counts.now masks.now in TableFits entry_terms n t × Marked n t marks.now) }
+    ensures { (let t : Table = table_from first s.now counts.now masks.now in
+        result ≡ explained (entries_in n t) p.now) }
 {
     if n == 0 {
         return false;
@@ -106,13 +106,13 @@ fn implies_row(
     marks: &[u32],
     i: usize,
 ) -> bool
-    requires state_size_in_bounds { (stateSize ≤ length s.now) × (first ≤ entriesMost) × (i < length marks.now) }
-    requires table_fits { TableFits entryTerms (i + 1) (tableFrom first s.now counts.now masks.now) }
+    requires state_size_in_bounds { (state_size ≤ length s.now) × (first ≤ entries_most) × (i < length marks.now) }
+    requires table_fits { TableFits entry_terms (i + 1) (table_from first s.now counts.now masks.now) }
     requires mark_value { (mark ≡ mark_of e.now) × (0 < length e.now) }
     requires i_value { (get_or counts.now i 0 ≡ 0 → ⊥)
-        → get_or marks.now i 0 ≡ mark_of (row_of entryTerms (tableFrom first s.now counts.now masks.now) i) }
+        → get_or marks.now i 0 ≡ mark_of (row_of entry_terms (table_from first s.now counts.now masks.now) i) }
     ensures { result ≡ implies e.now
-        (row_of entryTerms (tableFrom first s.now counts.now masks.now) i) }
+        (row_of entry_terms (table_from first s.now counts.now masks.now) i) }
 {
     if !predicates::marks::may_imply(mark, marks[i]) {
         return false;
@@ -137,11 +137,11 @@ fn forget(
     e: &[u32],
     mark: u32,
 )
-    requires state_size_in_bounds { (stateSize ≤ length s.now) × (first ≤ entriesMost) }
-    requires fact { (let t : Table = tableFrom first s.now counts.old masks.now in TableFits entryTerms n t × Marked n t marks.now) }
+    requires state_size_in_bounds { (state_size ≤ length s.now) × (first ≤ entries_most) }
+    requires fact { (let t : Table = table_from first s.now counts.old masks.now in TableFits entry_terms n t × Marked n t marks.now) }
     requires mark_value { (mark ≡ mark_of e.now) × (0 < length e.now) }
-    ensures { (let t : Table = tableFrom first s.now counts.old masks.now in
-        counts.new ≡ givenUp n (λ i. implies e.now (row_of entryTerms t i)) counts.old) }
+    ensures { (let t : Table = table_from first s.now counts.old masks.now in
+        counts.new ≡ given_up n (λ i. implies e.now (row_of entry_terms t i)) counts.old) }
 {
     let mut i: usize = 0;
     while i < n {
@@ -154,7 +154,7 @@ fn forget(
 
 // Puts e last, into row n of this width.
 pub fn add_row(counts: &mut [u32], masks: &mut [u32], n: usize, width: usize, e: &[u32])
-    requires { (n < length counts.old) × (n * width + length e.now ≤ length masks.old) × (length e.now ≤ entryTerms) }
+    requires { (n < length counts.old) × (n * width + length e.now ≤ length masks.old) × (length e.now ≤ entry_terms) }
     ensures counts_after { counts.new ≡ set counts.old n (length e.now) }
     ensures masks_after { masks.new ≡ sets masks.old (n * width) e.now }
 {
@@ -178,17 +178,17 @@ fn put_last(
     n: usize,
     e: &[u32],
 )
-    requires state_size_in_bounds { (stateSize ≤ length s.now) × (first ≤ entriesMost) × (first ≤ n) }
-    requires table_fits { TableFits entryTerms (n + 1) (tableFrom first s.now counts.old masks.old) }
-    requires e_nonzero { (0 < length e.now) × (length e.now ≤ entryTerms) × (n < length marks.old) }
-    requires marked { Marked n (tableFrom first s.now counts.old masks.old) marks.old }
-    requires e_value { Steps·explained (entriesIn n (tableFrom first s.now counts.old masks.old)) e.now ≡ false }
-    ensures fact { (let t : Table = tableFrom first s.now counts.new masks.new in
-        TableFits entryTerms (n + 1) t × Marked (n + 1) t marks.new × Left n counts.old counts.new
+    requires state_size_in_bounds { (state_size ≤ length s.now) × (first ≤ entries_most) × (first ≤ n) }
+    requires table_fits { TableFits entry_terms (n + 1) (table_from first s.now counts.old masks.old) }
+    requires e_nonzero { (0 < length e.now) × (length e.now ≤ entry_terms) × (n < length marks.old) }
+    requires marked { Marked n (table_from first s.now counts.old masks.old) marks.old }
+    requires e_value { explained (entries_in n (table_from first s.now counts.old masks.old)) e.now ≡ false }
+    ensures fact { (let t : Table = table_from first s.now counts.new masks.new in
+        TableFits entry_terms (n + 1) t × Marked (n + 1) t marks.new × Left n counts.old counts.new
         × (length counts.new ≡ length counts.old) × (length masks.new ≡ length masks.old)
         × (length marks.new ≡ length marks.old)) }
-    ensures masks_after { entriesIn (n + 1) (tableFrom first s.now counts.new masks.new)
-        ≡ Steps·learn e.now (entriesIn n (tableFrom first s.now counts.old masks.old)) }
+    ensures masks_after { entries_in (n + 1) (table_from first s.now counts.new masks.new)
+        ≡ learn e.now (entries_in n (table_from first s.now counts.old masks.old)) }
 {
     let mark = predicates::marks::mark_of(e);
     forget(s, first, counts, masks, marks, n, e, mark);
@@ -208,15 +208,15 @@ pub fn learn_term(
     n: usize,
     term: u32,
 ) -> usize
-    requires state_size_in_bounds { (stateSize ≤ length s.now) × (first ≤ entriesMost) × (first ≤ n) }
-    requires table_fits { TableFits entryTerms (n + 1) (tableFrom first s.now counts.old masks.old) }
-    requires n_in_bounds { (n < length marks.old) × Marked n (tableFrom first s.now counts.old masks.old) marks.old }
-    ensures fact { (let t : Table = tableFrom first s.now counts.new masks.new in
-        (n ≤ result) × (result ≤ n + 1) × TableFits entryTerms result t × Marked result t marks.new × Left n counts.old counts.new
+    requires state_size_in_bounds { (state_size ≤ length s.now) × (first ≤ entries_most) × (first ≤ n) }
+    requires table_fits { TableFits entry_terms (n + 1) (table_from first s.now counts.old masks.old) }
+    requires n_in_bounds { (n < length marks.old) × Marked n (table_from first s.now counts.old masks.old) marks.old }
+    ensures fact { (let t : Table = table_from first s.now counts.new masks.new in
+        (n ≤ result) × (result ≤ n + 1) × TableFits entry_terms result t × Marked result t marks.new × Left n counts.old counts.new
         × (length counts.new ≡ length counts.old) × (length masks.new ≡ length masks.old)
         × (length marks.new ≡ length marks.old)) }
-    ensures masks_after { entriesIn result (tableFrom first s.now counts.new masks.new)
-        ≡ Steps·learn (term ∷ []) (entriesIn n (tableFrom first s.now counts.old masks.old)) }
+    ensures masks_after { entries_in result (table_from first s.now counts.new masks.new)
+        ≡ learn (term ∷ []) (entries_in n (table_from first s.now counts.old masks.old)) }
 {
     let e = [term];
     if explained(s, first, counts, masks, marks, n, &e) {
@@ -238,17 +238,17 @@ pub fn learn_sum(
     q: &[u32],
     p: &[u32],
 ) -> usize
-    requires state_size_in_bounds { (stateSize ≤ length s.now) × (first ≤ entriesMost) × (first ≤ n) }
-    requires table_fits { TableFits entryTerms (n + 1) (tableFrom first s.now counts.old masks.old) }
-    requires p_nonzero { (0 < length p.now) × (length q.now + length p.now ≤ entryTerms) × (n < length marks.old) }
-    requires marked { Marked n (tableFrom first s.now counts.old masks.old) marks.old }
-    ensures fact { (let t : Table = tableFrom first s.now counts.new masks.new in
-        (n ≤ result) × (result ≤ n + 1) × TableFits entryTerms result t × Marked result t marks.new × Left n counts.old counts.new
+    requires state_size_in_bounds { (state_size ≤ length s.now) × (first ≤ entries_most) × (first ≤ n) }
+    requires table_fits { TableFits entry_terms (n + 1) (table_from first s.now counts.old masks.old) }
+    requires p_nonzero { (0 < length p.now) × (length q.now + length p.now ≤ entry_terms) × (n < length marks.old) }
+    requires marked { Marked n (table_from first s.now counts.old masks.old) marks.old }
+    ensures fact { (let t : Table = table_from first s.now counts.new masks.new in
+        (n ≤ result) × (result ≤ n + 1) × TableFits entry_terms result t × Marked result t marks.new × Left n counts.old counts.new
         × (length counts.new ≡ length counts.old) × (length masks.new ≡ length masks.old)
         × (length marks.new ≡ length marks.old)) }
-    ensures masks_after { entriesIn result (tableFrom first s.now counts.new masks.new)
-        ≡ Steps·learn (normal (q.now ++ p.now))
-        (entriesIn n (tableFrom first s.now counts.old masks.old)) }
+    ensures masks_after { entries_in result (table_from first s.now counts.new masks.new)
+        ≡ learn (normal (q.now ++ p.now))
+        (entries_in n (table_from first s.now counts.old masks.old)) }
 {
     let mut terms = [0u32; state::ENTRY_TERMS];
     let m = predicates::sums::both(&mut terms, q, p);
@@ -262,7 +262,7 @@ pub fn learn_sum(
 
 // The mark of the entry in place i of a state in form.
 fn mark_at(s: &[u8], i: usize) -> u32
-    requires { (stateSize ≤ length s.now) × T (inForm s.now) × (i < entryCount s.now) }
+    requires { (state_size ≤ length s.now) × T (in_form s.now) × (i < entry_count s.now) }
     ensures { result ≡ mark_of (entry_at s.now i) }
 {
     let mut row = [0u32; state::ENTRY_TERMS];
@@ -277,9 +277,9 @@ fn mark_at(s: &[u8], i: usize) -> u32
 
 // Makes the counts and the marks of the n entries in a state in form; what stands behind them stays.
 pub fn mark_rows(s: &[u8], n: usize, counts: &mut [u32], marks: &mut [u32])
-    requires state_size_in_bounds { (stateSize ≤ length s.now) × T (inForm s.now) × (n ≡ entryCount s.now) }
+    requires state_size_in_bounds { (state_size ≤ length s.now) × T (in_form s.now) × (n ≡ entry_count s.now) }
     requires n_in_bounds { (n ≤ length counts.old) × (n ≤ length marks.old) }
-    ensures counts_after { counts.new ≡ tab n (λ i. num (entryPlace i) 4 s.now) ++ drop n counts.old }
+    ensures counts_after { counts.new ≡ tab n (λ i. num (entry_place i) 4 s.now) ++ drop n counts.old }
     ensures marks_after { marks.new ≡ tab n (λ i. mark_of (entry_at s.now i)) ++ drop n marks.old }
 {
     let mut i: usize = 0;

@@ -9,29 +9,29 @@ use native.Mathlib.Nat.{suc-add}
 use lib.Dec.{T, eqb, eqb→eq}
 use lib.ListN.{length, get_or, set, take, drop, replicate, length-map, length-replicate, take-append-drop}
 use lib.Seq.{sets, sets-eq, length-take-le, take_at, drop_at}
-use Rattle.names.specs.Sets.{setUnion, minus, subset}
+use Rattle.names.specs.Sets.{set_union, minus, subset}
 use Rattle.names.specs.code.Parts.{shared}
 use Rattle.names.proofs.SetLaws.{union_left, union-none, subset-empty, empty-subset}
-use Rattle.names.proofs.PartLaws.{minus-in, minus-none}
+use Rattle.names.proofs.PartLaws.{minus_in, minus-none}
 use Rattle.predicates.specs.Lists.{all, In, padded}
-use Rattle.predicates.specs.Predicates.{holds, implies, isTrue, isNormal, normal}
-use Rattle.predicates.proofs.ListLaws.{both_l, both_r, true-T, T_true, map-out, any-in}
-use Rattle.predicates.proofs.PredicateLaws.{holds-out, true-holds, holds-normal, holds-mono, normal-normal, normal-out, normal-only, normal-some, implies-out, implies-in}
+use Rattle.predicates.specs.Predicates.{holds, implies, is_true, is_normal, normal}
+use Rattle.predicates.proofs.ListLaws.{both_l, both_r, true_T, T_true, map_out, any_in}
+use Rattle.predicates.proofs.PredicateLaws.{holds_out, true_holds, holds-normal, holds_mono, normal-normal, normal_out, normal_only, normal-some, implies_out, implies_in}
 use Rattle.predicates.proofs.PlaceLaws.{length-normal}
 use Rattle.epochs.specs.Epochs.{withdraw}
 
 -- without the names of r, term by term
-map-holds : (s r : ℕ) (p : List ℕ) → holds s (map (λ t. minus t r) p) ≡ holds (setUnion s r) p
+map-holds : (s r : ℕ) (p : List ℕ) → holds s (map (λ t. minus t r) p) ≡ holds (set_union s r) p
 unfolding holds
 map-holds s r [] = refl
-map-holds s r (t ∷ p) = ap₂ ◌||◌ (minus-in t r s) (map-holds s r p)
+map-holds s r (t ∷ p) = ap₂ ◌||◌ (minus_in t r s) (map-holds s r p)
 
 -- a set makes it true exactly if it does so together with the names that count as failed
-pub withdraw-holds : (s r : ℕ) (p : List ℕ) → holds s (withdraw r p) ≡ holds (setUnion s r) p
+pub withdraw-holds : (s r : ℕ) (p : List ℕ) → holds s (withdraw r p) ≡ holds (set_union s r) p
 unfolding withdraw
 withdraw-holds s r p = holds-normal s (map (λ t. minus t r) p) ∙ map-holds s r p
 
-pub withdraw-normal : (r : ℕ) (p : List ℕ) → T (isNormal (withdraw r p))
+pub withdraw-normal : (r : ℕ) (p : List ℕ) → T (is_normal (withdraw r p))
 unfolding withdraw
 withdraw-normal r p = normal-normal (map (λ t. minus t r) p)
 
@@ -44,9 +44,9 @@ unfolding withdraw
 withdraw-some r p h = normal-some (map (λ t. minus t r) p) (omega (arith, length-map p (λ t. minus t r)))
 
 -- a term that is left is one of p without the names of r
-pub withdraw-out : (r : ℕ) (p : List ℕ) (t : ℕ) → In t (withdraw r p) → (u : ℕ) × In u p × (t ≡ minus u r)
+pub withdraw_out : (r : ℕ) (p : List ℕ) (t : ℕ) → In t (withdraw r p) → (u : ℕ) × In u p × (t ≡ minus u r)
 unfolding withdraw
-withdraw-out r p t h = map-out (λ t. minus t r) p t (normal-out (map (λ t. minus t r) p) t h)
+withdraw_out r p t h = map_out (λ t. minus t r) p t (normal_out (map (λ t. minus t r) p) t h)
 
 -- a predicate that names none of r stays
 map-none : (r : ℕ) (p : List ℕ) → T (all (λ t. eqb (shared t r) 0) p) → map (λ t. minus t r) p ≡ p
@@ -54,69 +54,69 @@ map-none r [] h = refl
 map-none r (t ∷ p) h =
     rw (minus-none t r (eqb→eq (shared t r) 0 (both_l (eqb (shared t r) 0) _ h)), map-none r p (both_r (eqb (shared t r) 0) _ h))
 
-pub withdraw-none : (r : ℕ) (p : List ℕ) → T (isNormal p) → T (all (λ t. eqb (shared t r) 0) p) → withdraw r p ≡ p
+pub withdraw-none : (r : ℕ) (p : List ℕ) → T (is_normal p) → T (all (λ t. eqb (shared t r) 0) p) → withdraw r p ≡ p
 unfolding withdraw
-withdraw-none r p n h = ap normal (map-none r p h) ∙ sym (normal-only p p n (λ s. refl))
+withdraw-none r p n h = ap normal (map-none r p h) ∙ sym (normal_only p p n (λ s. refl))
 
 -- no name counts as failed
-pub withdraw-zero : (p : List ℕ) → T (isNormal p) → withdraw 0 p ≡ p
+pub withdraw_zero : (p : List ℕ) → T (is_normal p) → withdraw 0 p ≡ p
 unfolding withdraw
-withdraw-zero p n = sym (normal-only p (map (λ t. minus t 0) p) n (λ s. sym (map-holds s 0 p ∙ ap (λ (u : ℕ). holds u p) (union-none s))))
+withdraw_zero p n = sym (normal_only p (map (λ t. minus t 0) p) n (λ s. sym (map-holds s 0 p ∙ ap (λ (u : ℕ). holds u p) (union-none s))))
 
 -- what a predicate alone implies, it implies with further names counted as failed
 pub withdraw-implies : (r : ℕ) (e p : List ℕ) → T (implies e p) → T (implies e (withdraw r p))
 withdraw-implies r e p h =
-    implies-in e (withdraw r p) (λ s k.
-    subst (λ (b : Bool). T b) (sym (withdraw-holds s r p)) (holds-mono s (setUnion s r) p (union_left s r) (implies-out e p h s k)))
+    implies_in e (withdraw r p) (λ s k.
+    subst (λ (b : Bool). T b) (sym (withdraw-holds s r p)) (holds_mono s (set_union s r) p (union_left s r) (implies_out e p h s k)))
 
 -- what is true stays true
-pub withdraw-true : (r : ℕ) (p : List ℕ) → T (isTrue p) → T (isTrue (withdraw r p))
-unfolding isTrue
-withdraw-true r p h =
-    let k = holds-out 0 (withdraw r p) (subst (λ (b : Bool). T b) (sym (withdraw-holds 0 r p)) (true-holds (setUnion 0 r) p h)) in
-    any-in (λ t. eqb t 0) (withdraw r p) k.0 k.1 (subst (λ (t : ℕ). T (eqb t 0)) (sym (subset-empty k.0 k.2)) tt)
+pub withdraw_true : (r : ℕ) (p : List ℕ) → T (is_true p) → T (is_true (withdraw r p))
+unfolding is_true
+withdraw_true r p h =
+    let k = holds_out 0 (withdraw r p) (subst (λ (b : Bool). T b) (sym (withdraw-holds 0 r p)) (true_holds (set_union 0 r) p h)) in
+    any_in (λ t. eqb t 0) (withdraw r p) k.0 k.1 (subst (λ (t : ℕ). T (eqb t 0)) (sym (subset-empty k.0 k.2)) tt)
 
 -- ---- in place
 
-pub withdraw-stays : (n r : ℕ) (l : List ℕ) → n ≤ length l → T (isNormal (take n l)) → all (λ t. eqb (shared t r) 0) (take n l) ≡ true
+pub withdraw_stays : (n r : ℕ) (l : List ℕ) → n ≤ length l → T (is_normal (take n l)) → all (λ t. eqb (shared t r) 0) (take n l) ≡ true
     → (n ≡ length (withdraw r (take n l))) × (l ≡ padded n (withdraw r (take n l)) ++ drop n l)
 unfolding padded
-withdraw-stays n r l h k e =
-    let w = withdraw-none r (take n l) k (true-T _ e) in
+withdraw_stays n r l h k e =
+    let w = withdraw-none r (take n l) k (true_T _ e) in
     let z : n - length (take n l) ≡ 0 = omega (arith, length-take-le n l h) in
     (sym (length-take-le n l h) ∙ ap length (sym w), rw (w, z, append-nil (take n l)) (sym (take-append-drop n l)))
 
 -- what `normal_form` leaves of terms without the names of r
-pub withdraw-calls : (n r : ℕ) (l u : List ℕ) → n ≤ length l → u ≡ map (λ t. minus t r) (take n l) ++ drop n l
+pub withdraw_calls : (n r : ℕ) (l u : List ℕ) → n ≤ length l → u ≡ map (λ t. minus t r) (take n l) ++ drop n l
     → (normal (take n u) ≡ withdraw r (take n l)) × (drop n u ≡ drop n l)
 unfolding withdraw
-withdraw-calls n r l u h e =
+withdraw_calls n r l u h e =
     let k : length (map (λ t. minus t r) (take n l)) ≡ n = length-map (take n l) (λ t. minus t r) ∙ length-take-le n l h in (
       ap (λ (v : List ℕ). normal (take n v)) e ∙ ap normal (take_at (map (λ t. minus t r) (take n l)) (drop n l) n k),
       ap (λ (v : List ℕ). drop n v) e ∙ drop_at (map (λ t. minus t r) (take n l)) (drop n l) n k,
     )
 
 -- a predicate with the empty term has it alone as its normal form
-normal-true : (q : List ℕ) → holds 0 q ≡ true → normal q ≡ 0 ∷ []
-unfolding isNormal holds
-normal-true q e =
-    sym (normal-only (0 ∷ []) q tt (λ s.
+normal_true : (q : List ℕ) → holds 0 q ≡ true → normal q ≡ 0 ∷ []
+unfolding is_normal holds
+normal_true q e =
+    sym (normal_only (0 ∷ []) q tt (λ s.
     ap (λ (b : Bool). b || false) (T_true (subset 0 s) (empty-subset s))
-    ∙ sym (T_true (holds s q) (holds-mono 0 s q (empty-subset s) (true-T (holds 0 q) e)))))
+    ∙ sym (T_true (holds s q) (holds_mono 0 s q (empty-subset s) (true_T (holds 0 q) e)))))
 
 some_holds : (n : ℕ) (u : List ℕ) → holds 0 (take n u) ≡ true → 0 < n
 unfolding holds
-some_holds zero u e = absurd (true-T false e)
+some_holds zero u e = absurd (true_T false e)
 some_holds (suc n) u e = omega arith
 
 -- zeros are its normal form
-pub withdraw-gone : (n r : ℕ) (l u v : List ℕ) → n ≤ length l → u ≡ map (λ t. minus t r) (take n l) ++ drop n l → length u ≡ length l
+pub withdraw_gone : (n r : ℕ) (l u v : List ℕ) → n ≤ length l → u ≡ map (λ t. minus t r) (take n l) ++ drop n l → length u ≡ length l
     → holds 0 (take n u) ≡ true → v ≡ sets u 0 (replicate n 0)
     → ((1 ≡ length (withdraw r (take n l))) × (1 ≤ n)) × (v ≡ padded n (withdraw r (take n l)) ++ drop n l)
 unfolding padded
-withdraw-gone n r l u v h e k g f =
-    let calls = withdraw-calls n r l u h e in
-    let gone : withdraw r (take n l) ≡ 0 ∷ [] = sym calls.0 ∙ normal-true (take n u) g in
+withdraw_gone n r l u v h e k g f =
+    let calls = withdraw_calls n r l u h e in
+    let gone : withdraw r (take n l) ≡ 0 ∷ [] = sym calls.0 ∙ normal_true (take n u) g in
     let some = some_holds n u g in
     let row : List ℕ = replicate n 0 in
     let long : length row ≡ n = length-replicate n 0 in

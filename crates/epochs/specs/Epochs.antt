@@ -6,26 +6,26 @@ use Rattle.names.specs.Sets.{minus}
 use Rattle.predicates.specs.Predicates.{normal}
 
 -- the greatest epoch, and how many identifiers have one
-abbrev pub epochMost : ℕ
-epochMost = 15
+abbrev pub epoch_most : ℕ
+epoch_most = 15
 
-abbrev pub epochsMost : ℕ
-epochsMost = 29
+abbrev pub epochs_most : ℕ
+epochs_most = 29
 
 -- ---- names: one number, as an epoch word carries it, "identifier in bits 0–4, epoch in bits 5–8, the rest zero"
 
-abbrev pub identifierOf : ℕ → ℕ
-identifierOf name = name % 32
+abbrev pub identifier_of : ℕ → ℕ
+identifier_of name = name % 32
 
-abbrev pub epochOf : ℕ → ℕ
-epochOf name = name / 32
+abbrev pub epoch_of : ℕ → ℕ
+epoch_of name = name / 32
 
 abbrev pub name : ℕ → ℕ → ℕ
 name identifier epoch = identifier + 32 * epoch
 
 -- the first number that is none: "the rest zero"
-abbrev pub nameLimit : ℕ
-nameLimit = 512
+abbrev pub name_limit : ℕ
+name_limit = 512
 
 -- ---- a predicate with names that count as failed
 
@@ -36,18 +36,18 @@ withdraw r p = normal (map (λ t. minus t r) p)
 -- ---- epochs by identifier
 
 -- the epochs in the bytes s, one for each identifier from index at on
-unfoldable pub epochsIn : ℕ → List ℕ → List ℕ
-epochsIn at s = tab epochsMost (λ n. get_or s (at + n) 0)
+unfoldable pub epochs_in : ℕ → List ℕ → List ℕ
+epochs_in at s = tab epochs_most (λ n. get_or s (at + n) 0)
 
-abbrev pub digitOf : Bool → ℕ
-digitOf true = 1
-digitOf false = 0
+abbrev pub digit_of : Bool → ℕ
+digit_of true = 1
+digit_of false = 0
 
 -- the identifiers whose epoch in es is below the one in ks, as a mask: "an older one counts as failed"
 unfoldable pub older : List ℕ → List ℕ → ℕ
 older es [] = 0
-older [] (k ∷ ks) = digitOf (ltb 0 k) + 2 * older [] ks
-older (e ∷ es) (k ∷ ks) = digitOf (ltb e k) + 2 * older es ks
+older [] (k ∷ ks) = digit_of (ltb 0 k) + 2 * older [] ks
+older (e ∷ es) (k ∷ ks) = digit_of (ltb e k) + 2 * older es ks
 
 -- the known epochs ks once es are heard: the greater of both
 unfoldable pub raised : List ℕ → List ℕ → List ℕ
@@ -61,7 +61,7 @@ NotAbove es ks = (n : ℕ) → get_or es n 0 ≤ get_or ks n 0
 
 -- es where a name is heard; the own epoch stays: "a message never changes the own epoch"
 unfoldable pub told : ℕ → List ℕ → ℕ → List ℕ
-told own es w = cond (eqb (identifierOf w) own) es (set es (identifierOf w) (epochOf w))
+told own es w = cond (eqb (identifier_of w) own) es (set es (identifier_of w) (epoch_of w))
 
 -- the epochs that names speak of; of an identifier that none names, and of the own one, it is the known one
 unfoldable pub spoken : ℕ → List ℕ → List ℕ → List ℕ

@@ -2,8 +2,8 @@
 ghost use Rattle.std.specs.Prelude.{◌≡◌, List, ℕ, ◌+◌, ◌≤◌, ◌<◌, leb, length, get_or};
 ghost use Rattle.numbers.specs.Numbers.{put};
 ghost use Rattle.predicates.specs.Lists.{all};
-ghost use Rattle.epochs.specs.Epochs.{epochMost, epochsMost, epochsIn, older, raised, spoken};
-ghost use Rattle.epochs.specs.code.Known.{bitWhere, Named};
+ghost use Rattle.epochs.specs.Epochs.{epoch_most, epochs_most, epochs_in, older, raised, spoken};
+ghost use Rattle.epochs.specs.code.Known.{bit_where, Named};
 
 // The identifiers whose old names a message withdraws, and those that it names under an older epoch, as masks.
 #[derive(Drop)]
@@ -14,8 +14,8 @@ pub struct Heard {
 
 // Whether each epoch is one.
 pub fn fits(s: &[u8], at: usize) -> bool
-    requires { at + epochsMost ≤ length s.now }
-    ensures { result ≡ all (λ e. leb e epochMost) (epochsIn at s.now) }
+    requires { at + epochs_most ≤ length s.now }
+    ensures { result ≡ all (λ e. leb e epoch_most) (epochs_in at s.now) }
 {
     let mut ok = true;
     let mut i: usize = 0;
@@ -29,7 +29,7 @@ pub fn fits(s: &[u8], at: usize) -> bool
 // The identifier n as a mask where the test passes; else nobody.
 fn bit_where(test: bool, n: u32) -> u32
     requires { n < 32 }
-    ensures { result ≡ bitWhere test n }
+    ensures { result ≡ bit_where test n }
 {
     if test {
         return names::single(n);
@@ -39,17 +39,17 @@ fn bit_where(test: bool, n: u32) -> u32
 
 // The epoch of identifier n.
 pub fn epoch_of(s: &[u8], at: usize, n: u32) -> u32
-    requires { (at + epochsMost ≤ length s.now) × (n < epochsMost) }
-    ensures { (result ≡ get_or (epochsIn at s.now) n 0) × (result < 256) }
+    requires { (at + epochs_most ≤ length s.now) × (n < epochs_most) }
+    ensures { (result ≡ get_or (epochs_in at s.now) n 0) × (result < 256) }
 {
     numbers::byte(s[at + n as usize])
 }
 
 // What a message's names withdraw, and which of them are old. The own identifier's is passed over.
 pub fn hear(s: &[u8], at: usize, own: u32, words: &[u32]) -> Heard
-    requires { (at + epochsMost ≤ length s.now) × Named words.now }
-    ensures risen_value { result.risen ≡ older (epochsIn at s.now) (spoken own words.now (epochsIn at s.now)) }
-    ensures late_value { result.late ≡ older (spoken own words.now (epochsIn at s.now)) (epochsIn at s.now) }
+    requires { (at + epochs_most ≤ length s.now) × Named words.now }
+    ensures risen_value { result.risen ≡ older (epochs_in at s.now) (spoken own words.now (epochs_in at s.now)) }
+    ensures late_value { result.late ≡ older (spoken own words.now (epochs_in at s.now)) (epochs_in at s.now) }
 {
     let mut risen: u32 = 0;
     let mut late: u32 = 0;
@@ -67,8 +67,8 @@ pub fn hear(s: &[u8], at: usize, own: u32, words: &[u32]) -> Heard
 
 // Puts the epochs that pass the known ones in their places.
 pub fn raise(s: &mut [u8], at: usize, own: u32, words: &[u32])
-    requires { (at + epochsMost ≤ length s.old) × Named words.now }
-    ensures { (let ks : List ℕ = epochsIn at s.old in
+    requires { (at + epochs_most ≤ length s.old) × Named words.now }
+    ensures { (let ks : List ℕ = epochs_in at s.old in
         s.new ≡ put at (raised ks (spoken own words.now ks)) s.old) }
 {
     let mut i: usize = 0;

@@ -4,8 +4,8 @@ ghost use Rattle.std.proofs.lemmas.List.Edits.{sets};
 ghost use Rattle.names.specs.Sets.{minus};
 ghost use Rattle.names.specs.code.Parts.{shared};
 ghost use Rattle.predicates.specs.Lists.{all, padded};
-ghost use Rattle.predicates.specs.Predicates.{isNormal};
-ghost use Rattle.epochs.specs.Epochs.{withdraw as Epochs·withdraw};
+ghost use Rattle.predicates.specs.Predicates.{is_normal};
+ghost use Rattle.epochs.specs.Epochs.{withdraw};
 
 // Whether no term has a name of r.
 fn untouched(p: &[u32], r: u32) -> bool
@@ -49,9 +49,9 @@ fn clear(terms: &mut [u32], n: usize)
 // places given up. Answers how many terms there are. A predicate that names none of them stays as it is; one of which a term is left empty is
 // true, and that term alone is its normal form.
 pub fn withdraw(terms: &mut [u32], n: usize, r: u32) -> usize
-    requires { (n ≤ length terms.old) × T (isNormal (take n terms.old)) }
-    ensures value { (result ≡ length (Epochs·withdraw r (take n terms.old))) × (result ≤ n) }
-    ensures terms_after { terms.new ≡ padded n (Epochs·withdraw r (take n terms.old)) ++ drop n terms.old }
+    requires { (n ≤ length terms.old) × T (is_normal (take n terms.old)) }
+    ensures value { (result ≡ length (withdraw r (take n terms.old))) × (result ≤ n) }
+    ensures terms_after { terms.new ≡ padded n (withdraw r (take n terms.old)) ++ drop n terms.old }
 {
     if untouched(&terms[..n], r) {
         return n;

@@ -1,8 +1,8 @@
 // The fewest failures (document 01, "Fewest failures"): by rising counts, the least of the sets for which an instant counts.
 // Every function here is proved, and the crate assumes nothing of its own.
 ghost use Rattle.std.specs.Prelude.{◌≡◌, ◌≤◌, T, length};
-ghost use Rattle.state.specs.Layout.{state_of, stateSize, entryCount};
-ghost use Rattle.state.specs.Form.{inForm};
+ghost use Rattle.state.specs.Layout.{state_of, state_size, entry_count};
+ghost use Rattle.state.specs.Form.{in_form};
 ghost use Rattle.asking.specs.Fewest.{fewest};
 ghost use Rattle.fewest.specs.code.Limits.{FirstLimit, Floor};
 
@@ -10,7 +10,7 @@ use asking::Fewest;
 
 // The first limit from 2 on that the n entries do not rule out by themselves; 5 where they rule out all.
 fn first_limit(s: &[u8], n: usize) -> u32
-    requires { (stateSize ≤ length s.now) × T (inForm s.now) × (n ≡ entryCount s.now) }
+    requires { (state_size ≤ length s.now) × T (in_form s.now) × (n ≡ entry_count s.now) }
     ensures { FirstLimit (state_of s.now) result }
 {
     let mut limit: u32 = 2;
@@ -25,7 +25,7 @@ fn first_limit(s: &[u8], n: usize) -> u32
 
 // The fewest failures that explain a state in form, where no set of fewer than `from` names does.
 fn fewest_from(s: &[u8], from: u32) -> Fewest
-    requires { (stateSize ≤ length s.now) × T (inForm s.now) × (from ≤ 5) × Floor (state_of s.now) from }
+    requires { (state_size ≤ length s.now) × T (in_form s.now) × (from ≤ 5) × Floor (state_of s.now) from }
     ensures { result ≡ fewest (state_of s.now) }
 {
     let own = numbers::get32(s, state::OWN_AT);
@@ -78,7 +78,7 @@ fn fewest_from(s: &[u8], from: u32) -> Fewest
 
 // The fewest failures that explain a state in form.
 pub fn fewest_failures(s: &[u8]) -> Fewest
-    requires { (stateSize ≤ length s.now) × T (inForm s.now) }
+    requires { (state_size ≤ length s.now) × T (in_form s.now) }
     ensures { result ≡ fewest (state_of s.now) }
 {
     if asking::ask::agree(s) {

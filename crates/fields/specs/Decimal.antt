@@ -15,9 +15,9 @@ decimal n = digits 20 n
 -- ---- lines, with their line feed
 
 -- a word and a number
-unfoldable pub withOne : List ℕ → ℕ → List ℕ
-withOne word a = word ++ (decimal a ++ (10 ∷ []))
+unfoldable pub with_one : List ℕ → ℕ → List ℕ
+with_one word a = word ++ (decimal a ++ (10 ∷ []))
 
 -- a word and two numbers
-unfoldable pub withTwo : List ℕ → ℕ → ℕ → List ℕ
-withTwo word a b = word ++ (decimal a ++ ((32 ∷ []) ++ (decimal b ++ (10 ∷ []))))
+unfoldable pub with_two : List ℕ → ℕ → ℕ → List ℕ
+with_two word a b = word ++ (decimal a ++ ((32 ∷ []) ++ (decimal b ++ (10 ∷ []))))

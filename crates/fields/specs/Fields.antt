@@ -16,29 +16,29 @@ fields [] = [] ∷ []
 fields (b ∷ bs) = cond (eqb b 32) ([] ∷ fields bs) (onto b (fields bs))
 
 -- two lists of bytes are the same
-unfoldable pub sameBytes : List ℕ → List ℕ → Bool
-sameBytes [] [] = true
-sameBytes [] (y ∷ ys) = false
-sameBytes (x ∷ xs) [] = false
-sameBytes (x ∷ xs) (y ∷ ys) = eqb x y && sameBytes xs ys
+unfoldable pub same_bytes : List ℕ → List ℕ → Bool
+same_bytes [] [] = true
+same_bytes [] (y ∷ ys) = false
+same_bytes (x ∷ xs) [] = false
+same_bytes (x ∷ xs) (y ∷ ys) = eqb x y && same_bytes xs ys
 
 -- ---- numbers: "All fields are decimal, 1 to 20 digits"
 
-abbrev pub isDigit : ℕ → Bool
-isDigit b = leb 48 b && leb b 57
+abbrev pub is_digit : ℕ → Bool
+is_digit b = leb 48 b && leb b 57
 
 -- the number that digits write behind the number v
-unfoldable pub valueFrom : ℕ → List ℕ → ℕ
-valueFrom v [] = v
-valueFrom v (d ∷ ds) = valueFrom (v * 10 + (d - 48)) ds
+unfoldable pub value_from : ℕ → List ℕ → ℕ
+value_from v [] = v
+value_from v (d ∷ ds) = value_from (v * 10 + (d - 48)) ds
 
 unfoldable pub value : List ℕ → ℕ
-value field = valueFrom 0 field
+value field = value_from 0 field
 
 -- a field that is a number of 64 bits
 unfoldable pub is_number : List ℕ → Bool
-is_number field = (leb 1 (length field) && leb (length field) 20) && (all isDigit field && ltb (value field) (2 ^ 64))
+is_number field = (leb 1 (length field) && leb (length field) 20) && (all is_digit field && ltb (value field) (2 ^ 64))
 
 -- "words, own and drift 32"
-abbrev pub isWord : ℕ → Bool
-isWord n = ltb n (2 ^ 32)
+abbrev pub is_word : ℕ → Bool
+is_word n = ltb n (2 ^ 32)

@@ -2,8 +2,8 @@
 ghost use Rattle.std.specs.Prelude.{◌≡◌, cond, List, ℕ, ◌+◌, ◌*◌, ◌≤◌, ◌<◌, length, drop};
 ghost use Rattle.predicates.specs.Lists.{all};
 ghost use Rattle.numbers.specs.Numbers.{put, bytes_of};
-ghost use Rattle.fields.specs.Fields.{fields, value, is_number, isWord, sameBytes};
-ghost use Rattle.fields.specs.code.Scan.{later, spaceAt, numbersIn};
+ghost use Rattle.fields.specs.Fields.{fields, value, is_number, is_word, same_bytes};
+ghost use Rattle.fields.specs.code.Scan.{later, space_at, numbers_in};
 
 // Whether a field is a number, and the number; 0 where it is none.
 #[derive(Drop)]
@@ -15,7 +15,7 @@ struct Field {
 // The index of the first space from `at` on, or the length of the line.
 pub fn field_end(line: &[u8], at: usize) -> usize
     requires { at ≤ length line.now }
-    ensures { (result ≡ at + spaceAt (drop at line.now)) × (at ≤ result) × (result ≤ length line.now) }
+    ensures { (result ≡ at + space_at (drop at line.now)) × (at ≤ result) × (result ≤ length line.now) }
 {
     let mut i = at;
     while i < line.len() {
@@ -87,7 +87,7 @@ fn numbers_from(line: &[u8], from: usize, values: &mut [u64]) -> Numbers
         (result.good ≡ all is_number read) × (result.count ≡ cond (all is_number read) (length read) 0)
         × (result.count ≤ length values.old)) }
     ensures values_after { (let read : List (List ℕ) = fields (drop from line.now) in
-        values.new ≡ put 0 (numbersIn read) values.old) }
+        values.new ≡ put 0 (numbers_in read) values.old) }
 {
     let mut at = from;
     let mut n: usize = 0;
@@ -114,12 +114,12 @@ fn numbers_from(line: &[u8], from: usize, values: &mut [u64]) -> Numbers
 
 // The same for the fields behind the first one, which ends at `end`.
 pub fn numbers_behind(line: &[u8], end: usize, values: &mut [u64]) -> Numbers
-    requires { (end ≡ spaceAt line.now) × (end ≤ length line.now) × (length line.now < 2 * length values.old) }
+    requires { (end ≡ space_at line.now) × (end ≤ length line.now) × (length line.now < 2 * length values.old) }
     ensures fact { (let read : List (List ℕ) = later (fields line.now) in
         (result.good ≡ all is_number read) × (result.count ≡ cond (all is_number read) (length read) 0)
         × (result.count ≤ length values.old)) }
     ensures values_after { (let read : List (List ℕ) = later (fields line.now) in
-        values.new ≡ put 0 (numbersIn read) values.old) }
+        values.new ≡ put 0 (numbers_in read) values.old) }
 {
     if end == line.len() {
         return Numbers {
@@ -132,7 +132,7 @@ pub fn numbers_behind(line: &[u8], end: usize, values: &mut [u64]) -> Numbers
 
 // Whether two byte strings are the same.
 pub fn same(a: &[u8], b: &[u8]) -> bool
-    ensures { result ≡ sameBytes a.now b.now }
+    ensures { result ≡ same_bytes a.now b.now }
 {
     if a.len() != b.len() {
         return false;
@@ -149,7 +149,7 @@ pub fn same(a: &[u8], b: &[u8]) -> bool
 
 // Whether each number is a word of 32 bits.
 pub fn words_fit(words: &[u64]) -> bool
-    ensures { result ≡ all isWord words.now }
+    ensures { result ≡ all is_word words.now }
 {
     let mut i: usize = 0;
     while i < words.len() {

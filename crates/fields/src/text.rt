@@ -1,7 +1,7 @@
 // Texts and decimal numbers, as bytes at a place of the output, and the lines that they make. Each function answers the place behind what it stored.
 ghost use Rattle.std.specs.Prelude.{◌≡◌, ◌+◌, ◌^◌, ◌≤◌, ◌<◌, length};
 ghost use Rattle.numbers.specs.Numbers.{put};
-ghost use Rattle.fields.specs.Decimal.{digits, decimal, withOne, withTwo};
+ghost use Rattle.fields.specs.Decimal.{digits, decimal, with_one, with_two};
 
 // Stores the bytes of `text` in `out` from index `at` on, and answers the place behind them.
 pub fn put_text(out: &mut [u8], at: usize, text: &[u8]) -> usize
@@ -56,8 +56,8 @@ fn put_decimal(out: &mut [u8], at: usize, n: u64) -> usize
 // space behind it.
 pub fn put_one(out: &mut [u8], word: &[u8], a: u64) -> usize
     requires { length word.now + 21 ≤ length out.old }
-    ensures value { result ≡ length (withOne word.now a) }
-    ensures out_after { out.new ≡ put 0 (withOne word.now a) out.old }
+    ensures value { result ≡ length (with_one word.now a) }
+    ensures out_after { out.new ≡ put 0 (with_one word.now a) out.old }
 {
     let first = put_text(out, 0, word);
     let second = put_decimal(out, first, a);
@@ -67,8 +67,8 @@ pub fn put_one(out: &mut [u8], word: &[u8], a: u64) -> usize
 // The line of a word and two numbers at the front of the output.
 pub fn put_two(out: &mut [u8], word: &[u8], a: u64, b: u64) -> usize
     requires { length word.now + 42 ≤ length out.old }
-    ensures value { result ≡ length (withTwo word.now a b) }
-    ensures out_after { out.new ≡ put 0 (withTwo word.now a b) out.old }
+    ensures value { result ≡ length (with_two word.now a b) }
+    ensures out_after { out.new ≡ put 0 (with_two word.now a b) out.old }
 {
     let first = put_text(out, 0, word);
     let second = put_decimal(out, first, a);

@@ -1,8 +1,8 @@
 // The five commands over the numbers of their fields. Each writes its line at the front of the output and answers how many bytes it has.
 ghost use Rattle.std.specs.Prelude.{◌≡◌, ◌≤◌, length};
 ghost use Rattle.numbers.specs.Numbers.{put};
-ghost use Rattle.lines.specs.Lines.{LineResult, setLine, ageLine, getLine, askLine, fewestLine, laterLine, word_line};
-ghost use Rattle.lines.specs.code.Sizes.{valuesMost, answerMost};
+ghost use Rattle.lines.specs.Lines.{LineResult, set_line, age_line, get_line, ask_line, fewest_line, later_line, word_line};
+ghost use Rattle.lines.specs.code.Sizes.{values_most, answer_most};
 
 use crate::{Answered, VALUES_MOST, text};
 use fields::read;
@@ -12,8 +12,8 @@ const MESSAGE_MOST: usize = (VALUES_MOST - 2) * 4;
 
 // `set` own drift reading epoch.
 fn set_line(values: &[u64], state: &mut [u8], begun: bool, out: &mut [u8]) -> Answered
-    requires { answerMost ≤ length out.old }
-    ensures* { λ r. ⌜ (let result : LineResult = setLine values.now begun state.old in
+    requires { answer_most ≤ length out.old }
+    ensures* { λ r. ⌜ (let result : LineResult = set_line values.now begun state.old in
         (r.begun ≡ result.begun) × (r.size ≡ length result.text) × (state.new ≡ result.state)
         × (out.new ≡ put 0 result.text out.old)) ⌝ }
 {
@@ -43,8 +43,8 @@ fn set_line(values: &[u64], state: &mut [u8], begun: bool, out: &mut [u8]) -> An
 
 // `age` reading.
 fn age_line(values: &[u64], state: &mut [u8], out: &mut [u8]) -> usize
-    requires { answerMost ≤ length out.old }
-    ensures* { λ r. ⌜ (let result : LineResult = ageLine values.now state.old in
+    requires { answer_most ≤ length out.old }
+    ensures* { λ r. ⌜ (let result : LineResult = age_line values.now state.old in
         (r ≡ length result.text) × (state.new ≡ result.state) × (out.new ≡ put 0 result.text out.old)) ⌝ }
 {
     if values.len() != 1 {
@@ -56,8 +56,8 @@ fn age_line(values: &[u64], state: &mut [u8], out: &mut [u8]) -> usize
 
 // `get` least greatest words: the words as bytes are the message.
 fn get_line(values: &[u64], state: &mut [u8], out: &mut [u8]) -> usize
-    requires { (length values.now ≤ valuesMost) × (answerMost ≤ length out.old) }
-    ensures* { λ r. ⌜ (let result : LineResult = getLine values.now state.old in
+    requires { (length values.now ≤ values_most) × (answer_most ≤ length out.old) }
+    ensures* { λ r. ⌜ (let result : LineResult = get_line values.now state.old in
         (r ≡ length result.text) × (state.new ≡ result.state) × (out.new ≡ put 0 result.text out.old)) ⌝ }
 {
     if values.len() < 2 {
@@ -76,8 +76,8 @@ fn get_line(values: &[u64], state: &mut [u8], out: &mut [u8]) -> usize
 
 // `ask` limit.
 fn ask_line(values: &[u64], state: &[u8], out: &mut [u8]) -> usize
-    requires { answerMost ≤ length out.old }
-    ensures* { λ r. ⌜ (let result : LineResult = askLine values.now state.now in
+    requires { answer_most ≤ length out.old }
+    ensures* { λ r. ⌜ (let result : LineResult = ask_line values.now state.now in
         (r ≡ length result.text) × (out.new ≡ put 0 result.text out.old)) ⌝ }
 {
     if values.len() != 1 {
@@ -93,8 +93,8 @@ fn ask_line(values: &[u64], state: &[u8], out: &mut [u8]) -> usize
 
 // `fewest`.
 fn fewest_line(values: &[u64], state: &[u8], out: &mut [u8]) -> usize
-    requires { answerMost ≤ length out.old }
-    ensures* { λ r. ⌜ (let result : LineResult = fewestLine values.now state.now in
+    requires { answer_most ≤ length out.old }
+    ensures* { λ r. ⌜ (let result : LineResult = fewest_line values.now state.now in
         (r ≡ length result.text) × (out.new ≡ put 0 result.text out.old)) ⌝ }
 {
     if values.len() != 0 {
@@ -110,8 +110,8 @@ fn fewest_line(values: &[u64], state: &[u8], out: &mut [u8]) -> usize
 
 // A command that needs a taken `set` before it.
 fn later_line(word: &[u8], values: &[u64], state: &mut [u8], out: &mut [u8]) -> usize
-    requires { (length values.now ≤ valuesMost) × (answerMost ≤ length out.old) }
-    ensures* { λ r. ⌜ (let result : LineResult = laterLine word.now values.now state.old in
+    requires { (length values.now ≤ values_most) × (answer_most ≤ length out.old) }
+    ensures* { λ r. ⌜ (let result : LineResult = later_line word.now values.now state.old in
         (r ≡ length result.text) × (state.new ≡ result.state) × (out.new ≡ put 0 result.text out.old)) ⌝ }
 {
     if read::same(word, b"age") {
@@ -137,7 +137,7 @@ pub fn word_line(
     begun: bool,
     out: &mut [u8],
 ) -> Answered
-    requires { (length values.now ≤ valuesMost) × (answerMost ≤ length out.old) }
+    requires { (length values.now ≤ values_most) × (answer_most ≤ length out.old) }
     ensures* { λ r. ⌜ (let result : LineResult = word_line word.now values.now begun state.old in
         (r.begun ≡ result.begun) × (r.size ≡ length result.text) × (state.new ≡ result.state)
         × (out.new ≡ put 0 result.text out.old)) ⌝ }

@@ -2,8 +2,8 @@
 // Every function here is proved, and the crate assumes nothing of its own.
 ghost use Rattle.std.specs.Prelude.{◌≡◌, ◌≤◌, length};
 ghost use Rattle.numbers.specs.Numbers.{put};
-ghost use Rattle.lines.specs.code.Sizes.{answerMost};
-ghost use Rattle.lines.specs.Lines.{LineResult, lineResult};
+ghost use Rattle.lines.specs.code.Sizes.{answer_most};
+ghost use Rattle.lines.specs.Lines.{LineResult, line_result};
 
 mod commands;
 mod text;
@@ -27,8 +27,8 @@ pub struct Answered {
 // Carries a line out, its bytes without the line feed, and writes the answer with its line feed at the front of `out`. `begun` says whether a `set`
 // was taken before, and the state is that of the last one.
 pub fn answer(line: &[u8], state: &mut [u8], begun: bool, out: &mut [u8]) -> Answered
-    requires { answerMost ≤ length out.old }
-    ensures* { λ r. ⌜ (let result : LineResult = lineResult line.now begun state.old in
+    requires { answer_most ≤ length out.old }
+    ensures* { λ r. ⌜ (let result : LineResult = line_result line.now begun state.old in
         (r.begun ≡ result.begun) × (r.size ≡ length result.text) × (state.new ≡ result.state)
         × (out.new ≡ put 0 result.text out.old)) ⌝ }
 {

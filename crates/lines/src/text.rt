@@ -1,26 +1,26 @@
 // The lines that the listing prints, as bytes at the front of the output.
 ghost use Rattle.std.specs.Prelude.{◌≡◌, ◌≤◌, length};
 ghost use Rattle.numbers.specs.Numbers.{put};
-ghost use Rattle.monitor.specs.Ask.{answer_in, fewestIn};
-ghost use Rattle.lines.specs.Text.{badText, numberText, answerText, fewestText};
-ghost use Rattle.lines.specs.code.Sizes.{answerMost};
+ghost use Rattle.monitor.specs.Ask.{answer_in, fewest_in};
+ghost use Rattle.lines.specs.Text.{bad_text, number_text, answer_text, fewest_text};
+ghost use Rattle.lines.specs.code.Sizes.{answer_most};
 
 use fields::text;
 
 // The line for a line that is no command.
 pub fn put_bad(out: &mut [u8]) -> usize
-    requires { answerMost ≤ length out.old }
-    ensures value { result ≡ length badText }
-    ensures out_after { out.new ≡ put 0 badText out.old }
+    requires { answer_most ≤ length out.old }
+    ensures value { result ≡ length bad_text }
+    ensures out_after { out.new ≡ put 0 bad_text out.old }
 {
     text::put_text(out, 0, b"bad line\n")
 }
 
 // The line for the number of a call: `ok`, or `refused` and the number.
 pub fn put_number(out: &mut [u8], number: u32) -> usize
-    requires { answerMost ≤ length out.old }
-    ensures value { result ≡ length (numberText number) }
-    ensures out_after { out.new ≡ put 0 (numberText number) out.old }
+    requires { answer_most ≤ length out.old }
+    ensures value { result ≡ length (number_text number) }
+    ensures out_after { out.new ≡ put 0 (number_text number) out.old }
 {
     if number == 0 {
         return text::put_text(out, 0, b"ok\n");
@@ -30,9 +30,9 @@ pub fn put_number(out: &mut [u8], number: u32) -> usize
 
 // The line for the 24 bytes that asking gives: `contradicted`, `open`, or `between` and both ends.
 pub fn put_answer(out: &mut [u8], answer: &[u8]) -> usize
-    requires { (24 ≤ length answer.now) × (answerMost ≤ length out.old) }
-    ensures value { result ≡ length (answerText (answer_in answer.now)) }
-    ensures out_after { out.new ≡ put 0 (answerText (answer_in answer.now)) out.old }
+    requires { (24 ≤ length answer.now) × (answer_most ≤ length out.old) }
+    ensures value { result ≡ length (answer_text (answer_in answer.now)) }
+    ensures out_after { out.new ≡ put 0 (answer_text (answer_in answer.now)) out.old }
 {
     let kind = numbers::get64(answer, 0);
     if kind == 0 {
@@ -48,9 +48,9 @@ pub fn put_answer(out: &mut [u8], answer: &[u8]) -> usize
 
 // The line for the 16 bytes that the fewest failures give: `fewest over 4`, or `fewest` with count and mask.
 pub fn put_fewest(out: &mut [u8], answer: &[u8]) -> usize
-    requires { (16 ≤ length answer.now) × (answerMost ≤ length out.old) }
-    ensures value { result ≡ length (fewestText (fewestIn answer.now)) }
-    ensures out_after { out.new ≡ put 0 (fewestText (fewestIn answer.now)) out.old }
+    requires { (16 ≤ length answer.now) × (answer_most ≤ length out.old) }
+    ensures value { result ≡ length (fewest_text (fewest_in answer.now)) }
+    ensures out_after { out.new ≡ put 0 (fewest_text (fewest_in answer.now)) out.old }
 {
     let count = numbers::get64(answer, 0);
     if count == 5 {

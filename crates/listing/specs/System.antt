@@ -6,39 +6,39 @@ use Rattle.listing.specs.declared.system.Call.{Call}
 -- ---- what was returned
 
 -- so many bytes were moved
-abbrev pub movedBy : ℤ → ℕ
-movedBy (pos n) = n
-movedBy (negsuc n) = 0
+abbrev pub moved_by : ℤ → ℕ
+moved_by (pos n) = n
+moved_by (negsuc n) = 0
 
 -- by `read`: the input has ended
-abbrev pub isEnd : ℤ → Bool
-isEnd (pos n) = eqb n 0
-isEnd (negsuc n) = false
+abbrev pub is_end : ℤ → Bool
+is_end (pos n) = eqb n 0
+is_end (negsuc n) = false
 
 -- the call failed
-abbrev pub isFailure : ℤ → Bool
-isFailure (pos n) = false
-isFailure (negsuc n) = true
+abbrev pub is_failure : ℤ → Bool
+is_failure (pos n) = false
+is_failure (negsuc n) = true
 
 -- the error numbers of a call that may go well the next time: a signal came (EINTR, 4), or no byte can be moved yet (EAGAIN, 11)
-abbrev pub isPassing : ℤ → Bool
-isPassing (pos n) = eqb n 4 || eqb n 11
-isPassing (negsuc n) = false
+abbrev pub is_passing : ℤ → Bool
+is_passing (pos n) = eqb n 4 || eqb n 11
+is_passing (negsuc n) = false
 
 -- a call that returned this, with this error number, may go well the next time
-abbrev pub triesAgain : ℤ → ℤ → Bool
-triesAgain got error = isFailure got && isPassing error
+abbrev pub tries_again : ℤ → ℤ → Bool
+tries_again got error = is_failure got && is_passing error
 
 -- ---- one call after the other
 
 -- so many calls for the same bytes may move nothing: a proved loop has to end, and nothing says that the signals do
-abbrev pub triesMost : ℕ
-triesMost = 2 ^ 64 - 1
+abbrev pub tries_most : ℕ
+tries_most = 2 ^ 64 - 1
 
 -- a call is made again
-unfoldable pub isRepeated : Call → Bool
-isRepeated c = ltb c.tries triesMost && triesAgain c.got c.error
+unfoldable pub is_repeated : Call → Bool
+is_repeated c = ltb c.tries tries_most && tries_again c.got c.error
 
 -- the bytes that are left are tried: the call moved some, or is made again
-unfoldable pub goesOn : Call → Bool
-goesOn c = ltb c.tries triesMost && (ltb 0 (movedBy c.got) || triesAgain c.got c.error)
+unfoldable pub goes_on : Call → Bool
+goes_on c = ltb c.tries tries_most && (ltb 0 (moved_by c.got) || tries_again c.got c.error)

@@ -1,8 +1,8 @@
 // What a run has done, in counts that only this module can make and look into, so that nobody else counts a byte that no call has moved.
 ghost use Rattle.std.specs.Prelude.{◌≡◌, ◌+◌, ◌^◌, ◌<◌, length};
-ghost use Rattle.listing.specs.System.{movedBy, isEnd};
-ghost use Rattle.listing.specs.Run.{isLost, stopped};
-ghost use Rattle.listing.specs.code.Turns.{nothingDone, Hears, HandsOn};
+ghost use Rattle.listing.specs.System.{moved_by, is_end};
+ghost use Rattle.listing.specs.Run.{is_lost, stopped};
+ghost use Rattle.listing.specs.code.Turns.{nothing_done, Hears, HandsOn};
 
 use crate::system;
 use crate::system::Call;
@@ -19,7 +19,7 @@ pub struct Tally {
 
 // Before the first call.
 pub fn begin() -> Tally
-    ensures { result ≡ nothingDone }
+    ensures { result ≡ nothing_done }
 {
     Tally {
         read: 0,
@@ -39,7 +39,7 @@ pub fn read(tally: Tally) -> u64
 
 // How many bytes the last read brought.
 pub fn came(tally: Tally) -> usize
-    ensures { result ≡ movedBy tally.input.got }
+    ensures { result ≡ moved_by tally.input.got }
 {
     let last = tally.input;
     system::moved(last)
@@ -47,7 +47,7 @@ pub fn came(tally: Tally) -> usize
 
 // Whether the last read has found the end of the input.
 pub fn is_end(tally: Tally) -> bool
-    ensures { result ≡ isEnd tally.input.got }
+    ensures { result ≡ is_end tally.input.got }
 {
     let last = tally.input;
     system::is_end(last)
@@ -55,7 +55,7 @@ pub fn is_end(tally: Tally) -> bool
 
 // Whether output is lost: more was handed on than could be written.
 pub fn is_lost(tally: Tally) -> bool
-    ensures { result ≡ isLost tally }
+    ensures { result ≡ is_lost tally }
 {
     tally.written < tally.handed
 }

@@ -6,12 +6,12 @@
 // line that is passed over each make a count wrong.
 ghost use Rattle.std.specs.Prelude.{◌≡◌, ◌||◌, List, ℕ, ◌+◌, ◌*◌, ◌≤◌, ◌<◌, T, leb, length, take};
 ghost use Rattle.numbers.specs.Numbers.{put};
-ghost use Rattle.lines.specs.code.Sizes.{answerMost};
-ghost use Rattle.stream.specs.Kept.{textAfter};
-ghost use Rattle.stream.specs.code.Sessions.{Standing, keptBy};
-ghost use Rattle.listing.specs.System.{movedBy, isEnd};
-ghost use Rattle.listing.specs.Run.{readMost, stopped, Went, Ran, CallsTell, complaintOf};
-ghost use Rattle.listing.specs.code.Turns.{pieceMost, isGoing, Turned};
+ghost use Rattle.lines.specs.code.Sizes.{answer_most};
+ghost use Rattle.stream.specs.Kept.{text_after};
+ghost use Rattle.stream.specs.code.Sessions.{Standing, kept_by};
+ghost use Rattle.listing.specs.System.{moved_by, is_end};
+ghost use Rattle.listing.specs.Run.{read_most, stopped, Went, Ran, CallsTell, complaint_of};
+ghost use Rattle.listing.specs.code.Turns.{piece_most, is_going, Turned};
 
 use crate::count::Tally;
 use lines::ANSWER_MOST;
@@ -38,13 +38,13 @@ struct Progress {
 
 // Reads once, and answers what came: the piece stands at the front of `input` then, and what it prints at the front of `out`.
 fn turn(from: Progress, input: &mut [u8], out: &mut [u8]) -> Progress
-    requires standing { Standing from.session × (length input.old ≡ pieceMost) × (answerMost * pieceMost ≤ length out.old) }
-    requires read_lt_read_most { (from.tally.read < readMost) × (from.tally.handed ≤ answerMost * from.tally.read)
+    requires standing { Standing from.session × (length input.old ≡ piece_most) × (answer_most * piece_most ≤ length out.old) }
+    requires read_lt_read_most { (from.tally.read < read_most) × (from.tally.handed ≤ answer_most * from.tally.read)
         × (from.tally.written ≡ from.tally.handed) }
     ensures standing_2 { Standing result.session }
-    ensures fact { (let piece : List ℕ = take (movedBy result.tally.input.got) input.new in
-        Turned piece (keptBy from.session) (keptBy result.session) from.tally result.tally
-        × (out.new ≡ put 0 (textAfter (keptBy from.session) piece) out.old)) }
+    ensures fact { (let piece : List ℕ = take (moved_by result.tally.input.got) input.new in
+        Turned piece (kept_by from.session) (kept_by result.session) from.tally result.tally
+        × (out.new ≡ put 0 (text_after (kept_by from.session) piece) out.old)) }
 {
     let heard = count::receive(from.tally, input);
     let n = count::came(heard);
@@ -61,18 +61,18 @@ fn turn(from: Progress, input: &mut [u8], out: &mut [u8]) -> Progress
 
 // Whether a run goes on.
 fn is_going(tally: Tally) -> bool
-    ensures { result ≡ isGoing tally }
+    ensures { result ≡ is_going tally }
 {
     (count::read(tally) < READ_MOST) & !count::stops(tally)
 }
 
 // Reads and answers until the run stops.
 fn take_all(input: &mut [u8], out: &mut [u8]) -> Progress
-    requires { (length input.old ≡ pieceMost) × (answerMost * pieceMost ≤ length out.old) }
-    ensures standing { Standing result.session × (result.tally.read < readMost + pieceMost) }
-    ensures went { Went result.tally.read result.tally.handed (keptBy result.session) }
-    ensures calls_tell { CallsTell result.tally × (T (isEnd result.tally.input.got) → result.tally.written ≡ result.tally.handed) }
-    ensures t { T (stopped result.tally || leb readMost result.tally.read) }
+    requires { (length input.old ≡ piece_most) × (answer_most * piece_most ≤ length out.old) }
+    ensures standing { Standing result.session × (result.tally.read < read_most + piece_most) }
+    ensures went { Went result.tally.read result.tally.handed (kept_by result.session) }
+    ensures calls_tell { CallsTell result.tally × (T (is_end result.tally.input.got) → result.tally.written ≡ result.tally.handed) }
+    ensures t { T (stopped result.tally || leb read_most result.tally.read) }
 {
     let session = stream::begin();
     let tally = count::begin();
@@ -85,15 +85,15 @@ fn take_all(input: &mut [u8], out: &mut [u8]) -> Progress
 
 // Room for what a piece prints.
 fn room() -> [u8; OUT_SIZE]
-    ensures { answerMost * pieceMost ≡ length result }
+    ensures { answer_most * piece_most ≡ length result }
 {
     [0; OUT_SIZE]
 }
 
 // Reads and answers all, a last line without a line feed too.
 fn answer_all() -> Tally
-    ensures ran { Ran result.read result.handed (isEnd result.input.got) }
-    ensures calls_tell { CallsTell result × T (stopped result || leb readMost result.read) }
+    ensures ran { Ran result.read result.handed (is_end result.input.got) }
+    ensures calls_tell { CallsTell result × T (stopped result || leb read_most result.read) }
 {
     let mut input = [0u8; PIECE_MOST];
     let mut out = room();
@@ -109,7 +109,7 @@ fn answer_all() -> Tally
 
 // What a run that loses something says: of two sentences the one for output, or else the one for input.
 fn complaint<'a>(tally: Tally, unwritten: &'a [u8], unread: &'a [u8]) -> &'a [u8]
-    ensures { result.now ≡ complaintOf tally unwritten.now unread.now }
+    ensures { result.now ≡ complaint_of tally unwritten.now unread.now }
 {
     if count::is_lost(tally) {
         return unwritten;

@@ -1,8 +1,8 @@
 // Reading and writing. `next_read` alone reads, `next_write` alone writes, and each hands on what the system returned as a call, which only this
 // module can make and look into. What follows from a call is decided by functions whose contracts give the answer by a definition.
 ghost use Rattle.std.specs.Prelude.{◌≡◌, not, ◌≤◌, ◌<◌, T, ltb, length, drop};
-ghost use Rattle.listing.specs.System.{movedBy, isEnd, isFailure, triesAgain, triesMost, isRepeated, goesOn};
-ghost use Rattle.listing.specs.code.Calls.{noCall, callAfter};
+ghost use Rattle.listing.specs.System.{moved_by, is_end, is_failure, tries_again, tries_most, is_repeated, goes_on};
+ghost use Rattle.listing.specs.code.Calls.{no_call, call_after};
 
 // A call of the system: what it returned, the error number then, and how many calls for the same bytes have moved nothing by now.
 #[derive(Drop)]
@@ -14,7 +14,7 @@ pub struct Call {
 
 // Before the first call: as if one had gone well.
 pub fn no_call() -> Call
-    ensures { result ≡ noCall }
+    ensures { result ≡ no_call }
 {
     Call {
         got: 1,
@@ -25,50 +25,50 @@ pub fn no_call() -> Call
 
 // How many bytes a call moved.
 pub fn moved(call: Call) -> usize
-    ensures { result ≡ movedBy call.got }
+    ensures { result ≡ moved_by call.got }
 {
     if call.got > 0 { call.got as usize } else { 0 }
 }
 
 // Whether a read has found the end of the input.
 pub fn is_end(call: Call) -> bool
-    ensures { result ≡ isEnd call.got }
+    ensures { result ≡ is_end call.got }
 {
     call.got == 0
 }
 
 // Whether a call failed.
 pub fn is_failure(call: Call) -> bool
-    ensures { result ≡ isFailure call.got }
+    ensures { result ≡ is_failure call.got }
 {
     call.got < 0
 }
 
 // Whether a call may go well the next time: a signal came, or no byte can be moved yet.
 fn tries_again(call: Call) -> bool
-    ensures { result ≡ triesAgain call.got call.error }
+    ensures { result ≡ tries_again call.got call.error }
 {
     is_failure(call) & ((call.error == libc::EINTR) | (call.error == libc::EAGAIN))
 }
 
 // Whether a call is made again.
 fn is_repeated(call: Call) -> bool
-    ensures { result ≡ isRepeated call }
+    ensures { result ≡ is_repeated call }
 {
     (call.tries < u64::MAX) & tries_again(call)
 }
 
 // Whether the bytes that are left are tried: the call moved some, or is made again.
 fn goes_on(call: Call) -> bool
-    ensures { result ≡ goesOn call }
+    ensures { result ≡ goes_on call }
 {
     (call.tries < u64::MAX) & ((moved(call) > 0) | tries_again(call))
 }
 
 // The call that follows another one: a try more where it moved nothing.
 fn call_after(last: Call, got: isize, error: i32) -> Call
-    requires { last.tries < triesMost }
-    ensures { result ≡ callAfter last got error }
+    requires { last.tries < tries_most }
+    ensures { result ≡ call_after last got error }
 {
     if got > 0 {
         return Call {
@@ -86,8 +86,8 @@ fn call_after(last: Call, got: isize, error: i32) -> Call
 
 // Reads once. Where the last call failed, others run first.
 fn next_read(input: &mut [u8], last: Call) -> Call
-    requires { last.tries < triesMost }
-    ensures { (movedBy result.got ≤ length input.old) × (result ≡ callAfter last result.got result.error) }
+    requires { last.tries < tries_most }
+    ensures { (moved_by result.got ≤ length input.old) × (result ≡ call_after last result.got result.error) }
 {
     if is_failure(last) {
         libc::sched_yield();
@@ -99,7 +99,7 @@ fn next_read(input: &mut [u8], last: Call) -> Call
 
 // Reads, and again where nothing can be read yet.
 pub fn receive(input: &mut [u8]) -> Call
-    ensures { (movedBy result.got ≤ length input.new) × T (not (isRepeated result)) }
+    ensures { (moved_by result.got ≤ length input.new) × T (not (is_repeated result)) }
 {
     let mut last = next_read(input, no_call());
     while is_repeated(last) {
@@ -110,8 +110,8 @@ pub fn receive(input: &mut [u8]) -> Call
 
 // Writes once. Where the last call failed, others run first.
 fn next_write(text: &[u8], last: Call) -> Call
-    requires { last.tries < triesMost }
-    ensures { (movedBy result.got ≤ length text.now) × (result ≡ callAfter last result.got result.error) }
+    requires { last.tries < tries_most }
+    ensures { (moved_by result.got ≤ length text.now) × (result ≡ call_after last result.got result.error) }
 {
     if is_failure(last) {
         libc::sched_yield();
@@ -139,7 +139,7 @@ pub struct Sent {
 // Writes a text, in as many calls as it takes.
 pub fn send(text: &[u8]) -> Sent
     ensures written_in_bounds { result.written ≤ length text.now }
-    ensures text_value { ltb result.written (length text.now) ≡ not (goesOn result.last) }
+    ensures text_value { ltb result.written (length text.now) ≡ not (goes_on result.last) }
 {
     let mut at: usize = 0;
     let mut last = no_call();

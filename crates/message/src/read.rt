@@ -1,8 +1,8 @@
 // Reading: a function for each test of document 01, in its order 10, 12, 11, 13 to 17.
 ghost use Rattle.std.specs.Prelude.{◌≡◌, ◌+◌, ◌<◌, ◌≤◌, length, slice_index};
-ghost use Rattle.message.specs.Words.{payloadSize, endsLimit, kind_of, payload as Words·payload, ofKind, check};
-ghost use Rattle.message.specs.Read.{headWordFits, width as Read·width, start, spanKinds, kindsFit, checkFits, pair as Read·pair};
-ghost use Rattle.message.specs.Read.{span as Read·span, shapeRefusal, contents as Read·contents, readPlain, termWords, readingNumber};
+ghost use Rattle.message.specs.Words.{payload_size, ends_limit, kind_of, payload as the_payload, of_kind, check};
+ghost use Rattle.message.specs.Read.{head_word_fits, width, start, span_kinds, kinds_fit, check_fits, pair};
+ghost use Rattle.message.specs.Read.{span, shape_refusal, contents, read_plain, term_words, reading_number};
 
 use super::{ENDS_LIMIT, Interval, PAYLOAD_SIZE, Reading, TERMS_MOST, WORDS_LEAST, WORDS_MOST};
 
@@ -13,14 +13,14 @@ pub fn kind(w: u32) -> u32
 }
 
 fn payload(w: u32) -> u32
-    ensures { (result ≡ Words·payload w) × (result < payloadSize) }
+    ensures { (result ≡ the_payload w) × (result < payload_size) }
 {
     w % PAYLOAD_SIZE
 }
 
 // Whether each word is of kind k.
 fn of_kind(words: &[u32], k: u32) -> bool
-    ensures { result ≡ ofKind k words.now }
+    ensures { result ≡ of_kind k words.now }
 {
     let mut ok = true;
     let mut i: usize = 0;
@@ -33,7 +33,7 @@ fn of_kind(words: &[u32], k: u32) -> bool
 
 // The check word's payload: the sum of the words, wrapping, modulo 2^29.
 pub(crate) fn check_of(words: &[u32]) -> u32
-    ensures { (result ≡ check words.now) × (result < payloadSize) }
+    ensures { (result ≡ check words.now) × (result < payload_size) }
 {
     let mut sum: u32 = 0;
     let mut from: usize = 0;
@@ -45,7 +45,7 @@ pub(crate) fn check_of(words: &[u32]) -> u32
 }
 
 fn head_word_fits(head: u32) -> bool
-    ensures { result ≡ headWordFits head }
+    ensures { result ≡ head_word_fits head }
 {
     (kind(head) == 1)
         & ((head % 32 <= 28)
@@ -54,7 +54,7 @@ fn head_word_fits(head: u32) -> bool
 
 // How many words the interval has.
 fn width(ends: bool) -> usize
-    ensures { (result ≡ Read·width ends) × (3 ≤ result) × (result ≤ 4) }
+    ensures { (result ≡ width ends) × (3 ≤ result) × (result ≤ 4) }
 {
     if ends {
         return 4;
@@ -65,7 +65,7 @@ fn width(ends: bool) -> usize
 // Whether the words of the interval, which begins at place `at`, are of their kinds.
 fn span_kinds(words: &[u32], at: usize, ends: bool) -> bool
     requires { at + 4 ≤ length words.now }
-    ensures { result ≡ spanKinds at ends words.now }
+    ensures { result ≡ span_kinds at ends words.now }
 {
     let low = at + 2;
     if ends {
@@ -77,7 +77,7 @@ fn span_kinds(words: &[u32], at: usize, ends: bool) -> bool
 // Whether each word from the interval on is of its kind.
 fn kinds_fit(words: &[u32], at: usize, ends: bool) -> bool
     requires { (at + 4 ≤ length words.now) × (start at ends + 1 ≤ length words.now) }
-    ensures { result ≡ kindsFit at ends words.now }
+    ensures { result ≡ kinds_fit at ends words.now }
 {
     let from = at + width(ends);
     let last = words.len() - 1;
@@ -86,7 +86,7 @@ fn kinds_fit(words: &[u32], at: usize, ends: bool) -> bool
 
 fn check_fits(words: &[u32]) -> bool
     requires { 1 ≤ length words.now }
-    ensures { result ≡ checkFits words.now }
+    ensures { result ≡ check_fits words.now }
 {
     let last = words.len() - 1;
     payload(words[last]) == check_of(&words[..last])
@@ -95,7 +95,7 @@ fn check_fits(words: &[u32]) -> bool
 // The number in the words at i and i + 1.
 fn pair(words: &[u32], i: usize) -> u64
     requires { i + 1 < length words.now }
-    ensures { (result ≡ Read·pair words.now i) × (result < endsLimit) }
+    ensures { (result ≡ pair words.now i) × (result < ends_limit) }
 {
     (payload(words[i]) as u64) * (PAYLOAD_SIZE as u64) + (payload(words[i + 1]) as u64)
 }
@@ -103,7 +103,7 @@ fn pair(words: &[u32], i: usize) -> u64
 // The interval that begins at place `at`.
 fn span(words: &[u32], at: usize, ends: bool) -> Interval
     requires { at + 4 ≤ length words.now }
-    ensures { result ≡ Read·span at ends words.now }
+    ensures { result ≡ span at ends words.now }
 {
     let a = pair(words, at);
     if ends {
@@ -135,7 +135,7 @@ fn kind_at(words: &[u32], at: usize) -> u32
 // The refusal of 12, 11, 13 and 14, or 0: what can be told without the payloads. The interval begins at place `at`.
 pub fn shape(words: &[u32], at: usize) -> u32
     requires { (1 ≤ length words.now) × (at ≤ length words.now) }
-    ensures { result ≡ shapeRefusal at words.now }
+    ensures { result ≡ shape_refusal at words.now }
 {
     let first = words[0];
     let head = head_word_fits(first);
@@ -159,8 +159,8 @@ pub fn shape(words: &[u32], at: usize) -> u32
 
 // What a message of that shape says, or its refusal by 15, 16 or 17.
 pub fn contents(words: &[u32], at: usize) -> Reading
-    requires { shapeRefusal at words.now ≡ 0 }
-    ensures { result ≡ Read·contents at words.now }
+    requires { shape_refusal at words.now ≡ 0 }
+    ensures { result ≡ contents at words.now }
 {
     let head = words[0];
     let ends = kind(words[at]) == 2;
@@ -181,7 +181,7 @@ pub fn contents(words: &[u32], at: usize) -> Reading
 
 // The message in the words, or its first refusal.
 pub fn read(words: &[u32]) -> Reading
-    ensures { result ≡ readPlain words.now }
+    ensures { result ≡ read_plain words.now }
 {
     let n = words.len();
     if n < WORDS_LEAST {
@@ -199,7 +199,7 @@ pub fn read(words: &[u32]) -> Reading
 
 // The number of a refusal, 0 for a message that is taken.
 pub fn refusal(got: Reading) -> u32
-    ensures { result ≡ readingNumber got }
+    ensures { result ≡ reading_number got }
 {
     match got {
         Reading::Refused(number) => number,
@@ -209,8 +209,8 @@ pub fn refusal(got: Reading) -> u32
 
 // The term words of a message that was read: exactly its words of kind 6, as a part of the caller's slice.
 pub fn term_words(words: &[u32], got: Reading) -> &[u32]
-    requires { got ≡ readPlain words.now }
-    ensures { result.now ≡ termWords got words.now }
+    requires { got ≡ read_plain words.now }
+    ensures { result.now ≡ term_words got words.now }
 {
     let Reading::Message(_, _, _, count) = got else {
         return &words[..0];

@@ -1,11 +1,11 @@
 // The calls that set a monitor up, age it and write a held datum as a message: each tests the length of the state first, and the last two its form.
 ghost use Rattle.std.specs.Prelude.{◌≡◌, ◌≤◌, ◌<◌, length, T};
 ghost use Rattle.numbers.specs.Numbers.{put};
-ghost use Rattle.radio.specs.Read.{wordsMost};
-ghost use Rattle.state.specs.Layout.{stateSize, dataMost, heldCount};
-ghost use Rattle.state.specs.Form.{inForm};
+ghost use Rattle.radio.specs.Read.{words_most};
+ghost use Rattle.state.specs.Layout.{state_size, data_most, held_count};
+ghost use Rattle.state.specs.Form.{in_form};
 ghost use Rattle.engine.specs.Calls.{setup};
-ghost use Rattle.monitor.specs.Calls.{setUpNumber, setUpState, ageNumber, ageState, writtenWords, writeNumber, writeOutput};
+ghost use Rattle.monitor.specs.Calls.{set_up_number, set_up_state, age_number, age_state, written_words, write_number, write_output};
 
 // Sets a monitor up: own identifier, drift in parts per million, a reading of the own clock, and the own epoch. Answers 0, or 24, 1, 41, 2 or 3.
 #[unsafe(no_mangle)]
@@ -16,8 +16,8 @@ pub extern "C" fn monitor_set_up(
     reading: u64,
     epoch: u64,
 ) -> u32
-    ensures value { result ≡ setUpNumber state.old (setup own drift reading epoch) }
-    ensures state_after { state.new ≡ setUpState state.old (setup own drift reading epoch) }
+    ensures value { result ≡ set_up_number state.old (setup own drift reading epoch) }
+    ensures state_after { state.new ≡ set_up_state state.old (setup own drift reading epoch) }
 {
     if state.len() < state::STATE_SIZE {
         return 24;
@@ -28,8 +28,8 @@ pub extern "C" fn monitor_set_up(
 // Ages the state to a reading of the own clock. Answers 0, or 24, 25, 3, 20 or 30.
 #[unsafe(no_mangle)]
 pub extern "C" fn monitor_age(state: &mut [u8], reading: u64) -> u32
-    ensures value { result ≡ ageNumber state.old reading }
-    ensures state_after { state.new ≡ ageState state.old reading }
+    ensures value { result ≡ age_number state.old reading }
+    ensures state_after { state.new ≡ age_state state.old reading }
 {
     let number = state::form::refusal(state);
     if number != 0 {
@@ -40,10 +40,10 @@ pub extern "C" fn monitor_age(state: &mut [u8], reading: u64) -> u32
 
 // Writes the words of the held datum at a position, under the epochs known, to the front of `words` and answers how many.
 fn datum_words(state: &[u8], position: usize, words: &mut [u32]) -> usize
-    requires state_size_in_bounds { (stateSize ≤ length state.now) × T (inForm state.now) }
-    requires position_bound { (position < heldCount state.now) × (position < dataMost) × (wordsMost ≤ length words.old) }
-    ensures value { (result ≡ length (writtenWords state.now position)) × (result ≤ wordsMost) }
-    ensures words_after { words.new ≡ put 0 (writtenWords state.now position) words.old }
+    requires state_size_in_bounds { (state_size ≤ length state.now) × T (in_form state.now) }
+    requires position_bound { (position < held_count state.now) × (position < data_most) × (words_most ≤ length words.old) }
+    ensures value { (result ≡ length (written_words state.now position)) × (result ≤ words_most) }
+    ensures words_after { words.new ≡ put 0 (written_words state.now position) words.old }
 {
     let at = state::DATA_AT + position * state::DATUM_SIZE;
     let own = numbers::get32(state, state::OWN_AT);
@@ -70,8 +70,8 @@ fn datum_words(state: &[u8], position: usize, words: &mut [u32]) -> usize
 // Writes the held datum at a position, 0 being the oldest, as a message from the own name. Answers 0, or 24, 25, 23 or 24 for the output.
 #[unsafe(no_mangle)]
 pub extern "C" fn monitor_write(state: &[u8], position: u64, message: &mut [u8]) -> u32
-    ensures value { result ≡ writeNumber state.now position message.old }
-    ensures message_after { message.new ≡ writeOutput state.now position message.old }
+    ensures value { result ≡ write_number state.now position message.old }
+    ensures message_after { message.new ≡ write_output state.now position message.old }
 {
     let number = state::form::refusal(state);
     if number != 0 {

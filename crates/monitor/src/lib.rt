@@ -2,8 +2,8 @@
 // byte as it was. Every function here is proved, and the crate assumes nothing of its own.
 ghost use Rattle.std.specs.Prelude.{◌≡◌, ◌++◌, ◌≤◌, length, drop};
 ghost use Rattle.numbers.specs.Numbers.{bytes, put};
-ghost use Rattle.radio.specs.Read.{wordsMost};
-ghost use Rattle.monitor.specs.Messages.{readNumber, readOutput, rewriteNumber, rewriteOutput};
+ghost use Rattle.radio.specs.Read.{words_most};
+ghost use Rattle.monitor.specs.Messages.{read_number, read_output, rewrite_number, rewrite_output};
 ghost use Rattle.monitor.specs.code.Words.{words_in};
 
 use message::Reading;
@@ -14,8 +14,8 @@ pub mod receive;
 
 // Puts the words of a message's bytes at the front of `words` and answers how many; none where the bytes cannot be a message's.
 fn take_words(message: &[u8], words: &mut [u32]) -> usize
-    requires { wordsMost ≤ length words.old }
-    ensures value { (result ≡ length (words_in message.now)) × (result ≤ wordsMost) }
+    requires { words_most ≤ length words.old }
+    ensures value { (result ≡ length (words_in message.now)) × (result ≤ words_most) }
     ensures words_after { words.new ≡ words_in message.now ++ drop result words.old }
 {
     let size = message.len();
@@ -44,8 +44,8 @@ fn put_four(out: &mut [u8], a: u64, b: u64, c: u64, d: u64)
 // Reads a message: sender, left, right and term count go to the first 32 bytes of the output.
 #[unsafe(no_mangle)]
 pub extern "C" fn monitor_message_read(message: &[u8], reading: &mut [u8]) -> u32
-    ensures value { result ≡ readNumber message.now reading.old }
-    ensures reading_after { reading.new ≡ readOutput message.now reading.old }
+    ensures value { result ≡ read_number message.now reading.old }
+    ensures reading_after { reading.new ≡ read_output message.now reading.old }
 {
     let mut words = [0u32; radio::WORDS_MOST];
     let n = take_words(message, &mut words);
@@ -63,8 +63,8 @@ pub extern "C" fn monitor_message_read(message: &[u8], reading: &mut [u8]) -> u3
 // Writes a message again in ends form, with the sender, epoch words, interval and terms that it has.
 #[unsafe(no_mangle)]
 pub extern "C" fn monitor_message_rewrite(message: &[u8], out: &mut [u8]) -> u32
-    ensures value { result ≡ rewriteNumber message.now out.old }
-    ensures out_after { out.new ≡ rewriteOutput message.now out.old }
+    ensures value { result ≡ rewrite_number message.now out.old }
+    ensures out_after { out.new ≡ rewrite_output message.now out.old }
 {
     let mut words = [0u32; radio::WORDS_MOST];
     let n = take_words(message, &mut words);

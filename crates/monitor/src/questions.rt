@@ -1,9 +1,9 @@
 // Asking and the fewest failures, for C.
 ghost use Rattle.std.specs.Prelude.{◌≡◌, [], ◌∷◌, ◌≤◌, length};
 ghost use Rattle.numbers.specs.Numbers.{put};
-ghost use Rattle.asking.specs.Asking.{answerNumbers};
-ghost use Rattle.asking.specs.Fewest.{fewestNumbers};
-ghost use Rattle.monitor.specs.Ask.{answerSize, fewestSize, wide, askNumber, askOutput, fewestNumber, fewestOutput};
+ghost use Rattle.asking.specs.Asking.{answer_numbers};
+ghost use Rattle.asking.specs.Fewest.{fewest_numbers};
+ghost use Rattle.monitor.specs.Ask.{answer_size, fewest_size, wide, ask_number, ask_output, fewest_number, fewest_output};
 
 use asking::{Answer, Fewest};
 
@@ -16,7 +16,7 @@ pub const FEWEST_SIZE: usize = 16;
 
 // Writes three numbers of 8 bytes at the front.
 fn put_three(out: &mut [u8], a: u64, b: u64, c: u64)
-    requires { answerSize ≤ length out.old }
+    requires { answer_size ≤ length out.old }
     ensures { out.new ≡ put 0 (wide (a ∷ b ∷ c ∷ [])) out.old }
 {
     numbers::put64(out, 0, a);
@@ -26,8 +26,8 @@ fn put_three(out: &mut [u8], a: u64, b: u64, c: u64)
 
 // Writes an answer: 0 contradicted, 1 open, 2 between; left; right.
 fn put_answer(out: &mut [u8], got: Answer)
-    requires { answerSize ≤ length out.old }
-    ensures { out.new ≡ put 0 (wide (answerNumbers got)) out.old }
+    requires { answer_size ≤ length out.old }
+    ensures { out.new ≡ put 0 (wide (answer_numbers got)) out.old }
 {
     match got {
         Answer::Contradicted => put_three(out, 0, 0, 0),
@@ -38,7 +38,7 @@ fn put_answer(out: &mut [u8], got: Answer)
 
 // Writes two numbers of 8 bytes at the front.
 fn put_two(out: &mut [u8], a: u64, b: u64)
-    requires { fewestSize ≤ length out.old }
+    requires { fewest_size ≤ length out.old }
     ensures { out.new ≡ put 0 (wide (a ∷ b ∷ [])) out.old }
 {
     numbers::put64(out, 0, a);
@@ -47,8 +47,8 @@ fn put_two(out: &mut [u8], a: u64, b: u64)
 
 // Writes the fewest failures: their count and mask; 5 and 0 where there are more than 4.
 fn put_fewest(out: &mut [u8], got: Fewest)
-    requires { fewestSize ≤ length out.old }
-    ensures { out.new ≡ put 0 (wide (fewestNumbers got)) out.old }
+    requires { fewest_size ≤ length out.old }
+    ensures { out.new ≡ put 0 (wide (fewest_numbers got)) out.old }
 {
     match got {
         Fewest::Over => put_two(out, 5, 0),
@@ -59,8 +59,8 @@ fn put_fewest(out: &mut [u8], got: Fewest)
 // Asks at a limit of failed names: 24 bytes of answer. Answers 0, or 24, 25, 22 or 24 for the output.
 #[unsafe(no_mangle)]
 pub extern "C" fn monitor_ask(state: &[u8], limit: u64, answer: &mut [u8]) -> u32
-    ensures value { result ≡ askNumber state.now limit answer.old }
-    ensures answer_after { answer.new ≡ askOutput state.now limit answer.old }
+    ensures value { result ≡ ask_number state.now limit answer.old }
+    ensures answer_after { answer.new ≡ ask_output state.now limit answer.old }
 {
     let number = state::form::refusal(state);
     if number != 0 {
@@ -79,8 +79,8 @@ pub extern "C" fn monitor_ask(state: &[u8], limit: u64, answer: &mut [u8]) -> u3
 // The fewest failures that explain the state: 16 bytes of answer. Answers 0, or 24, 25 or 24 for the output.
 #[unsafe(no_mangle)]
 pub extern "C" fn monitor_fewest(state: &[u8], answer: &mut [u8]) -> u32
-    ensures value { result ≡ fewestNumber state.now answer.old }
-    ensures answer_after { answer.new ≡ fewestOutput state.now answer.old }
+    ensures value { result ≡ fewest_number state.now answer.old }
+    ensures answer_after { answer.new ≡ fewest_output state.now answer.old }
 {
     let number = state::form::refusal(state);
     if number != 0 {

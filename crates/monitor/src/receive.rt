@@ -1,14 +1,14 @@
 // Receiving, for C, with clock readings or without.
 ghost use Rattle.std.specs.Prelude.{◌≡◌, not, ◌≤◌, T, length};
-ghost use Rattle.clocks.specs.Clocks.{readingsFail};
+ghost use Rattle.clocks.specs.Clocks.{readings_fail};
 ghost use Rattle.clocks.specs.declared.Triple.{Triple};
 ghost use Rattle.clocks.specs.declared.Readings.TheVariants.{With};
-ghost use Rattle.state.specs.Layout.{stateSize, stateBytes, state_of};
-ghost use Rattle.state.specs.Form.{inForm};
+ghost use Rattle.state.specs.Layout.{state_size, state_bytes, state_of};
+ghost use Rattle.state.specs.Form.{in_form};
 ghost use Rattle.state.specs.Refusal.{after};
-ghost use Rattle.engine.specs.Refusals.{delayMost};
-ghost use Rattle.monitor.specs.Receive.{Delivered, receiptOf, receiptWith, delivered, deliveredNumber, deliveredState};
-ghost use Rattle.monitor.specs.Receive.{receiveNumber, receiveState};
+ghost use Rattle.engine.specs.Refusals.{delay_most};
+ghost use Rattle.monitor.specs.Receive.{Delivered, receipt_of, receipt_with, delivered, delivered_number, delivered_state};
+ghost use Rattle.monitor.specs.Receive.{receive_number, receive_state};
 
 use clocks::{Readings, Triple};
 use message::Reading;
@@ -21,12 +21,12 @@ fn receive_message(
     readings: Readings,
     message: &[u8],
 ) -> u32
-    requires state_size_in_bounds { (stateSize ≤ length state.old) × T (inForm state.old) }
-    requires least_le_greatest { (least ≤ greatest) × (greatest ≤ delayMost) × T (not (readingsFail readings)) }
-    ensures result_value { (let got : Delivered = delivered (receiptWith least greatest readings message.now) in
-        result ≡ deliveredNumber (state_of state.old) got) }
-    ensures state_after { (let got : Delivered = delivered (receiptWith least greatest readings message.now) in
-        state.new ≡ after result (stateBytes (deliveredState (state_of state.old) got)) state.old) }
+    requires state_size_in_bounds { (state_size ≤ length state.old) × T (in_form state.old) }
+    requires least_le_greatest { (least ≤ greatest) × (greatest ≤ delay_most) × T (not (readings_fail readings)) }
+    ensures result_value { (let got : Delivered = delivered (receipt_with least greatest readings message.now) in
+        result ≡ delivered_number (state_of state.old) got) }
+    ensures state_after { (let got : Delivered = delivered (receipt_with least greatest readings message.now) in
+        state.new ≡ after result (state_bytes (delivered_state (state_of state.old) got)) state.old) }
 {
     let mut words = [0u32; radio::WORDS_MOST];
     let n = super::take_words(message, &mut words);
@@ -44,8 +44,8 @@ fn receive_message(
 
 // Receives a message that came over a channel with a least and a greatest delay, with readings or without.
 fn receive(state: &mut [u8], least: u64, greatest: u64, readings: Readings, message: &[u8]) -> u32
-    ensures value { result ≡ receiveNumber state.old (receiptWith least greatest readings message.now) }
-    ensures state_after { state.new ≡ receiveState state.old (receiptWith least greatest readings message.now) }
+    ensures value { result ≡ receive_number state.old (receipt_with least greatest readings message.now) }
+    ensures state_after { state.new ≡ receive_state state.old (receipt_with least greatest readings message.now) }
 {
     let number = state::form::refusal(state);
     if number != 0 {
@@ -69,8 +69,8 @@ pub extern "C" fn monitor_receive(
     greatest: u64,
     message: &[u8],
 ) -> u32
-    ensures value { result ≡ receiveNumber state.old (receiptOf least greatest message.now) }
-    ensures state_after { state.new ≡ receiveState state.old (receiptOf least greatest message.now) }
+    ensures value { result ≡ receive_number state.old (receipt_of least greatest message.now) }
+    ensures state_after { state.new ≡ receive_state state.old (receipt_of least greatest message.now) }
 {
     receive(state, least, greatest, Readings::Without, message)
 }
@@ -89,9 +89,9 @@ pub extern "C" fn monitor_receive_with_readings(
     message: &[u8],
 ) -> u32
     ensures result_value { (let t : Triple = record { there = sender_reading; here = own_reading; half = half_width } in
-        result ≡ receiveNumber state.old (receiptWith least greatest (With t sender_drift) message.now)) }
+        result ≡ receive_number state.old (receipt_with least greatest (With t sender_drift) message.now)) }
     ensures state_after { (let t : Triple = record { there = sender_reading; here = own_reading; half = half_width } in
-        state.new ≡ receiveState state.old (receiptWith least greatest (With t sender_drift) message.now)) }
+        state.new ≡ receive_state state.old (receipt_with least greatest (With t sender_drift) message.now)) }
 {
     let triple = Triple {
         there: sender_reading,

@@ -12,128 +12,128 @@ use lib.Arith.{bin_ind, digits_mod}
 use lib.Pow.{shr-shr}
 use lib.Bits.{bit_and, bit_or, and_step, or_step, and_shr, or_shr, or_zero_r, and_comm, and_self, and_le_r, or_shifted}
 use lib.Count.{ones, ones_step, ones_cat}
-use Rattle.names.specs.Sets.{subset, setUnion, has}
+use Rattle.names.specs.Sets.{subset, set_union, has}
 use Rattle.names.specs.code.Parts.{digit}
 
 -- two tests that pass together are equal
-pub test-ext : (a b : Bool) → (T a → T b) → (T b → T a) → a ≡ b
-test-ext true true f g = refl
-test-ext true false f g = absurd (f tt)
-test-ext false true f g = absurd (g tt)
-test-ext false false f g = refl
+pub test_ext : (a b : Bool) → (T a → T b) → (T b → T a) → a ≡ b
+test_ext true true f g = refl
+test_ext true false f g = absurd (f tt)
+test_ext false true f g = absurd (g tt)
+test_ext false false f g = refl
 
 -- ---- digits
 
 pub digit_lt : (s n : ℕ) → digit s n < 2
 digit_lt s n = mod-lt (s / 2 ^ n) (zero-lt-suc 1)
 
-pub digit-zero : (s : ℕ) → digit s 0 ≡ s % 2
-digit-zero s = omega arith
+pub digit_zero : (s : ℕ) → digit s 0 ≡ s % 2
+digit_zero s = omega arith
 
-pub digit-suc : (s n : ℕ) → digit s (suc n) ≡ digit (s / 2) n
-digit-suc s n = ap (λ (x : ℕ). s / 2 ^ x % 2) (sym (one-add n)) ∙ ap (λ (x : ℕ). x % 2) (sym (shr-shr s 1 n))
+pub digit_suc : (s n : ℕ) → digit s (suc n) ≡ digit (s / 2) n
+digit_suc s n = ap (λ (x : ℕ). s / 2 ^ x % 2) (sym (one-add n)) ∙ ap (λ (x : ℕ). x % 2) (sym (shr-shr s 1 n))
 
 pub digit_and : (a b n : ℕ) → digit (bit_and a b) n ≡ min (digit a n) (digit b n)
 digit_and a b n =
     ap (λ (x : ℕ). x % 2) (and_shr a b n ∙ and_step (a / 2 ^ n) (b / 2 ^ n))
     ∙ digits_mod (bit_and (a / 2 ^ n / 2) (b / 2 ^ n / 2)) (omega arith)
 
-pub digit-union : (a b n : ℕ) → digit (setUnion a b) n ≡ max (digit a n) (digit b n)
-unfolding setUnion
+pub digit-union : (a b n : ℕ) → digit (set_union a b) n ≡ max (digit a n) (digit b n)
+unfolding set_union
 digit-union a b n =
     ap (λ (x : ℕ). x % 2) (or_shr a b n ∙ or_step (a / 2 ^ n) (b / 2 ^ n))
     ∙ digits_mod (bit_or (a / 2 ^ n / 2) (b / 2 ^ n / 2)) (omega arith)
 
 pub digit-empty : (n : ℕ) → digit 0 n ≡ 0
 digit-empty zero = refl
-digit-empty (suc n) = digit-suc 0 n ∙ digit-empty n
+digit-empty (suc n) = digit_suc 0 n ∙ digit-empty n
 
-digit-single-suc : (n m : ℕ) → digit (2 ^ suc n) (suc m) ≡ digit (2 ^ n) m
-digit-single-suc n m =
+digit-single_suc : (n m : ℕ) → digit (2 ^ suc n) (suc m) ≡ digit (2 ^ n) m
+digit-single_suc n m =
     let half : 2 ^ suc n / 2 ≡ 2 ^ n = omega arith in
-    digit-suc (2 ^ suc n) m ∙ ap (λ (x : ℕ). digit x m) half
+    digit_suc (2 ^ suc n) m ∙ ap (λ (x : ℕ). digit x m) half
 
 pub digit-single-same : (n : ℕ) → digit (2 ^ n) n ≡ 1
 digit-single-same zero = refl
-digit-single-same (suc n) = digit-single-suc n n ∙ digit-single-same n
+digit-single-same (suc n) = digit-single_suc n n ∙ digit-single-same n
 
-pub digit-single-other : (n m : ℕ) → (n ≡ m → ⊥) → digit (2 ^ n) m ≡ 0
-digit-single-other zero zero h = absurd (h refl)
-digit-single-other zero (suc m) h = digit-suc 1 m ∙ digit-empty m
-digit-single-other (suc n) zero h = omega arith
-digit-single-other (suc n) (suc m) h = digit-single-suc n m ∙ digit-single-other n m (λ e. h (ap suc e))
+pub digit-single_other : (n m : ℕ) → (n ≡ m → ⊥) → digit (2 ^ n) m ≡ 0
+digit-single_other zero zero h = absurd (h refl)
+digit-single_other zero (suc m) h = digit_suc 1 m ∙ digit-empty m
+digit-single_other (suc n) zero h = omega arith
+digit-single_other (suc n) (suc m) h = digit-single_suc n m ∙ digit-single_other n m (λ e. h (ap suc e))
 
 -- ---- subset, digit by digit
 
-pub subset-and : (t s : ℕ) → T (subset t s) → bit_and t s ≡ t
+pub subset_and : (t s : ℕ) → T (subset t s) → bit_and t s ≡ t
 unfolding subset
-subset-and t s h = eqb→eq (bit_and t s) t h
+subset_and t s h = eqb→eq (bit_and t s) t h
 
-pub and-subset : (t s : ℕ) → bit_and t s ≡ t → T (subset t s)
+pub and_subset : (t s : ℕ) → bit_and t s ≡ t → T (subset t s)
 unfolding subset
-and-subset t s e = subst (λ (x : ℕ). T (eqb (bit_and t s) x)) e (eqb_refl (bit_and t s))
+and_subset t s e = subst (λ (x : ℕ). T (eqb (bit_and t s) x)) e (eqb_refl (bit_and t s))
 
-pub subset-out : (t s : ℕ) → T (subset t s) → (n : ℕ) → digit t n ≤ digit s n
-subset-out t s h n = omega (arith, digit_and t s n, ap (λ (x : ℕ). digit x n) (subset-and t s h))
+pub subset_out : (t s : ℕ) → T (subset t s) → (n : ℕ) → digit t n ≤ digit s n
+subset_out t s h n = omega (arith, digit_and t s n, ap (λ (x : ℕ). digit x n) (subset_and t s h))
 
-digits-and : (t s : ℕ) → ((n : ℕ) → digit t n ≤ digit s n) → bit_and t s ≡ t
-digits-and =
+digits_and : (t s : ℕ) → ((n : ℕ) → digit t n ≤ digit s n) → bit_and t s ≡ t
+digits_and =
     bin_ind (λ (t : ℕ). (s : ℕ) → ((n : ℕ) → digit t n ≤ digit s n) → bit_and t s ≡ t) (λ s h. refl)
     (λ t ih s h.
-    let rest : bit_and (t / 2) (s / 2) ≡ t / 2 = ih (s / 2) (λ n. omega (arith, h (suc n), digit-suc t n, digit-suc s n)) in
-    omega (arith, and_step t s, h 0, digit-zero t, digit-zero s))
+    let rest : bit_and (t / 2) (s / 2) ≡ t / 2 = ih (s / 2) (λ n. omega (arith, h (suc n), digit_suc t n, digit_suc s n)) in
+    omega (arith, and_step t s, h 0, digit_zero t, digit_zero s))
 
-pub subset-in : (t s : ℕ) → ((n : ℕ) → digit t n ≤ digit s n) → T (subset t s)
-subset-in t s h = and-subset t s (digits-and t s h)
+pub subset_in : (t s : ℕ) → ((n : ℕ) → digit t n ≤ digit s n) → T (subset t s)
+subset_in t s h = and_subset t s (digits_and t s h)
 
 -- ---- the order
 
-pub subset-refl : (s : ℕ) → T (subset s s)
-subset-refl s = and-subset s s (and_self s)
+pub subset_refl : (s : ℕ) → T (subset s s)
+subset_refl s = and_subset s s (and_self s)
 
-pub subset-trans : (r s t : ℕ) → T (subset r s) → T (subset s t) → T (subset r t)
-subset-trans r s t h k = subset-in r t (λ n. le_trans (subset-out r s h n) (subset-out s t k n))
+pub subset_trans : (r s t : ℕ) → T (subset r s) → T (subset s t) → T (subset r t)
+subset_trans r s t h k = subset_in r t (λ n. le_trans (subset_out r s h n) (subset_out s t k n))
 
-pub subset-antisym : (s t : ℕ) → T (subset s t) → T (subset t s) → s ≡ t
-subset-antisym s t h k = sym (subset-and s t h) ∙ and_comm s t ∙ subset-and t s k
+pub subset_antisym : (s t : ℕ) → T (subset s t) → T (subset t s) → s ≡ t
+subset_antisym s t h k = sym (subset_and s t h) ∙ and_comm s t ∙ subset_and t s k
 
-pub digits-ext : (s t : ℕ) → ((n : ℕ) → digit s n ≡ digit t n) → s ≡ t
-digits-ext s t h = subset-antisym s t (subset-in s t (λ n. le_of_eq (h n))) (subset-in t s (λ n. le_of_eq (sym (h n))))
+pub digits_ext : (s t : ℕ) → ((n : ℕ) → digit s n ≡ digit t n) → s ≡ t
+digits_ext s t h = subset_antisym s t (subset_in s t (λ n. le_of_eq (h n))) (subset_in t s (λ n. le_of_eq (sym (h n))))
 
 pub empty-subset : (s : ℕ) → T (subset 0 s)
-empty-subset s = and-subset 0 s refl
+empty-subset s = and_subset 0 s refl
 
 pub subset-empty : (s : ℕ) → T (subset s 0) → s ≡ 0
-subset-empty s h = subset-antisym s 0 h (empty-subset s)
+subset-empty s h = subset_antisym s 0 h (empty-subset s)
 
-pub subset-le : (s t : ℕ) → T (subset s t) → s ≤ t
-subset-le s t h = le_trans (le_of_eq (sym (subset-and s t h))) (and_le_r s t)
+pub subset_le : (s t : ℕ) → T (subset s t) → s ≤ t
+subset_le s t h = le_trans (le_of_eq (sym (subset_and s t h))) (and_le_r s t)
 
 -- ---- the union is the least upper bound
 
-pub union_left : (s t : ℕ) → T (subset s (setUnion s t))
-union_left s t = subset-in s (setUnion s t) (λ n. omega (arith, digit-union s t n))
+pub union_left : (s t : ℕ) → T (subset s (set_union s t))
+union_left s t = subset_in s (set_union s t) (λ n. omega (arith, digit-union s t n))
 
-pub union_right : (s t : ℕ) → T (subset t (setUnion s t))
-union_right s t = subset-in t (setUnion s t) (λ n. omega (arith, digit-union s t n))
+pub union_right : (s t : ℕ) → T (subset t (set_union s t))
+union_right s t = subset_in t (set_union s t) (λ n. omega (arith, digit-union s t n))
 
-pub union-least : (s t u : ℕ) → T (subset s u) → T (subset t u) → T (subset (setUnion s t) u)
-union-least s t u h k = subset-in (setUnion s t) u (λ n. omega (arith, digit-union s t n, subset-out s u h n, subset-out t u k n))
+pub union-least : (s t u : ℕ) → T (subset s u) → T (subset t u) → T (subset (set_union s t) u)
+union-least s t u h k = subset_in (set_union s t) u (λ n. omega (arith, digit-union s t n, subset_out s u h n, subset_out t u k n))
 
-pub union_comm : (s t : ℕ) → setUnion s t ≡ setUnion t s
-union_comm s t = digits-ext (setUnion s t) (setUnion t s) (λ n. omega (arith, digit-union s t n, digit-union t s n))
+pub union_comm : (s t : ℕ) → set_union s t ≡ set_union t s
+union_comm s t = digits_ext (set_union s t) (set_union t s) (λ n. omega (arith, digit-union s t n, digit-union t s n))
 
-pub union-none : (s : ℕ) → setUnion s 0 ≡ s
-unfolding setUnion
+pub union-none : (s : ℕ) → set_union s 0 ≡ s
+unfolding set_union
 union-none s = or_zero_r s
 
-pub union_assoc : (s t u : ℕ) → setUnion (setUnion s t) u ≡ setUnion s (setUnion t u)
+pub union_assoc : (s t u : ℕ) → set_union (set_union s t) u ≡ set_union s (set_union t u)
 union_assoc s t u =
-    digits-ext (setUnion (setUnion s t) u) (setUnion s (setUnion t u)) (λ n.
-    omega (arith, digit-union (setUnion s t) u n, digit-union s t n, digit-union s (setUnion t u) n, digit-union t u n))
+    digits_ext (set_union (set_union s t) u) (set_union s (set_union t u)) (λ n.
+    omega (arith, digit-union (set_union s t) u n, digit-union s t n, digit-union s (set_union t u) n, digit-union t u n))
 
-pub union_left_comm : (s t u : ℕ) → setUnion s (setUnion t u) ≡ setUnion t (setUnion s u)
-union_left_comm s t u = sym (union_assoc s t u) ∙ ap (λ (x : ℕ). setUnion x u) (union_comm s t) ∙ union_assoc t s u
+pub union_left_comm : (s t u : ℕ) → set_union s (set_union t u) ≡ set_union t (set_union s u)
+union_left_comm s t u = sym (union_assoc s t u) ∙ ap (λ (x : ℕ). set_union x u) (union_comm s t) ∙ union_assoc t s u
 
 -- ---- counts
 
@@ -143,21 +143,21 @@ ones-empty = refl
 
 pub halves : (t s : ℕ) → T (subset t s) → T (subset (t / 2) (s / 2)) × (t % 2 ≤ s % 2)
 halves t s h = (
-  subset-in (t / 2) (s / 2) (λ n. omega (arith, subset-out t s h (suc n), digit-suc t n, digit-suc s n)),
-  omega (arith, subset-out t s h 0, digit-zero t, digit-zero s),
+  subset_in (t / 2) (s / 2) (λ n. omega (arith, subset_out t s h (suc n), digit_suc t n, digit_suc s n)),
+  omega (arith, subset_out t s h 0, digit_zero t, digit_zero s),
 )
 
 -- a larger set has no fewer names
-pub ones-mono : (t s : ℕ) → T (subset t s) → ones t ≤ ones s
-ones-mono =
+pub ones_mono : (t s : ℕ) → T (subset t s) → ones t ≤ ones s
+ones_mono =
     bin_ind (λ (t : ℕ). (s : ℕ) → T (subset t s) → ones t ≤ ones s) (λ s h. omega (arith, ones-empty))
     (λ t ih s h.
     let k = halves t s h in
     omega (arith, ones_step t, ones_step s, ih (s / 2) k.0))
 
 -- a union has no more names than both together
-pub ones-union : (a b : ℕ) → ones (setUnion a b) ≤ ones a + ones b
-unfolding setUnion
+pub ones-union : (a b : ℕ) → ones (set_union a b) ≤ ones a + ones b
+unfolding set_union
 ones-union =
     bin_ind (λ (a : ℕ). (b : ℕ) → ones (bit_or a b) ≤ ones a + ones b) (λ b. omega arith)
     (λ a ih b.
@@ -175,8 +175,8 @@ ones_none =
 
 -- ---- a name above all those of a set
 
-pub union-above : (n s : ℕ) → s < 2 ^ n → setUnion (2 ^ n) s ≡ 2 ^ n + s
-unfolding setUnion
+pub union-above : (n s : ℕ) → s < 2 ^ n → set_union (2 ^ n) s ≡ 2 ^ n + s
+unfolding set_union
 union-above n s h =
     let one : 1 * 2 ^ n ≡ 2 ^ n = omega arith in
     ap (λ (x : ℕ). bit_or x s) (sym one) ∙ or_shifted 1 n s h ∙ ap (λ (x : ℕ). x + s) one
@@ -189,54 +189,54 @@ ones_above n s h =
 
 -- ---- one name: as a digit, as the code tests it
 
-and-single : (n s : ℕ) → digit (bit_and s (2 ^ n)) n ≡ digit s n
-and-single n s = omega (arith, digit_and s (2 ^ n) n, digit-single-same n, digit_lt s n)
+and_single : (n s : ℕ) → digit (bit_and s (2 ^ n)) n ≡ digit s n
+and_single n s = omega (arith, digit_and s (2 ^ n) n, digit-single-same n, digit_lt s n)
 
-pub has-out : (n s : ℕ) → T (has n s) → digit s n ≡ 1
+pub has_out : (n s : ℕ) → T (has n s) → digit s n ≡ 1
 unfolding has
-has-out n s h = go (ℕ_discrete (digit s n) 1)
+has_out n s h = go (ℕ_discrete (digit s n) 1)
   where
     zeros : digit s n ≡ 0 → (m : ℕ) → digit (bit_and s (2 ^ n)) m ≡ digit 0 m
     zeros z m = other (ℕ_discrete n m)
       where
         other : Dec (n ≡ m) → digit (bit_and s (2 ^ n)) m ≡ digit 0 m
-        other (yes p) = subst (λ (k : ℕ). digit (bit_and s (2 ^ n)) k ≡ digit 0 k) p (and-single n s ∙ z ∙ sym (digit-empty n))
-        other (no f) = omega (arith, digit_and s (2 ^ n) m, digit-single-other n m f, digit-empty m)
+        other (yes p) = subst (λ (k : ℕ). digit (bit_and s (2 ^ n)) k ≡ digit 0 k) p (and_single n s ∙ z ∙ sym (digit-empty n))
+        other (no f) = omega (arith, digit_and s (2 ^ n) m, digit-single_other n m f, digit-empty m)
 
     go : Dec (digit s n ≡ 1) → digit s n ≡ 1
     go (yes p) = p
     go (no f) =
         let z : digit s n ≡ 0 = omega (arith, digit_lt s n) in
-        absurd (T_not (eqb (bit_and s (2 ^ n)) 0) h (subst (λ (x : ℕ). T (eqb x 0)) (sym (digits-ext (bit_and s (2 ^ n)) 0 (zeros z))) tt))
+        absurd (T_not (eqb (bit_and s (2 ^ n)) 0) h (subst (λ (x : ℕ). T (eqb x 0)) (sym (digits_ext (bit_and s (2 ^ n)) 0 (zeros z))) tt))
 
 pub has_in : (n s : ℕ) → digit s n ≡ 1 → T (has n s)
 unfolding has
 has_in n s e =
     not_T (eqb (bit_and s (2 ^ n)) 0) (λ t.
     let z : bit_and s (2 ^ n) ≡ 0 = eqb→eq (bit_and s (2 ^ n)) 0 t in
-    let one : ◌≡◌ {A = ℕ} 1 0 = sym e ∙ sym (and-single n s) ∙ ap (λ (x : ℕ). digit x n) z ∙ digit-empty n in
+    let one : ◌≡◌ {A = ℕ} 1 0 = sym e ∙ sym (and_single n s) ∙ ap (λ (x : ℕ). digit x n) z ∙ digit-empty n in
     omega arith)
 
-pub has-mono : (n t s : ℕ) → T (subset t s) → T (has n t) → T (has n s)
-has-mono n t s h k = has_in n s (omega (arith, subset-out t s h n, has-out n t k, digit_lt s n))
+pub has_mono : (n t s : ℕ) → T (subset t s) → T (has n t) → T (has n s)
+has_mono n t s h k = has_in n s (omega (arith, subset_out t s h n, has_out n t k, digit_lt s n))
 
 -- a name of a union is in one of the two: a union of sets without the own name is without it
-pub has-not-union : (n s t : ℕ) → T (not (has n s)) → T (not (has n t)) → T (not (has n (setUnion s t)))
-has-not-union n s t f g =
-    not_T (has n (setUnion s t)) (λ h. go (ℕ_discrete (digit s n) 1) (has-out n (setUnion s t) h))
+pub has_not_union : (n s t : ℕ) → T (not (has n s)) → T (not (has n t)) → T (not (has n (set_union s t)))
+has_not_union n s t f g =
+    not_T (has n (set_union s t)) (λ h. go (ℕ_discrete (digit s n) 1) (has_out n (set_union s t) h))
   where
-    go : Dec (digit s n ≡ 1) → digit (setUnion s t) n ≡ 1 → ⊥
+    go : Dec (digit s n ≡ 1) → digit (set_union s t) n ≡ 1 → ⊥
     go (yes p) e = T_not (has n s) f (has_in n s p)
     go (no p) e = T_not (has n t) g (has_in n t (omega (arith, digit-union s t n, digit_lt s n, digit_lt t n)))
 
 -- a name that t does not hold
-pub has-union-none : (n s t : ℕ) → T (not (has n t)) → has n (setUnion s t) ≡ has n s
+pub has-union-none : (n s t : ℕ) → T (not (has n t)) → has n (set_union s t) ≡ has n s
 has-union-none n s t h =
-    test-ext
-    (has n (setUnion s t))
+    test_ext
+    (has n (set_union s t))
     (has n s)
-    (λ k. has_in n s (omega (arith, has-out n (setUnion s t) k, digit-union s t n, none, digit_lt s n)))
-    (λ k. has_in n (setUnion s t) (omega (arith, has-out n s k, digit-union s t n, digit_lt t n)))
+    (λ k. has_in n s (omega (arith, has_out n (set_union s t) k, digit-union s t n, none, digit_lt s n)))
+    (λ k. has_in n (set_union s t) (omega (arith, has_out n s k, digit-union s t n, digit_lt t n)))
   where
     none : digit t n ≡ 0
     none = go (ℕ_discrete (digit t n) 1)
@@ -251,7 +251,7 @@ has-union-none n s t h =
             below_two (suc (suc d)) f l = absurd (omega (arith, l))
 
 pub has-empty : (n : ℕ) → T (not (has n 0))
-has-empty n = not_T (has n 0) (λ h. omega (arith, has-out n 0 h, digit-empty n))
+has-empty n = not_T (has n 0) (λ h. omega (arith, has_out n 0 h, digit-empty n))
 
 -- a set of one name has no other
 pub has-single : (n m : ℕ) → T (has m (2 ^ n)) → n ≡ m
@@ -259,4 +259,4 @@ has-single n m h = go (ℕ_discrete n m)
   where
     go : Dec (n ≡ m) → n ≡ m
     go (yes p) = p
-    go (no f) = absurd (omega (arith, has-out m (2 ^ n) h, digit-single-other n m f))
+    go (no f) = absurd (omega (arith, has_out m (2 ^ n) h, digit-single_other n m f))

@@ -2,36 +2,36 @@
 // Every function here is proved, and the crate assumes nothing of its own.
 ghost use Rattle.std.specs.Prelude.{◌≡◌, ◌<◌, ◌≤◌, ◌^◌, leb};
 ghost use Rattle.std.specs.Int.Count.{ones};
-ghost use Rattle.names.specs.Sets.{subset as Sets·subset, setUnion as Sets·union, has as Sets·has, minus as Sets·minus};
-ghost use Rattle.names.specs.code.Parts.{shared as Parts·shared, others as Parts·others, leastName};
+ghost use Rattle.names.specs.Sets.{subset, set_union, has, minus};
+ghost use Rattle.names.specs.code.Parts.{shared, others, least_name};
 
 // The mask of no set: more than every set of names.
 pub const NO_SET: u32 = 536_870_912;
 
 // Whether each name of t is in s.
 pub fn subset(t: u32, s: u32) -> bool
-    ensures { result ≡ Sets·subset t s }
+    ensures { result ≡ subset t s }
 {
     t & s == t
 }
 
 // The names of s and those of t.
 pub fn union(s: u32, t: u32) -> u32
-    ensures { result ≡ Sets·union s t }
+    ensures { result ≡ set_union s t }
 {
     s | t
 }
 
 // The names of s that are in t.
 pub fn shared(s: u32, t: u32) -> u32
-    ensures { result ≡ Parts·shared s t }
+    ensures { result ≡ shared s t }
 {
     s & t
 }
 
 // The names of s that are not in t.
 pub fn minus(s: u32, t: u32) -> u32
-    ensures { result ≡ Sets·minus s t }
+    ensures { result ≡ minus s t }
 {
     s - (s & t)
 }
@@ -39,7 +39,7 @@ pub fn minus(s: u32, t: u32) -> u32
 // The least name of s as a set of its own.
 pub fn least_name(s: u32) -> u32
     requires { 0 < s }
-    ensures { result ≡ leastName s }
+    ensures { result ≡ least_name s }
 {
     s - (s & (s - 1))
 }
@@ -69,7 +69,7 @@ pub fn single(n: u32) -> u32
 // All names but n.
 pub fn others(n: u32) -> u32
     requires { n < 32 }
-    ensures { result ≡ Parts·others n }
+    ensures { result ≡ others n }
 {
     minus(NO_SET - 1, single(n))
 }
@@ -77,7 +77,7 @@ pub fn others(n: u32) -> u32
 // Whether s holds the name n: the own-name test.
 pub fn has(n: u32, s: u32) -> bool
     requires { n < 32 }
-    ensures { result ≡ Sets·has n s }
+    ensures { result ≡ has n s }
 {
     s & single(n) != 0
 }

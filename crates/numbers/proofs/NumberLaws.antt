@@ -28,29 +28,29 @@ num-bound zero at s b = omega arith
 num-bound (suc n) at s b = rw pow-suc (omega (arith, b at, num-bound n (suc at) s b))
 
 -- a number depends on its bytes alone
-pub num-cong : (n at : ℕ) (s t : List ℕ) → ((i : ℕ) → at ≤ i → i < at + n → get_or s i 0 ≡ get_or t i 0) → num at n s ≡ num at n t
+pub num_cong : (n at : ℕ) (s t : List ℕ) → ((i : ℕ) → at ≤ i → i < at + n → get_or s i 0 ≡ get_or t i 0) → num at n s ≡ num at n t
 unfolding num
-num-cong zero at s t h = refl
-num-cong (suc n) at s t h =
-    rw (h at (omega arith) (omega arith), num-cong n (suc at) s t (λ i p q. h i (omega arith) (omega arith)))
+num_cong zero at s t h = refl
+num_cong (suc n) at s t h =
+    rw (h at (omega arith) (omega arith), num_cong n (suc at) s t (λ i p q. h i (omega arith) (omega arith)))
 
 -- a number in m + n bytes: that in the first m, and 256 ^ m times that in the other n
-pub num-add : (m n at : ℕ) (s : List ℕ) → num at (m + n) s ≡ num at m s + 256 ^ m * num (at + m) n s
+pub num_add : (m n at : ℕ) (s : List ℕ) → num at (m + n) s ≡ num at m s + 256 ^ m * num (at + m) n s
 unfolding num
-num-add zero n at s = rw (zero-add n, add-zero at) (omega arith)
-num-add (suc m) n at s =
-    rw (suc-add, pow-succ' 256 m, mul_assoc, add-suc, ← (suc-add at m)) (omega (arith, num-add m n (suc at) s))
+num_add zero n at s = rw (zero-add n, add-zero at) (omega arith)
+num_add (suc m) n at s =
+    rw (suc-add, pow-succ' 256 m, mul_assoc, add-suc, ← (suc-add at m)) (omega (arith, num_add m n (suc at) s))
 
 -- a number behind one element more
-num-cons : (n at v : ℕ) (s : List ℕ) → num (suc at) n (v ∷ s) ≡ num at n s
+num_cons : (n at v : ℕ) (s : List ℕ) → num (suc at) n (v ∷ s) ≡ num at n s
 unfolding num
-num-cons zero at v s = refl
-num-cons (suc n) at v s = rw (num-cons n (suc at) v s)
+num_cons zero at v s = refl
+num_cons (suc n) at v s = rw (num_cons n (suc at) v s)
 
 -- a number behind a list
 pub num-append : (n at k : ℕ) (a s : List ℕ) → k ≡ length a + at → num k n (a ++ s) ≡ num at n s
 num-append n at k [] s e = rw (e, zero-add)
-num-append n at k (v ∷ a) s e = rw (e, suc-add, num-cons) (num-append n at (length a + at) a s refl)
+num-append n at k (v ∷ a) s e = rw (e, suc-add, num_cons) (num-append n at (length a + at) a s refl)
 
 -- ---- bytes: the bytes of a number
 
@@ -65,12 +65,12 @@ unfolding num bytes
 num-bytes zero x s h = omega (arith, rw pow-zero at h)
 num-bytes (suc n) x s h =
     let small : x / 256 < 256 ^ n = (div-lt_iff_lt-mul {k = 256} {x = x} {y = 256 ^ n} (lit< tt)).1 (rw pow-suc at h) in
-    omega (arith, num-cons n 0 (x % 256) (bytes n (x / 256) ++ s), num-bytes n (x / 256) s small, mod-add-div x 256)
+    omega (arith, num_cons n 0 (x % 256) (bytes n (x / 256) ++ s), num-bytes n (x / 256) s small, mod-add-div x 256)
 
 -- the first byte of a number in bytes, and those of the rest
-bytes-num-cons : (n at : ℕ) (s : List ℕ) → Bytes s → bytes (suc n) (num at (suc n) s) ≡ get_or s at 0 ∷ bytes n (num (suc at) n s)
+bytes-num_cons : (n at : ℕ) (s : List ℕ) → Bytes s → bytes (suc n) (num at (suc n) s) ≡ get_or s at 0 ∷ bytes n (num (suc at) n s)
 unfolding num bytes Bytes
-bytes-num-cons n at s b =
+bytes-num_cons n at s b =
     let low : (get_or s at 0 + 256 * num (suc at) n s) % 256 ≡ get_or s at 0 = omega (arith, b at) in
     let high : (get_or s at 0 + 256 * num (suc at) n s) / 256 ≡ num (suc at) n s = omega (arith, b at) in
     rw (low, high)
@@ -81,7 +81,7 @@ unfolding bytes
 bytes-num zero at s b h = refl
 bytes-num (suc n) at s b h =
     let inside : at < length s = omega arith in
-    rw (bytes-num-cons n at s b, drop-cons s at 0 inside, bytes-num n (suc at) s b (omega arith))
+    rw (bytes-num_cons n at s b, drop-cons s at 0 inside, bytes-num n (suc at) s b (omega arith))
 
 -- ---- put: a list stored in another
 
@@ -90,32 +90,32 @@ unfolding put
 length-put at vs s = length-sets s at vs
 
 -- an element before what is stored stays
-pub getD-put-before : (at i : ℕ) (vs s : List ℕ) → i < at → get_or (put at vs s) i 0 ≡ get_or s i 0
+pub get_or-put-before : (at i : ℕ) (vs s : List ℕ) → i < at → get_or (put at vs s) i 0 ≡ get_or s i 0
 unfolding put
-getD-put-before at i [] s h = refl
-getD-put-before at i (v ∷ vs) s h =
-    getD-put-before (suc at) i vs (set s at v) (omega arith) ∙ get_or-set_other s at i v 0 (λ e. omega arith)
+get_or-put-before at i [] s h = refl
+get_or-put-before at i (v ∷ vs) s h =
+    get_or-put-before (suc at) i vs (set s at v) (omega arith) ∙ get_or-set_other s at i v 0 (λ e. omega arith)
 
 -- an element after what is stored stays
-pub getD-put-after : (at i : ℕ) (vs s : List ℕ) → at + length vs ≤ i → get_or (put at vs s) i 0 ≡ get_or s i 0
+pub get_or-put-after : (at i : ℕ) (vs s : List ℕ) → at + length vs ≤ i → get_or (put at vs s) i 0 ≡ get_or s i 0
 unfolding put
-getD-put-after at i [] s h = refl
-getD-put-after at i (v ∷ vs) s h =
-    getD-put-after (suc at) i vs (set s at v) (omega arith) ∙ get_or-set_other s at i v 0 (λ e. omega arith)
+get_or-put-after at i [] s h = refl
+get_or-put-after at i (v ∷ vs) s h =
+    get_or-put-after (suc at) i vs (set s at v) (omega arith) ∙ get_or-set_other s at i v 0 (λ e. omega arith)
 
 -- a number before or after what is stored stays
 pub num-put-apart : (n at i : ℕ) (vs s : List ℕ) → (i + n ≤ at) ⊎ (at + length vs ≤ i) → num i n (put at vs s) ≡ num i n s
 num-put-apart n at i vs s h =
-    num-cong n i (put at vs s) s
-    (λ k p q. ⊎_elim (λ w. getD-put-before at k vs s (omega arith)) (λ w. getD-put-after at k vs s (omega arith)) h)
+    num_cong n i (put at vs s) s
+    (λ k p q. ⊎_elim (λ w. get_or-put-before at k vs s (omega arith)) (λ w. get_or-put-after at k vs s (omega arith)) h)
 
 -- storing the number that is there changes nothing
-pub put-num-same : (n at : ℕ) (s : List ℕ) → Bytes s → put at (bytes n (num at n s)) s ≡ s
+pub put_num-same : (n at : ℕ) (s : List ℕ) → Bytes s → put at (bytes n (num at n s)) s ≡ s
 unfolding put bytes
-put-num-same zero at s b = refl
-put-num-same (suc n) at s b =
-    let first : put (suc at) (bytes n (num (suc at) n s)) (set s at (get_or s at 0)) ≡ s = rw (set-get_or s at 0) (put-num-same n (suc at) s b) in
-    rw (bytes-num-cons n at s b) first
+put_num-same zero at s b = refl
+put_num-same (suc n) at s b =
+    let first : put (suc at) (bytes n (num (suc at) n s)) (set s at (get_or s at 0)) ≡ s = rw (set-get_or s at 0) (put_num-same n (suc at) s b) in
+    rw (bytes-num_cons n at s b) first
 
 -- two lists, the first of n elements: stored at once, or one after the other
 pub put-append : (n at : ℕ) (a b s : List ℕ) → length a ≡ n → put at (a ++ b) s ≡ put (at + n) b (put at a s)
@@ -175,93 +175,93 @@ unfolding tab
 length-tab zero f = refl
 length-tab (suc n) f = rw length-append (omega (arith, length-tab n f))
 
-pub getD-tab : {A : Type 0} (n i : ℕ) (f : ℕ → A) (d : A) → i < n → get_or (tab n f) i d ≡ f i
+pub get_or-tab : {A : Type 0} (n i : ℕ) (f : ℕ → A) (d : A) → i < n → get_or (tab n f) i d ≡ f i
 unfolding tab
-getD-tab zero i f d h = absurd (omega arith)
-getD-tab (suc n) i f d h =
+get_or-tab zero i f d h = absurd (omega arith)
+get_or-tab (suc n) i f d h =
     ⊎_elim
     (λ (p : i ≡ n). rw p (get_or_at (tab n f) (f n) [] d n (length-tab n f)))
-    (λ (p : i < n). get_or-append (tab n f) (f n ∷ []) d i (rw length-tab p) ∙ getD-tab n i f d p)
+    (λ (p : i < n). get_or-append (tab n f) (f n ∷ []) d i (rw length-tab p) ∙ get_or-tab n i f d p)
     (eq-or-lt_of_le (le_of_suc-le-suc h))
 
 -- a list is the table of its elements
-pub tab-ext : {A : Type 0} (d : A) (n : ℕ) (f : ℕ → A) (vs : List A) → length vs ≡ n → ((i : ℕ) → i < n → f i ≡ get_or vs i d) → tab n f ≡ vs
-tab-ext d n f vs e h =
+pub tab_ext : {A : Type 0} (d : A) (n : ℕ) (f : ℕ → A) (vs : List A) → length vs ≡ n → ((i : ℕ) → i < n → f i ≡ get_or vs i d) → tab n f ≡ vs
+tab_ext d n f vs e h =
     ext_get_or d (tab n f) vs (length-tab n f ∙ sym e)
-    (λ i p. let below : i < n = rw length-tab at p in getD-tab n i f d below ∙ h i below)
+    (λ i p. let below : i < n = rw length-tab at p in get_or-tab n i f d below ∙ h i below)
 
 -- the front of a table
 pub take-tab : {A : Type 0} (d : A) (n k : ℕ) (f : ℕ → A) → k ≤ n → take k (tab n f) ≡ tab k f
 take-tab d n k f h =
-    sym (tab-ext d k f (take k (tab n f)) (length-take-le k (tab n f) (rw length-tab h))
-    (λ i p. sym (get_or-take k (tab n f) i d p ∙ getD-tab n i f d (omega arith))))
+    sym (tab_ext d k f (take k (tab n f)) (length-take-le k (tab n f) (rw length-tab h))
+    (λ i p. sym (get_or-take k (tab n f) i d p ∙ get_or-tab n i f d (omega arith))))
 
 -- a turn of the loop that stores a table
-pub tab-next : (f : ℕ → ℕ) (at i k v : ℕ) (s t : List ℕ) →
+pub tab_next : (f : ℕ → ℕ) (at i k v : ℕ) (s t : List ℕ) →
     k ≡ at + i → v ≡ f i → t ≡ put at (tab i f) s → set t k v ≡ put at (tab (i + 1) f) s
 unfolding tab put
-tab-next f at i k v s t e q h = rw (add-one, put-append i at (tab i f) (f i ∷ []) s (length-tab i f), ← h, e, q)
+tab_next f at i k v s t e q h = rw (add-one, put-append i at (tab i f) (f i ∷ []) s (length-tab i f), ← h, e, q)
 
 -- ---- words_of and bytes_of: words in bytes
 
-pub length-bytesOf : (ws : List ℕ) → length (bytes_of ws) ≡ length ws * 4
+pub length-bytes_of : (ws : List ℕ) → length (bytes_of ws) ≡ length ws * 4
 unfolding bytes_of
-length-bytesOf [] = refl
-length-bytesOf (w ∷ ws) = rw (length-append, length-bytes) (omega (arith, length-bytesOf ws))
+length-bytes_of [] = refl
+length-bytes_of (w ∷ ws) = rw (length-append, length-bytes) (omega (arith, length-bytes_of ws))
 
-pub bytesOf-append : (ws vs : List ℕ) → bytes_of (ws ++ vs) ≡ bytes_of ws ++ bytes_of vs
+pub bytes_of-append : (ws vs : List ℕ) → bytes_of (ws ++ vs) ≡ bytes_of ws ++ bytes_of vs
 unfolding bytes_of
-bytesOf-append [] vs = refl
-bytesOf-append (w ∷ ws) vs = rw (bytesOf-append ws vs, append_assoc)
+bytes_of-append [] vs = refl
+bytes_of-append (w ∷ ws) vs = rw (bytes_of-append ws vs, append_assoc)
 
 -- a turn of the loop that stores words
-pub bytesOf-next : (at i : ℕ) (ws s t u : List ℕ) → i < length ws →
+pub bytes_of_next : (at i : ℕ) (ws s t u : List ℕ) → i < length ws →
     t ≡ put at (bytes_of (take i ws)) s → u ≡ put (at + i * 4) (bytes 4 (get_or ws i 0)) t → u ≡ put at (bytes_of (take (i + 1) ws)) s
 unfolding bytes_of
-bytesOf-next at i ws s t u h p q =
-    let long : length (bytes_of (take i ws)) ≡ i * 4 = length-bytesOf (take i ws) ∙ rw (length-take-le i ws (omega arith)) in
-    rw (add-one, take-suc ws i 0 h, bytesOf-append, append-nil) (put_then (i * 4) at (at + i * 4) _ _ s t u long refl p q)
+bytes_of_next at i ws s t u h p q =
+    let long : length (bytes_of (take i ws)) ≡ i * 4 = length-bytes_of (take i ws) ∙ rw (length-take-le i ws (omega arith)) in
+    rw (add-one, take-suc ws i 0 h, bytes_of-append, append-nil) (put_then (i * 4) at (at + i * 4) _ _ s t u long refl p q)
 
 -- word i in the bytes of words
-pub num-bytesOf : (ws : List ℕ) (i : ℕ) → Words ws → i < length ws → num (i * 4) 4 (bytes_of ws) ≡ get_or ws i 0
+pub num-bytes_of : (ws : List ℕ) (i : ℕ) → Words ws → i < length ws → num (i * 4) 4 (bytes_of ws) ≡ get_or ws i 0
 unfolding bytes_of Words
-num-bytesOf [] i w h = absurd (omega arith)
-num-bytesOf (v ∷ ws) zero w h = num-bytes 4 v (bytes_of ws) (w 0)
-num-bytesOf (v ∷ ws) (suc i) w h =
+num-bytes_of [] i w h = absurd (omega arith)
+num-bytes_of (v ∷ ws) zero w h = num-bytes 4 v (bytes_of ws) (w 0)
+num-bytes_of (v ∷ ws) (suc i) w h =
     num-append 4 (i * 4) (suc i * 4) (bytes 4 v) (bytes_of ws) (omega (arith, length-bytes 4 v))
-    ∙ num-bytesOf ws i (λ k. w (suc k)) (omega arith)
+    ∙ num-bytes_of ws i (λ k. w (suc k)) (omega arith)
 
 -- the words in the bytes of words are these words
 pub words-bytes : (ws : List ℕ) → Words ws → words_of (bytes_of ws) ≡ ws
 unfolding words_of
 words-bytes ws w =
-    let count : length ws ≡ length (bytes_of ws) / 4 = omega (arith, length-bytesOf ws) in
-    tab-ext 0 _ _ ws count (λ i h. num-bytesOf ws i w (omega arith))
+    let count : length ws ≡ length (bytes_of ws) / 4 = omega (arith, length-bytes_of ws) in
+    tab_ext 0 _ _ ws count (λ i h. num-bytes_of ws i w (omega arith))
 
 -- the bytes of the first n words in bytes
-bytesOf-tab : (n : ℕ) (s : List ℕ) → Bytes s → n * 4 ≤ length s → bytes_of (tab n (λ i. num (i * 4) 4 s)) ≡ take (n * 4) s
+bytes_of-tab : (n : ℕ) (s : List ℕ) → Bytes s → n * 4 ≤ length s → bytes_of (tab n (λ i. num (i * 4) 4 s)) ≡ take (n * 4) s
 unfolding bytes_of tab
-bytesOf-tab zero s b h = refl
-bytesOf-tab (suc n) s b h =
-    rw (bytesOf-append, bytesOf-tab n s b (omega arith), append-nil, bytes-num 4 (n * 4) s b (omega arith), suc-mul, take-add)
+bytes_of-tab zero s b h = refl
+bytes_of-tab (suc n) s b h =
+    rw (bytes_of-append, bytes_of-tab n s b (omega arith), append-nil, bytes-num 4 (n * 4) s b (omega arith), suc-mul, take-add)
 
 -- the bytes of the words in bytes are these bytes
 pub bytes-words : (s : List ℕ) → Bytes s → length s % 4 ≡ 0 → bytes_of (words_of s) ≡ s
 unfolding words_of
 bytes-words s b e =
-    bytesOf-tab (length s / 4) s b (omega arith) ∙ take_all (length s / 4 * 4) s (omega arith)
+    bytes_of-tab (length s / 4) s b (omega arith) ∙ take_all (length s / 4 * 4) s (omega arith)
 
 -- ---- a list by its elements
 
 module _ {A : Type 0} where
-  pub tab-suc : (n : ℕ) (f : ℕ → A) → tab (n + 1) f ≡ tab n f ++ (f n ∷ [])
+  pub tab_suc : (n : ℕ) (f : ℕ → A) → tab (n + 1) f ≡ tab n f ++ (f n ∷ [])
   unfolding tab
-  tab-suc n f = rw add-one
+  tab_suc n f = rw add-one
 
-  pub tab-cong : (n : ℕ) (f g : ℕ → A) → ((i : ℕ) → i < n → f i ≡ g i) → tab n f ≡ tab n g
+  pub tab_cong : (n : ℕ) (f g : ℕ → A) → ((i : ℕ) → i < n → f i ≡ g i) → tab n f ≡ tab n g
   unfolding tab
-  tab-cong zero f g h = refl
-  tab-cong (suc n) f g h = rw (tab-cong n f g (λ i p. h i (omega arith)), h n (omega arith))
+  tab_cong zero f g h = refl
+  tab_cong (suc n) f g h = rw (tab_cong n f g (λ i p. h i (omega arith)), h n (omega arith))
 
 pub map-tab : {A B : Type 0} (f : A → B) (n : ℕ) (g : ℕ → A) → map f (tab n g) ≡ tab n (λ i. f (g i))
 unfolding tab

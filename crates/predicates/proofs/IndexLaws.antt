@@ -18,9 +18,9 @@ use Rattle.predicates.proofs.ListLaws.{both, both_l, both_r, T_false, keep_appen
 -- ---- tests of all elements
 
 module _ {A : Type 0} where
-  pub all-mono : (f g : A → Bool) (l : List A) → ((x : A) → T (f x) → T (g x)) → T (all f l) → T (all g l)
-  all-mono f g [] h t = tt
-  all-mono f g (x ∷ l) h t = both (g x) (all g l) (h x (both_l (f x) (all f l) t)) (all-mono f g l h (both_r (f x) (all f l) t))
+  pub all_mono : (f g : A → Bool) (l : List A) → ((x : A) → T (f x) → T (g x)) → T (all f l) → T (all g l)
+  all_mono f g [] h t = tt
+  all_mono f g (x ∷ l) h t = both (g x) (all g l) (h x (both_l (f x) (all f l) t)) (all_mono f g l h (both_r (f x) (all f l) t))
 
   pub all_append : (f : A → Bool) (l m : List A) → T (all f l) → T (all f m) → T (all f (l ++ m))
   all_append f [] m t u = u
@@ -52,8 +52,8 @@ below_out (suc n) f t i h = last (eq-or-lt_of_le (le_of_suc-le-suc h)) (below_ou
     last (inr k) rest = rest k
 
 -- one that fails decides
-pub below-stop : (f : ℕ → Bool) (i n : ℕ) → i < n → f i ≡ false → all_below n f ≡ false
-below-stop f i n h e = T_false (all_below n f) (not_T (all_below n f) (λ t. subst (λ (b : Bool). T b) e (below_out n f t i h)))
+pub below_stop : (f : ℕ → Bool) (i n : ℕ) → i < n → f i ≡ false → all_below n f ≡ false
+below_stop f i n h e = T_false (all_below n f) (not_T (all_below n f) (λ t. subst (λ (b : Bool). T b) e (below_out n f t i h)))
 
 pub below_next : (f : ℕ → Bool) (i : ℕ) → ((k : ℕ) → k < i → f k ≡ false) → f i ≡ false → (k : ℕ) → k < i + 1 → f k ≡ false
 below_next f i h e k p = go (ℕ_discrete k i)
@@ -87,10 +87,10 @@ get_d_map f [] a b j h = absurd (omega arith)
 get_d_map f (x ∷ l) a b zero h = refl
 get_d_map f (x ∷ l) a b (suc j) h = get_d_map f l a b j (omega arith)
 
-pub in-at : {A : Type 0} (l : List A) (d a : A) → In a l → (j : ℕ) × (j < length l) × (a ≡ get_or l j d)
-in-at [] d a m = absurd m
-in-at (x ∷ l) d a (inl e) = (0, omega arith, e)
-in-at (x ∷ l) d a (inr m) = let r = in-at l d a m in (suc r.0, omega (arith, r.1), r.2)
+pub in_at : {A : Type 0} (l : List A) (d a : A) → In a l → (j : ℕ) × (j < length l) × (a ≡ get_or l j d)
+in_at [] d a m = absurd m
+in_at (x ∷ l) d a (inl e) = (0, omega arith, e)
+in_at (x ∷ l) d a (inr m) = let r = in_at l d a m in (suc r.0, omega (arith, r.1), r.2)
 
 -- what of the first elements passes a test, one element further
 module _ (f : ℕ → Bool) (order : List ℕ) (i : ℕ) (h : i < length order) where
@@ -102,5 +102,5 @@ module _ (f : ℕ → Bool) (order : List ℕ) (i : ℕ) (h : i < length order) 
   pub kept-take : f (get_or order i 0) ≡ true → keep f (take (i + 1) order) ≡ keep f (take i order) ++ (get_or order i 0 ∷ [])
   kept-take e = rw e at kept-last
 
-  pub kept-pass : f (get_or order i 0) ≡ false → keep f (take (i + 1) order) ≡ keep f (take i order)
-  kept-pass e = (rw e at kept-last) ∙ append-nil (keep f (take i order))
+  pub kept_pass : f (get_or order i 0) ≡ false → keep f (take (i + 1) order) ≡ keep f (take i order)
+  kept_pass e = (rw e at kept-last) ∙ append-nil (keep f (take i order))

@@ -46,8 +46,8 @@ or_swap true true c = refl
 or_swap true false c = refl
 or_swap false b c = refl
 
-pub true-T : (b : Bool) → b ≡ true → T b
-true-T b e = subst (λ (x : Bool). T x) (sym e) tt
+pub true_T : (b : Bool) → b ≡ true → T b
+true_T b e = subst (λ (x : Bool). T x) (sym e) tt
 
 pub T_true : (b : Bool) → T b → b ≡ true
 T_true true h = refl
@@ -70,28 +70,28 @@ cond_ind P false x y f g = g tt
 -- ---- elements
 
 module _ {A : Type 0} where
-  pub in-l : (a : A) (l m : List A) → In a l → In a (l ++ m)
-  in-l a [] m h = absurd h
-  in-l a (x ∷ l) m (inl e) = inl e
-  in-l a (x ∷ l) m (inr h) = inr (in-l a l m h)
+  pub in_l : (a : A) (l m : List A) → In a l → In a (l ++ m)
+  in_l a [] m h = absurd h
+  in_l a (x ∷ l) m (inl e) = inl e
+  in_l a (x ∷ l) m (inr h) = inr (in_l a l m h)
 
-  pub in-r : (a : A) (l m : List A) → In a m → In a (l ++ m)
-  in-r a [] m h = h
-  in-r a (x ∷ l) m h = inr (in-r a l m h)
+  pub in_r : (a : A) (l m : List A) → In a m → In a (l ++ m)
+  in_r a [] m h = h
+  in_r a (x ∷ l) m h = inr (in_r a l m h)
 
-  pub in-cases : (a : A) (l m : List A) → In a (l ++ m) → In a l ⊎ In a m
-  in-cases a [] m h = inr h
-  in-cases a (x ∷ l) m (inl e) = inl (inl e)
-  in-cases a (x ∷ l) m (inr h) = go (in-cases a l m h)
+  pub in_cases : (a : A) (l m : List A) → In a (l ++ m) → In a l ⊎ In a m
+  in_cases a [] m h = inr h
+  in_cases a (x ∷ l) m (inl e) = inl (inl e)
+  in_cases a (x ∷ l) m (inr h) = go (in_cases a l m h)
     where
       go : In a l ⊎ In a m → ((a ≡ x) ⊎ In a l) ⊎ In a m
       go (inl k) = inl (inr k)
       go (inr k) = inr k
 
-  pub any-in : (f : A → Bool) (l : List A) (a : A) → In a l → T (f a) → T (any f l)
-  any-in f [] a h t = h
-  any-in f (x ∷ l) a (inl e) t = or_l (f x) (any f l) (subst (λ y. T (f y)) e t)
-  any-in f (x ∷ l) a (inr h) t = or_r (f x) (any f l) (any-in f l a h t)
+  pub any_in : (f : A → Bool) (l : List A) (a : A) → In a l → T (f a) → T (any f l)
+  any_in f [] a h t = h
+  any_in f (x ∷ l) a (inl e) t = or_l (f x) (any f l) (subst (λ y. T (f y)) e t)
+  any_in f (x ∷ l) a (inr h) t = or_r (f x) (any f l) (any_in f l a h t)
 
   pub any_out : (f : A → Bool) (l : List A) → T (any f l) → (a : A) × In a l × T (f a)
   any_out f [] t = absurd t
@@ -101,25 +101,25 @@ module _ {A : Type 0} where
       go rest (inl h) = (x, inl refl, h)
       go rest (inr h) = let r = rest h in (r.0, inr r.1, r.2)
 
-  pub all-out : (f : A → Bool) (l : List A) → T (all f l) → (a : A) → In a l → T (f a)
-  all-out f [] t a h = absurd h
-  all-out f (x ∷ l) t a (inl e) = subst (λ y. T (f y)) (sym e) (both_l (f x) (all f l) t)
-  all-out f (x ∷ l) t a (inr h) = all-out f l (both_r (f x) (all f l) t) a h
+  pub all_out : (f : A → Bool) (l : List A) → T (all f l) → (a : A) → In a l → T (f a)
+  all_out f [] t a h = absurd h
+  all_out f (x ∷ l) t a (inl e) = subst (λ y. T (f y)) (sym e) (both_l (f x) (all f l) t)
+  all_out f (x ∷ l) t a (inr h) = all_out f l (both_r (f x) (all f l) t) a h
 
   pub all_in : (f : A → Bool) (l : List A) → ((a : A) → In a l → T (f a)) → T (all f l)
   all_in f [] h = tt
   all_in f (x ∷ l) h = both (f x) (all f l) (h x (inl refl)) (all_in f l (λ a k. h a (inr k)))
 
-  pub keep-in : (f : A → Bool) (l : List A) (a : A) → In a l → T (f a) → In a (keep f l)
-  keep-in f [] a h t = h
-  keep-in f (x ∷ l) a (inl e) t =
-      cond_ind (λ m. In a m) (f x) (x ∷ keep f l) (keep f l) (λ _. inl e) (λ n. absurd (no-T (f x) n (subst (λ y. T (f y)) e t)))
+  pub keep_in : (f : A → Bool) (l : List A) (a : A) → In a l → T (f a) → In a (keep f l)
+  keep_in f [] a h t = h
+  keep_in f (x ∷ l) a (inl e) t =
+      cond_ind (λ m. In a m) (f x) (x ∷ keep f l) (keep f l) (λ _. inl e) (λ n. absurd (no_T (f x) n (subst (λ y. T (f y)) e t)))
     where
-      no-T : (b : Bool) → T (not b) → T b → ⊥
-      no-T true p q = p
-      no-T false p q = q
-  keep-in f (x ∷ l) a (inr h) t =
-      let r = keep-in f l a h t in cond_ind (λ m. In a m) (f x) (x ∷ keep f l) (keep f l) (λ _. inr r) (λ _. r)
+      no_T : (b : Bool) → T (not b) → T b → ⊥
+      no_T true p q = p
+      no_T false p q = q
+  keep_in f (x ∷ l) a (inr h) t =
+      let r = keep_in f l a h t in cond_ind (λ m. In a m) (f x) (x ∷ keep f l) (keep f l) (λ _. inr r) (λ _. r)
 
   pub keep_out : (f : A → Bool) (l : List A) (a : A) → In a (keep f l) → In a l × T (f a)
   keep_out f [] a = λ h. absurd h
@@ -134,27 +134,27 @@ module _ {A : Type 0} where
       first rest t (inl e) = (inl e, subst (λ y. T (f y)) (sym e) t)
       first rest t (inr h) = later rest h
 
-  pub keep-passed : (f : A → Bool) (x : A) (l : List A) → T (f x) → keep f (x ∷ l) ≡ x ∷ keep f l
-  keep-passed f x l t = ap (λ (b : Bool). cond b (x ∷ keep f l) (keep f l)) (T_true (f x) t)
+  pub keep_passed : (f : A → Bool) (x : A) (l : List A) → T (f x) → keep f (x ∷ l) ≡ x ∷ keep f l
+  keep_passed f x l t = ap (λ (b : Bool). cond b (x ∷ keep f l) (keep f l)) (T_true (f x) t)
 
-  pub keep-failed : (f : A → Bool) (x : A) (l : List A) → T (not (f x)) → keep f (x ∷ l) ≡ keep f l
-  keep-failed f x l t = ap (λ (b : Bool). cond b (x ∷ keep f l) (keep f l)) (T_false (f x) t)
+  pub keep_failed : (f : A → Bool) (x : A) (l : List A) → T (not (f x)) → keep f (x ∷ l) ≡ keep f l
+  keep_failed f x l t = ap (λ (b : Bool). cond b (x ∷ keep f l) (keep f l)) (T_false (f x) t)
 
   pub keep_all : (f : A → Bool) (l : List A) → T (all f l) → keep f l ≡ l
   keep_all f [] t = refl
   keep_all f (x ∷ l) t =
-      keep-passed f x l (both_l (f x) (all f l) t) ∙ ap (λ (m : List A). x ∷ m) (keep_all f l (both_r (f x) (all f l) t))
+      keep_passed f x l (both_l (f x) (all f l) t) ∙ ap (λ (m : List A). x ∷ m) (keep_all f l (both_r (f x) (all f l) t))
 
   pub keep-none : (f : A → Bool) (l : List A) → T (all (λ x. not (f x)) l) → keep f l ≡ []
   keep-none f [] t = refl
   keep-none f (x ∷ l) t =
-      let rest = all (λ y. not (f y)) l in keep-failed f x l (both_l (not (f x)) rest t) ∙ keep-none f l (both_r (not (f x)) rest t)
+      let rest = all (λ y. not (f y)) l in keep_failed f x l (both_l (not (f x)) rest t) ∙ keep-none f l (both_r (not (f x)) rest t)
 
-  pub keep-none-out : (f : A → Bool) (l : List A) → keep f l ≡ [] → (a : A) → In a l → T (f a) → ⊥
-  keep-none-out f l e a h t = subst (λ (m : List A). In a m) e (keep-in f l a h t)
+  pub keep-none_out : (f : A → Bool) (l : List A) → keep f l ≡ [] → (a : A) → In a l → T (f a) → ⊥
+  keep-none_out f l e a h t = subst (λ (m : List A). In a m) e (keep_in f l a h t)
 
   pub all_keep : (f g : A → Bool) (l : List A) → T (all f l) → T (all f (keep g l))
-  all_keep f g l h = all_in f (keep g l) (λ a m. all-out f l h a (keep_out g l a m).0)
+  all_keep f g l h = all_in f (keep g l) (λ a m. all_out f l h a (keep_out g l a m).0)
 
   pub length-keep : (f : A → Bool) (l : List A) → length (keep f l) ≤ length l
   length-keep f [] = le_refl 0
@@ -175,15 +175,15 @@ module _ {A : Type 0} where
   perm_in (Permᴰ.trans d₁ d₂) a h = perm_in d₂ a (perm_in d₁ a h)
 
 module _ {A B : Type 0} (f : A → B) where
-  pub map-in : (l : List A) (a : A) → In a l → In (f a) (map f l)
-  map-in [] a m = m
-  map-in (x ∷ l) a (inl e) = inl (ap f e)
-  map-in (x ∷ l) a (inr m) = inr (map-in l a m)
+  pub map_in : (l : List A) (a : A) → In a l → In (f a) (map f l)
+  map_in [] a m = m
+  map_in (x ∷ l) a (inl e) = inl (ap f e)
+  map_in (x ∷ l) a (inr m) = inr (map_in l a m)
 
-  pub map-out : (l : List A) (b : B) → In b (map f l) → (a : A) × In a l × (b ≡ f a)
-  map-out [] b m = absurd m
-  map-out (x ∷ l) b (inl e) = (x, inl refl, e)
-  map-out (x ∷ l) b (inr m) = let r = map-out l b m in (r.0, inr r.1, r.2)
+  pub map_out : (l : List A) (b : B) → In b (map f l) → (a : A) × In a l × (b ≡ f a)
+  map_out [] b m = absurd m
+  map_out (x ∷ l) b (inl e) = (x, inl refl, e)
+  map_out (x ∷ l) b (inr m) = let r = map_out l b m in (r.0, inr r.1, r.2)
 
 -- ---- two lists one after the other
 
@@ -199,7 +199,7 @@ module _ {A : Type 0} where
   -- x between ls and rs does not pass
   pub keep-without : (f : A → Bool) (ls : List A) (x : A) (rs : List A) → T (not (f x)) → keep f (ls ++ (x ∷ rs)) ≡ keep f (ls ++ rs)
   keep-without f ls x rs t =
-      keep_append f ls (x ∷ rs) ∙ ap (λ (l : List A). keep f ls ++ l) (keep-failed f x rs t) ∙ sym (keep_append f ls rs)
+      keep_append f ls (x ∷ rs) ∙ ap (λ (l : List A). keep f ls ++ l) (keep_failed f x rs t) ∙ sym (keep_append f ls rs)
 
   -- x is the first of l that passes, and the others that do are rest
   abbrev pub FirstKept : (A → Bool) → List A → A → List A → Type 0
@@ -211,11 +211,11 @@ module _ {A : Type 0} where
     where
       go : T (f y) ⊎ T (not (f y)) → (keep f l ≡ x ∷ rest → FirstKept f l x rest) → FirstKept f (y ∷ l) x rest
       go (inl t) found =
-          let same : y ∷ keep f l ≡ x ∷ rest = sym (keep-passed f y l t) ∙ e in
+          let same : y ∷ keep f l ≡ x ∷ rest = sym (keep_passed f y l t) ∙ e in
           ([], l, ap (λ (z : A). z ∷ l) (head-eq_of_cons-eq same), refl, tail-eq_of_cons-eq same)
       go (inr t) found =
-          let (ls, rs, cut, before, behind) = found (sym (keep-failed f y l t) ∙ e) in
-          (y ∷ ls, rs, ap (λ (m : List A). y ∷ m) cut, keep-failed f y ls t ∙ before, behind)
+          let (ls, rs, cut, before, behind) = found (sym (keep_failed f y l t) ∙ e) in
+          (y ∷ ls, rs, ap (λ (m : List A). y ∷ m) cut, keep_failed f y ls t ∙ before, behind)
 
   pub any_append : (f : A → Bool) (xs ys : List A) → any f (xs ++ ys) ≡ any f xs || any f ys
   any_append f [] ys = refl

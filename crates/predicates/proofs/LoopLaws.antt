@@ -9,49 +9,49 @@ use lib.ListN.{length, get_or, take, drop, drop_of_length-le, length-drop}
 use lib.Seq.{drop-cons, take_all}
 use lib.Count.{ones}
 use Rattle.predicates.specs.Lists.{any, all}
-use Rattle.predicates.specs.Predicates.{degree, precedes, isNormal}
+use Rattle.predicates.specs.Predicates.{degree, precedes, is_normal}
 
 -- ---- a loop that tests the elements from i on
 
 -- the elements from i on, in the code's `i + 1`
-pub drop-next : (l : List ℕ) (i : ℕ) → i < length l → drop i l ≡ get_or l i 0 ∷ drop (i + 1) l
-drop-next l i h = rw (add-one, drop-cons l i 0 h)
+pub drop_next : (l : List ℕ) (i : ℕ) → i < length l → drop i l ≡ get_or l i 0 ∷ drop (i + 1) l
+drop_next l i h = rw (add-one, drop-cons l i 0 h)
 
 module _ (f : ℕ → Bool) (l : List ℕ) (i : ℕ) where
   pub any_here : i < length l → f (get_or l i 0) ≡ true → any f (drop i l) ≡ true
-  any_here h e = rw (drop-next l i h, e)
+  any_here h e = rw (drop_next l i h, e)
 
   pub any_next : i < length l → f (get_or l i 0) ≡ false → any f (drop i l) ≡ any f (drop (i + 1) l)
-  any_next h e = rw (drop-next l i h, e)
+  any_next h e = rw (drop_next l i h, e)
 
   pub any-done : length l ≤ i → any f (drop i l) ≡ false
   any-done h = rw (drop_of_length-le l {i = i} h)
 
   -- a test that is carried along, and what it has found at the end
   pub any-turn : (a b t : Bool) → i < length l → b ≡ f (get_or l i 0) → a || any f (drop i l) ≡ t → (a || b) || any f (drop (i + 1) l) ≡ t
-  any-turn a b t h e q = rw e (or_assoc a (f (get_or l i 0)) (any f (drop (i + 1) l)) ∙ rw (drop-next l i h) at q)
+  any-turn a b t h e q = rw e (or_assoc a (f (get_or l i 0)) (any f (drop (i + 1) l)) ∙ rw (drop_next l i h) at q)
 
   pub any-all : (a t : Bool) → length l ≤ i → a || any f (drop i l) ≡ t → a ≡ t
   any-all a t h q = sym (or-false a) ∙ rw (any-done h) at q
 
   pub all_here : i < length l → f (get_or l i 0) ≡ false → all f (drop i l) ≡ false
-  all_here h e = rw (drop-next l i h, e)
+  all_here h e = rw (drop_next l i h, e)
 
-  pub all-next : i < length l → f (get_or l i 0) ≡ true → all f (drop i l) ≡ all f (drop (i + 1) l)
-  all-next h e = rw (drop-next l i h, e)
+  pub all_next : i < length l → f (get_or l i 0) ≡ true → all f (drop i l) ≡ all f (drop (i + 1) l)
+  all_next h e = rw (drop_next l i h, e)
 
   -- a test that is carried along
   pub all-turn : (a b t : Bool) → i < length l → b ≡ f (get_or l i 0) → a && all f (drop i l) ≡ t → a && b && all f (drop (i + 1) l) ≡ t
-  all-turn a b t h e q = rw e (and_assoc a (f (get_or l i 0)) (all f (drop (i + 1) l)) ∙ rw (drop-next l i h) at q)
+  all-turn a b t h e q = rw e (and_assoc a (f (get_or l i 0)) (all f (drop (i + 1) l)) ∙ rw (drop_next l i h) at q)
 
   pub all_done : length l ≤ i → all f (drop i l) ≡ true
   all_done h = rw (drop_of_length-le l {i = i} h)
 
 -- ---- the smallest term
 
-pub degree-next : (p : List ℕ) (i : ℕ) → i < length p → degree (drop i p) ≡ min (ones (get_or p i 0)) (degree (drop (i + 1) p))
+pub degree_next : (p : List ℕ) (i : ℕ) → i < length p → degree (drop i p) ≡ min (ones (get_or p i 0)) (degree (drop (i + 1) p))
 unfolding degree
-degree-next p i h = rw (drop-next p i h)
+degree_next p i h = rw (drop_next p i h)
 
 pub degree-done : (p : List ℕ) (i : ℕ) → length p ≤ i → degree (drop i p) ≡ 30
 unfolding degree
@@ -63,14 +63,14 @@ module _ (p : List ℕ) (i : ℕ) (h : i < length p) (r : Bool) (e : r ≡ all (
   behind : all (λ u. precedes (get_or p i 0) u) (drop (i + 1) p) ≡ r
   behind = ap (λ (q : List ℕ). all (λ u. precedes (get_or p i 0) u) q) (sym (take_all (length p - (i + 1)) (drop (i + 1) p) (omega (arith, length-drop (i + 1) p)))) ∙ sym e
 
-  pub normal-stop : r ≡ false → isNormal (drop i p) ≡ false
-  unfolding isNormal
-  normal-stop q = rw (drop-next p i h, behind, q)
+  pub normal_stop : r ≡ false → is_normal (drop i p) ≡ false
+  unfolding is_normal
+  normal_stop q = rw (drop_next p i h, behind, q)
 
-  pub normal-next : r ≡ true → isNormal (drop i p) ≡ isNormal (drop (i + 1) p)
-  unfolding isNormal
-  normal-next q = rw (drop-next p i h, behind, q)
+  pub normal_next : r ≡ true → is_normal (drop i p) ≡ is_normal (drop (i + 1) p)
+  unfolding is_normal
+  normal_next q = rw (drop_next p i h, behind, q)
 
-pub normal-done : (p : List ℕ) (i : ℕ) → length p ≤ i → isNormal (drop i p) ≡ true
-unfolding isNormal
+pub normal-done : (p : List ℕ) (i : ℕ) → length p ≤ i → is_normal (drop i p) ≡ true
+unfolding is_normal
 normal-done p i h = rw (drop_of_length-le p {i = i} h)

@@ -14,17 +14,17 @@ use lib.Bits.{and_zero_r, and_mask}
 use lib.Count.{ones}
 use lib.Dec.{T, T_not, not_T, eqb, eqb→eq, leb, leb→le, le→leb}
 use lib.ListN.{length, get_or, drop, drop_of_length-le}
-use Rattle.names.specs.Sets.{subset, setUnion}
+use Rattle.names.specs.Sets.{subset, set_union}
 use Rattle.names.specs.code.Parts.{digit}
 use Rattle.names.specs.code.Parts.{shared}
-use Rattle.names.proofs.SetLaws.{digit-union, and-subset, subset-empty, digit-empty, digits-ext, subset-trans, empty-subset, union_left, union_right, union-least, union-none, union_comm, ones_none, union_assoc}
+use Rattle.names.proofs.SetLaws.{digit-union, and_subset, subset-empty, digit-empty, digits_ext, subset_trans, empty-subset, union_left, union_right, union-least, union-none, union_comm, ones_none, union_assoc}
 use Rattle.names.proofs.PartLaws.{digit-shared, shared-left, shared-right, subset-same}
 use Rattle.predicates.specs.Lists.{all, In}
 use Rattle.predicates.specs.Predicates.{holds, implies}
 use Rattle.predicates.specs.code.Marks.{mark_of, singles}
-use Rattle.predicates.proofs.ListLaws.{true-T, T_true, T_false, both_l, both_r, or_l, or_r, cond_ind, all-out}
-use Rattle.predicates.proofs.LoopLaws.{drop-next, any_here, any_next, any-done}
-use Rattle.predicates.proofs.PredicateLaws.{holds-in, holds-out, holds-mono, implies-out}
+use Rattle.predicates.proofs.ListLaws.{true_T, T_true, T_false, both_l, both_r, or_l, or_r, cond_ind, all_out}
+use Rattle.predicates.proofs.LoopLaws.{drop_next, any_here, any_next, any-done}
+use Rattle.predicates.proofs.PredicateLaws.{holds_in, holds_out, holds_mono, implies_out}
 
 -- ---- a set that shares a name with a term of one name contains that term
 
@@ -37,109 +37,109 @@ single-inside s u e f = go (ℕ_discrete (ones (shared s u)) 0)
         let same : shared s u ≡ u = subset-same (shared s u) u (shared-right s u) (omega (arith, e, g)) in
         subst (λ (x : ℕ). T (subset x s)) same (shared-left s u)
 
-shared-neither : (s a b : ℕ) → shared s a ≡ 0 → shared s b ≡ 0 → shared s (setUnion a b) ≡ 0
-shared-neither s a b p q =
-    digits-ext (shared s (setUnion a b)) 0 (λ n.
-    omega (arith, digit-shared s (setUnion a b) n, digit-union a b n, digit-shared s a n, digit-shared s b n, ap (λ (x : ℕ). digit x n) p, ap (λ (x : ℕ). digit x n) q, digit-empty n))
+shared_neither : (s a b : ℕ) → shared s a ≡ 0 → shared s b ≡ 0 → shared s (set_union a b) ≡ 0
+shared_neither s a b p q =
+    digits_ext (shared s (set_union a b)) 0 (λ n.
+    omega (arith, digit-shared s (set_union a b) n, digit-union a b n, digit-shared s a n, digit-shared s b n, ap (λ (x : ℕ). digit x n) p, ap (λ (x : ℕ). digit x n) q, digit-empty n))
 
 pub singles-holds : (s : ℕ) (p : List ℕ) → (shared s (singles p) ≡ 0 → ⊥) → T (holds s p)
 unfolding holds singles shared
 singles-holds s [] f = absurd (f (and_zero_r s))
 singles-holds s (u ∷ p) f =
-    cond_ind (λ (x : ℕ). (shared s x ≡ 0 → ⊥) → T (holds s (u ∷ p))) (eqb (ones u) 1) (setUnion u (singles p)) (singles p)
+    cond_ind (λ (x : ℕ). (shared s x ≡ 0 → ⊥) → T (holds s (u ∷ p))) (eqb (ones u) 1) (set_union u (singles p)) (singles p)
     (λ e g. either (eqb→eq (ones u) 1 e) g (singles-holds s p) (ℕ_discrete (shared s (singles p)) 0))
     (λ _ g. or_r (subset u s) (holds s p) (singles-holds s p g)) f
   where
-    either : ones u ≡ 1 → (shared s (setUnion u (singles p)) ≡ 0 → ⊥) → ((shared s (singles p) ≡ 0 → ⊥) → T (holds s p))
+    either : ones u ≡ 1 → (shared s (set_union u (singles p)) ≡ 0 → ⊥) → ((shared s (singles p) ≡ 0 → ⊥) → T (holds s p))
         → Dec (shared s (singles p) ≡ 0) → T (holds s (u ∷ p))
-    either e g rest (yes z) = or_l (subset u s) (holds s p) (single-inside s u e (λ w. g (shared-neither s u (singles p) w z)))
+    either e g rest (yes z) = or_l (subset u s) (holds s p) (single-inside s u e (λ w. g (shared_neither s u (singles p) w z)))
     either e g rest (no h) = or_r (subset u s) (holds s p) (rest h)
 
 -- ---- a name that makes the predicate true alone is one of them
 
-singles-in : (t : ℕ) (p : List ℕ) → In t p → ones t ≡ 1 → T (subset t (singles p))
+singles_in : (t : ℕ) (p : List ℕ) → In t p → ones t ≡ 1 → T (subset t (singles p))
 unfolding singles
-singles-in t (u ∷ p) m e =
-    cond_ind (λ (x : ℕ). T (subset t x)) (eqb (ones u) 1) (setUnion u (singles p)) (singles p)
-    (λ _. ⊎_elim (λ d. subst (λ (x : ℕ). T (subset t (setUnion x (singles p)))) d (union_left t (singles p)))
-    (λ k. subset-trans t (singles p) (setUnion u (singles p)) (singles-in t p k e) (union_right u (singles p))) m)
-    (λ n. ⊎_elim (λ d. absurd (T_not (eqb (ones u) 1) n (true-T (eqb (ones u) 1) (eq-eqb (ones u) 1 (ap ones (sym d) ∙ e))))) (λ k. singles-in t p k e) m)
+singles_in t (u ∷ p) m e =
+    cond_ind (λ (x : ℕ). T (subset t x)) (eqb (ones u) 1) (set_union u (singles p)) (singles p)
+    (λ _. ⊎_elim (λ d. subst (λ (x : ℕ). T (subset t (set_union x (singles p)))) d (union_left t (singles p)))
+    (λ k. subset_trans t (singles p) (set_union u (singles p)) (singles_in t p k e) (union_right u (singles p))) m)
+    (λ n. ⊎_elim (λ d. absurd (T_not (eqb (ones u) 1) n (true_T (eqb (ones u) 1) (eq-eqb (ones u) 1 (ap ones (sym d) ∙ e))))) (λ k. singles_in t p k e) m)
 
 singles-least : (p : List ℕ) (s : ℕ) → ((t : ℕ) → In t p → ones t ≡ 1 → T (subset t s)) → T (subset (singles p) s)
 unfolding singles
 singles-least [] s f = empty-subset s
 singles-least (u ∷ p) s f =
     let rest : T (subset (singles p) s) = singles-least p s (λ t m. f t (inr m)) in
-    cond_ind (λ (x : ℕ). T (subset x s)) (eqb (ones u) 1) (setUnion u (singles p)) (singles p)
+    cond_ind (λ (x : ℕ). T (subset x s)) (eqb (ones u) 1) (set_union u (singles p)) (singles p)
     (λ e. union-least u (singles p) s (f u (inl refl) (eqb→eq (ones u) 1 e)) rest) (λ _. rest)
 
 -- a set of one name contains no term, or the empty one, or that of its name
 one_holds : (t : ℕ) (q : List ℕ) → ones t ≡ 1 → T (holds t q) → T (not (holds 0 q)) → T (subset t (singles q))
-one_holds t q e h n = let r = holds-out t q h in go r.0 r.1 r.2 (ℕ_discrete (ones r.0) 0)
+one_holds t q e h n = let r = holds_out t q h in go r.0 r.1 r.2 (ℕ_discrete (ones r.0) 0)
   where
     go : (u : ℕ) → In u q → T (subset u t) → Dec (ones u ≡ 0) → T (subset t (singles q))
-    go u m k (yes z) = absurd (T_not (holds 0 q) n (holds-in 0 q u m (subst (λ (x : ℕ). T (subset x 0)) (sym (ones_none u z)) (empty-subset 0))))
+    go u m k (yes z) = absurd (T_not (holds 0 q) n (holds_in 0 q u m (subst (λ (x : ℕ). T (subset x 0)) (sym (ones_none u z)) (empty-subset 0))))
     go u m k (no f) =
         let same : u ≡ t = subset-same u t k (omega (arith, e, f)) in
-        subst (λ (x : ℕ). T (subset x (singles q))) same (singles-in u q m (ap ones same ∙ e))
+        subst (λ (x : ℕ). T (subset x (singles q))) same (singles_in u q m (ap ones same ∙ e))
 
 -- ---- what the names that decide alone tell: p implies no q that has fewer of them, unless q is true whatever has failed
 
 implies-mark : (p q : List ℕ) → T (implies p q) → T (not (holds 0 q)) → T (subset (mark_of p) (singles q))
 unfolding mark_of implies
 implies-mark p q i n =
-    cond_ind (λ (x : ℕ). T (subset x (singles q))) (holds 0 p) (2 ^ 32 - 1) (singles p) (λ h. absurd (T_not (holds 0 q) n (implies-out p q i 0 h)))
-    (λ _. singles-least p (singles q) (λ t m e. one_holds t q e (all-out (λ u. holds u q) p i t m) n))
+    cond_ind (λ (x : ℕ). T (subset x (singles q))) (holds 0 p) (2 ^ 32 - 1) (singles p) (λ h. absurd (T_not (holds 0 q) n (implies_out p q i 0 h)))
+    (λ _. singles-least p (singles q) (λ t m e. one_holds t q e (all_out (λ u. holds u q) p i t m) n))
 
 -- a and b are the marks of p and q
-pub implies-not : (p q : List ℕ) (a b : ℕ) → a ≡ mark_of p → b ≡ mark_of q → a < 2 ^ 32 → subset a b ≡ false → implies p q ≡ false
+pub implies_not : (p q : List ℕ) (a b : ℕ) → a ≡ mark_of p → b ≡ mark_of q → a < 2 ^ 32 → subset a b ≡ false → implies p q ≡ false
 unfolding mark_of
-implies-not p q a b f g l h =
+implies_not p q a b f g l h =
     let outside : T (not (subset a b)) = subst (λ (x : Bool). T (not x)) (sym h) tt in
     T_false (implies p q) (not_T (implies p q) (λ i.
     cond_ind (λ (x : ℕ). b ≡ x → ⊥) (holds 0 q) (2 ^ 32 - 1) (singles q)
-    (λ _ e. T_not (subset a b) outside (rw e (and-subset a (2 ^ 32 - 1) (and_mask a 32 ∙ mod-eq_of_lt l))))
+    (λ _ e. T_not (subset a b) outside (rw e (and_subset a (2 ^ 32 - 1) (and_mask a 32 ∙ mod-eq_of_lt l))))
     (λ k e. T_not (subset a b) outside (rw (f, e) (implies-mark p q i k))) g))
 
 pub holds-mark : (s a r : ℕ) (p : List ℕ) → a ≡ mark_of p → r ≡ shared s a → (r ≡ 0 → ⊥) → holds s p ≡ true
 unfolding mark_of
 holds-mark s a r p e d f =
     T_true (holds s p)
-    (cond_ind (λ (x : ℕ). a ≡ x → T (holds s p)) (holds 0 p) (2 ^ 32 - 1) (singles p) (λ h _. holds-mono 0 s p (empty-subset s) h)
+    (cond_ind (λ (x : ℕ). a ≡ x → T (holds s p)) (holds 0 p) (2 ^ 32 - 1) (singles p) (λ h _. holds_mono 0 s p (empty-subset s) h)
     (λ _ k. singles-holds s p (λ z. f (d ∙ ap (λ (x : ℕ). shared s x) k ∙ z))) e)
 
 -- ---- the loop
 
 -- the empty term adds no name
-singles-few : (t : ℕ) (p : List ℕ) → leb (ones t) 1 ≡ true → singles (t ∷ p) ≡ setUnion t (singles p)
-unfolding singles setUnion
+singles-few : (t : ℕ) (p : List ℕ) → leb (ones t) 1 ≡ true → singles (t ∷ p) ≡ set_union t (singles p)
+unfolding singles set_union
 singles-few t p h =
-    cond_ind (λ (x : ℕ). x ≡ setUnion t (singles p)) (eqb (ones t) 1) (setUnion t (singles p)) (singles p) (λ _. refl) (λ n. empty n)
+    cond_ind (λ (x : ℕ). x ≡ set_union t (singles p)) (eqb (ones t) 1) (set_union t (singles p)) (singles p) (λ _. refl) (λ n. empty n)
   where
-    empty : T (not (eqb (ones t) 1)) → singles p ≡ setUnion t (singles p)
+    empty : T (not (eqb (ones t) 1)) → singles p ≡ set_union t (singles p)
     empty n =
-        let other : ones t ≡ 1 → ⊥ = λ e. T_not (eqb (ones t) 1) n (true-T (eqb (ones t) 1) (eq-eqb (ones t) 1 e)) in
-        let none : t ≡ 0 = ones_none t (omega (arith, other, leb→le (ones t) 1 (true-T (leb (ones t) 1) h))) in
+        let other : ones t ≡ 1 → ⊥ = λ e. T_not (eqb (ones t) 1) n (true_T (eqb (ones t) 1) (eq-eqb (ones t) 1 e)) in
+        let none : t ≡ 0 = ones_none t (omega (arith, other, leb→le (ones t) 1 (true_T (leb (ones t) 1) h))) in
         rw none
 
-singles-many : (t : ℕ) (p : List ℕ) → leb (ones t) 1 ≡ false → singles (t ∷ p) ≡ singles p
+singles_many : (t : ℕ) (p : List ℕ) → leb (ones t) 1 ≡ false → singles (t ∷ p) ≡ singles p
 unfolding singles
-singles-many t p h =
-    cond_ind (λ (x : ℕ). x ≡ singles p) (eqb (ones t) 1) (setUnion t (singles p)) (singles p)
+singles_many t p h =
+    cond_ind (λ (x : ℕ). x ≡ singles p) (eqb (ones t) 1) (set_union t (singles p)) (singles p)
     (λ e. absurd (T_not (leb (ones t) 1) (subst (λ (b : Bool). T (not b)) (sym h) tt) (le→leb (ones t) 1 (omega (arith, eqb→eq (ones t) 1 e))))) (λ _. refl)
 
 -- m are the names of the terms before i; the names of the term at i are taken, or not
 module _ (p : List ℕ) (i m : ℕ) where
-  pub singles-take : i < length p → leb (ones (get_or p i 0)) 1 ≡ true → setUnion (setUnion m (get_or p i 0)) (singles (drop (i + 1) p)) ≡ setUnion m (singles (drop i p))
-  singles-take h e = rw (drop-next p i h, singles-few (get_or p i 0) (drop (i + 1) p) e) (union_assoc m (get_or p i 0) (singles (drop (i + 1) p)))
+  pub singles-take : i < length p → leb (ones (get_or p i 0)) 1 ≡ true → set_union (set_union m (get_or p i 0)) (singles (drop (i + 1) p)) ≡ set_union m (singles (drop i p))
+  singles-take h e = rw (drop_next p i h, singles-few (get_or p i 0) (drop (i + 1) p) e) (union_assoc m (get_or p i 0) (singles (drop (i + 1) p)))
 
-  pub singles-pass : i < length p → leb (ones (get_or p i 0)) 1 ≡ false → setUnion m (singles (drop (i + 1) p)) ≡ setUnion m (singles (drop i p))
-  singles-pass h e = rw (drop-next p i h, singles-many (get_or p i 0) (drop (i + 1) p) e)
+  pub singles_pass : i < length p → leb (ones (get_or p i 0)) 1 ≡ false → set_union m (singles (drop (i + 1) p)) ≡ set_union m (singles (drop i p))
+  singles_pass h e = rw (drop_next p i h, singles_many (get_or p i 0) (drop (i + 1) p) e)
 
 -- a term that is not empty passes, an empty one decides
-pub holds-pass : (p : List ℕ) (i : ℕ) → i < length p → (get_or p i 0 ≡ 0 → ⊥) → holds 0 (drop i p) ≡ holds 0 (drop (i + 1) p)
+pub holds_pass : (p : List ℕ) (i : ℕ) → i < length p → (get_or p i 0 ≡ 0 → ⊥) → holds 0 (drop i p) ≡ holds 0 (drop (i + 1) p)
 unfolding holds
-holds-pass p i h f =
+holds_pass p i h f =
     any_next (λ t. subset t 0) p i h (T_false (subset (get_or p i 0) 0) (not_T (subset (get_or p i 0) 0) (λ k. f (subset-empty (get_or p i 0) k))))
 
 pub mark-all : (p : List ℕ) (i : ℕ) → holds 0 p ≡ holds 0 (drop i p) → i < length p → get_or p i 0 ≡ 0 → mark_of p ≡ 2 ^ 32 - 1
@@ -147,7 +147,7 @@ unfolding mark_of holds
 mark-all p i e h z =
     let here : holds 0 p ≡ true = e ∙ any_here (λ t. subset t 0) p i h (rw z (T_true (subset 0 0) (empty-subset 0))) in rw here
 
-pub mark-some : (p : List ℕ) (i m : ℕ) → holds 0 p ≡ holds 0 (drop i p) → length p ≤ i → setUnion m (singles (drop i p)) ≡ singles p → mark_of p ≡ m
+pub mark-some : (p : List ℕ) (i m : ℕ) → holds 0 p ≡ holds 0 (drop i p) → length p ≤ i → set_union m (singles (drop i p)) ≡ singles p → mark_of p ≡ m
 unfolding mark_of holds singles
 mark-some p i m e h k =
     let none : holds 0 p ≡ false = e ∙ any-done (λ t. subset t 0) p i h in rw none (sym k ∙ rw (drop_of_length-le p {i = i} h) (union-none m))
@@ -159,24 +159,24 @@ pub alone-few : (t : ℕ) → leb (ones t) 1 ≡ true → singles (t ∷ []) ≡
 unfolding singles
 alone-few t h = singles-few t [] h ∙ union-none t
 
-pub alone-many : (t : ℕ) → leb (ones t) 1 ≡ false → singles (t ∷ []) ≡ 0
+pub alone_many : (t : ℕ) → leb (ones t) 1 ≡ false → singles (t ∷ []) ≡ 0
 unfolding singles
-alone-many t h = singles-many t [] h
+alone_many t h = singles_many t [] h
 
-singles-first : (t : ℕ) (p : List ℕ) → singles (t ∷ p) ≡ setUnion (singles (t ∷ [])) (singles p)
+singles-first : (t : ℕ) (p : List ℕ) → singles (t ∷ p) ≡ set_union (singles (t ∷ [])) (singles p)
 unfolding singles
 singles-first t p = go (eqb (ones t) 1)
   where
-    go : (b : Bool) → cond b (setUnion t (singles p)) (singles p) ≡ setUnion (cond b (setUnion t 0) 0) (singles p)
+    go : (b : Bool) → cond b (set_union t (singles p)) (singles p) ≡ set_union (cond b (set_union t 0) 0) (singles p)
     go true = rw (union-none t)
     go false = sym (union_comm 0 (singles p) ∙ union-none (singles p))
 
 -- a turn and the end of the loop over all terms; a are the names of the term at i
-pub singles-turn : (p : List ℕ) (i m a : ℕ) → i < length p → a ≡ singles (get_or p i 0 ∷ []) → setUnion (setUnion m a) (singles (drop (i + 1) p)) ≡ setUnion m (singles (drop i p))
+pub singles-turn : (p : List ℕ) (i m a : ℕ) → i < length p → a ≡ singles (get_or p i 0 ∷ []) → set_union (set_union m a) (singles (drop (i + 1) p)) ≡ set_union m (singles (drop i p))
 singles-turn p i m a h e =
-    rw (drop-next p i h, singles-first (get_or p i 0) (drop (i + 1) p), e) (union_assoc m (singles (get_or p i 0 ∷ [])) (singles (drop (i + 1) p)))
+    rw (drop_next p i h, singles-first (get_or p i 0) (drop (i + 1) p), e) (union_assoc m (singles (get_or p i 0 ∷ [])) (singles (drop (i + 1) p)))
 
-pub singles-done : (p : List ℕ) (i m : ℕ) → length p ≤ i → setUnion m (singles (drop i p)) ≡ singles p → m ≡ singles p
+pub singles-done : (p : List ℕ) (i m : ℕ) → length p ≤ i → set_union m (singles (drop i p)) ≡ singles p → m ≡ singles p
 unfolding singles
 singles-done p i m h k = sym (union-none m) ∙ rw (drop_of_length-le p {i = i} h) at k
 
@@ -193,4 +193,4 @@ pub mark-singles : (p : List ℕ) → ((t : ℕ) → In t p → 0 < t) → mark_
 unfolding mark_of
 mark-singles p f =
     cond_ind (λ (x : ℕ). x ≡ singles p) (holds 0 p) (2 ^ 32 - 1) (singles p)
-    (λ h. let r = holds-out 0 p h in absurd (omega (arith, f r.0 r.1, subset-empty r.0 r.2))) (λ _. refl)
+    (λ h. let r = holds_out 0 p h in absurd (omega (arith, f r.0 r.1, subset-empty r.0 r.2))) (λ _. refl)

@@ -11,7 +11,7 @@ use lib.Seq.{sets, sets-eq, length-sets, take_at, drop_at, set_at, drop-drop, dr
 use Rattle.names.specs.Sets.{has}
 use Rattle.predicates.specs.Lists.{padded}
 use Rattle.predicates.specs.Predicates.{holds, struck, normal, formed}
-use Rattle.predicates.proofs.LoopLaws.{drop-next}
+use Rattle.predicates.proofs.LoopLaws.{drop_next}
 use Rattle.predicates.proofs.PlaceLaws.{padded-zeros}
 use Rattle.predicates.proofs.PredicateLaws.{holds-sum, normal-same}
 
@@ -20,11 +20,11 @@ use Rattle.predicates.proofs.PredicateLaws.{holds-sum, normal-same}
 pub zeros-turn : (s : List ℕ) (i n : ℕ) → i < n → sets (set s i 0) (i + 1) (replicate (n - (i + 1)) 0) ≡ sets s i (replicate (n - i) 0)
 zeros-turn s i n h = let e : n - i ≡ suc (n - (i + 1)) = omega arith in rw (e, add-one)
 
-pub zeros-end : (s : List ℕ) (i n : ℕ) → n ≤ i → sets s i (replicate (n - i) 0) ≡ s
-zeros-end s i n h = let e : n - i ≡ 0 = omega arith in rw e
+pub zeros_end : (s : List ℕ) (i n : ℕ) → n ≤ i → sets s i (replicate (n - i) 0) ≡ s
+zeros_end s i n h = let e : n - i ≡ 0 = omega arith in rw e
 
 pub copy-turn : (s p : List ℕ) (at i : ℕ) → i < length p → sets (set s (at + i) (get_or p i 0)) (at + (i + 1)) (drop (i + 1) p) ≡ sets s (at + i) (drop i p)
-copy-turn s p at i h = let e : at + (i + 1) ≡ suc (at + i) = omega arith in rw (e, drop-next p i h)
+copy-turn s p at i h = let e : at + (i + 1) ≡ suc (at + i) = omega arith in rw (e, drop_next p i h)
 
 -- ---- striking a name: a sifting in which what has been kept plays no part
 
@@ -32,13 +32,13 @@ abbrev pub striking : ℕ → List ℕ → List ℕ → List ℕ
 striking name kept p = struck name p
 
 module _ (name : ℕ) (kept : List ℕ) (t : ℕ) where
-  pub struck-gone : has name t ≡ true → (p : List ℕ) → striking name kept (t ∷ p) ≡ striking name kept p
+  pub struck_gone : has name t ≡ true → (p : List ℕ) → striking name kept (t ∷ p) ≡ striking name kept p
   unfolding struck
-  struck-gone e p = rw e
+  struck_gone e p = rw e
 
-  pub struck-stays : has name t ≡ false → (p : List ℕ) → striking name kept (t ∷ p) ≡ t ∷ striking name (kept ++ (t ∷ [])) p
+  pub struck_stays : has name t ≡ false → (p : List ℕ) → striking name kept (t ∷ p) ≡ t ∷ striking name (kept ++ (t ∷ [])) p
   unfolding struck
-  struck-stays e p = rw e
+  struck_stays e p = rw e
 
 pub struck-none : (name : ℕ) → struck name [] ≡ []
 unfolding struck
@@ -46,9 +46,9 @@ struck-none name = refl
 
 -- ---- two predicates, one behind the other
 
-pub both-calls : (l p q s t : List ℕ) → length p + length q ≤ length l → s ≡ sets l 0 p → t ≡ sets s (length p) q
+pub both_calls : (l p q s t : List ℕ) → length p + length q ≤ length l → s ≡ sets l 0 p → t ≡ sets s (length p) q
     → t ≡ (p ++ q) ++ drop (length p + length q) l
-both-calls l p q s t h a b =
+both_calls l p q s t h a b =
     let n = length p + length q in
     let one : s ≡ p ++ drop (length p) l = a ∙ sets-eq p l 0 (omega arith) ∙ rw zero-add in
     let long : length s ≡ length l = ap length a ∙ length-sets l 0 p in
@@ -80,7 +80,7 @@ module _ (l s t u : List ℕ) (own sender n k : ℕ) (h : n < length l) (a : s �
 
   behind : drop n s ≡ 0 ∷ drop (n + 1) l
   behind =
-      ap (λ (x : List ℕ). drop n x) a ∙ drop-next (set l n 0) n (omega (arith, length-set l n 0))
+      ap (λ (x : List ℕ). drop n x) a ∙ drop_next (set l n 0) n (omega (arith, length-set l n 0))
       ∙ rw (get_or-set_same l n 0 0 h, drop-set-lt (n + 1) l n 0 (omega arith))
 
   count : k ≡ length kept
@@ -95,10 +95,10 @@ module _ (l s t u : List ℕ) (own sender n k : ℕ) (h : n < length l) (a : s �
       c ∙ rw (used, behind) (padded-zeros n 1 kept (drop (n + 1) l) small ∙ rw (e, append_assoc kept (0 ∷ replicate (n - k) 0) (drop (n + 1) l))) in
       d ∙ ap (λ (x : List ℕ). set x k (2 ^ sender)) long ∙ set_at kept 0 (replicate (n - k) 0 ++ drop (n + 1) l) (2 ^ sender) k (sym count)
 
-  pub form-calls : (e : List ℕ) (r : ℕ) → (r ≡ length (normal (take (k + 1) u))) × (r ≤ k + 1) → e ≡ padded (k + 1) (normal (take (k + 1) u)) ++ drop (k + 1) u
+  pub form_calls : (e : List ℕ) (r : ℕ) → (r ≡ length (normal (take (k + 1) u))) × (r ≤ k + 1) → e ≡ padded (k + 1) (normal (take (k + 1) u)) ++ drop (k + 1) u
       → ((r ≡ length (formed own sender (take n l))) × (r ≤ n + 1)) × (e ≡ padded (n + 1) (formed own sender (take n l)) ++ drop (n + 1) l)
   unfolding kept
-  form-calls e r p q =
+  form_calls e r p q =
       let zeros = replicate (n - k) 0 ++ drop (n + 1) l in
       let last : u ≡ (kept ++ (2 ^ sender ∷ [])) ++ zeros = made ∙ sym (append_assoc kept (2 ^ sender ∷ []) zeros) in
       let m : length (kept ++ (2 ^ sender ∷ [])) ≡ k + 1 = omega (arith, length-append kept (2 ^ sender ∷ []), count) in

@@ -7,15 +7,15 @@ pub mod sums;
 ghost use Rattle.std.specs.Prelude.{◌≡◌};
 ghost use Rattle.names.specs.Sets.{subset};
 ghost use Rattle.predicates.specs.Lists.{any, all};
-ghost use Rattle.predicates.specs.Predicates.{holds as Predicates·holds, implies as Predicates·implies};
-ghost use Rattle.predicates.specs.Predicates.{precedes, isNormal};
+ghost use Rattle.predicates.specs.Predicates.{holds, implies};
+ghost use Rattle.predicates.specs.Predicates.{precedes, is_normal};
 
 // The degree of false, which has no terms: above every count of names.
 pub const DEGREE_OF_FALSE: u32 = 30;
 
 // Whether the set s makes p true.
 pub fn holds(p: &[u32], s: u32) -> bool
-    ensures { result ≡ Predicates·holds s p.now }
+    ensures { result ≡ holds s p.now }
 {
     let mut i: usize = 0;
     while i < p.len() {
@@ -29,7 +29,7 @@ pub fn holds(p: &[u32], s: u32) -> bool
 
 // Whether p implies q.
 pub fn implies(p: &[u32], q: &[u32]) -> bool
-    ensures { result ≡ Predicates·implies p.now q.now }
+    ensures { result ≡ implies p.now q.now }
 {
     let mut i: usize = 0;
     while i < p.len() {
@@ -75,7 +75,7 @@ fn precedes_all(t: u32, p: &[u32]) -> bool
 
 // Whether p is in normal form.
 pub fn is_normal(p: &[u32]) -> bool
-    ensures { result ≡ isNormal p.now }
+    ensures { result ≡ is_normal p.now }
 {
     let mut i: usize = 0;
     while i < p.len() {

@@ -2,7 +2,7 @@
 ghost use Rattle.std.specs.Prelude.{◌≡◌, List, ◌++◌, ℕ, ◌+◌, ◌<◌, ◌≤◌, length, take, drop, set, get_or};
 ghost use Rattle.std.proofs.lemmas.List.Edits.{sets};
 ghost use Rattle.predicates.specs.Lists.{padded};
-ghost use Rattle.predicates.specs.Predicates.{formed as Predicates·formed, struck};
+ghost use Rattle.predicates.specs.Predicates.{formed as the_formed, struck};
 
 // Moves the term at i up to the place `to`, and leaves a zero. Where it stands there already, which is the usual case, nothing is written: what is
 // written is read again at once, and would have to be waited for.
@@ -66,8 +66,8 @@ pub fn both(terms: &mut [u32], p: &[u32], q: &[u32]) -> usize
 // Answers how many terms it has.
 pub fn form(terms: &mut [u32], n: usize, own: u32, sender: u32) -> usize
     requires { (n < length terms.old) × (own < 32) × (sender < 32) }
-    ensures value { (result ≡ length (Predicates·formed own sender (take n terms.old))) × (result ≤ n + 1) }
-    ensures terms_after { (let formed : List ℕ = Predicates·formed own sender (take n terms.old) in
+    ensures value { (result ≡ length (the_formed own sender (take n terms.old))) × (result ≤ n + 1) }
+    ensures terms_after { (let formed : List ℕ = the_formed own sender (take n terms.old) in
         terms.new ≡ padded (n + 1) formed ++ drop (n + 1) terms.old) }
 {
     terms[n] = 0;

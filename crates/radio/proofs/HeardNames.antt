@@ -10,35 +10,35 @@ use Rattle.predicates.specs.Lists.{all}
 use Rattle.predicates.proofs.ListLaws.{both_l, both_r}
 use Rattle.predicates.proofs.IndexLaws.{all_get_d, at_in}
 use Rattle.message.specs.Words.{masks}
-use Rattle.message.specs.Read.{termWords}
-use Rattle.message.proofs.MessageLaws.{masks-lt}
+use Rattle.message.specs.Read.{term_words}
+use Rattle.message.proofs.MessageLaws.{masks_lt}
 use Rattle.message.specs.declared.Reading.TheVariants.{Message}
-use Rattle.epochs.specs.Epochs.{nameLimit, identifierOf}
+use Rattle.epochs.specs.Epochs.{name_limit, identifier_of}
 use Rattle.epochs.specs.code.Known.{Named}
-use Rattle.radio.specs.Names.{wanted, rises, namesFit}
-use Rattle.radio.specs.Read.{epochWords}
-use Rattle.radio.proofs.NameLaws.{wanted-lt, fit-identifier}
-use Rattle.radio.proofs.ReadLaws.{Live, epochs-part, terms-middle, epochs-below, epochs-rise}
+use Rattle.radio.specs.Names.{wanted, rises, names_fit}
+use Rattle.radio.specs.Read.{epoch_words}
+use Rattle.radio.proofs.NameLaws.{wanted_lt, fit_identifier}
+use Rattle.radio.proofs.ReadLaws.{Live, epochs_part, terms-middle, epochs-below, epochs_rise}
 
-rises-at : (ws : List ℕ) → T (rises ws) → (i j : ℕ) → i < j → j < length ws → identifierOf (get_or ws i 0) < identifierOf (get_or ws j 0)
+rises_at : (ws : List ℕ) → T (rises ws) → (i j : ℕ) → i < j → j < length ws → identifier_of (get_or ws i 0) < identifier_of (get_or ws j 0)
 unfolding rises
-rises-at [] t i j h k = absurd (omega (arith, k))
-rises-at (w ∷ ws) t i zero h k = absurd (omega (arith, h))
-rises-at (w ∷ ws) t zero (suc j) h k =
-    ltb→lt (identifierOf w) (identifierOf (get_or ws j 0))
-    (all_get_d (λ v. ltb (identifierOf w) (identifierOf v)) ws j 0 (both_l (all (λ v. ltb (identifierOf w) (identifierOf v)) ws) _ t) (omega (arith, k)))
-rises-at (w ∷ ws) t (suc i) (suc j) h k =
-    rises-at ws (both_r (all (λ v. ltb (identifierOf w) (identifierOf v)) ws) (rises ws) t) i j (omega (arith, h)) (omega (arith, k))
+rises_at [] t i j h k = absurd (omega (arith, k))
+rises_at (w ∷ ws) t i zero h k = absurd (omega (arith, h))
+rises_at (w ∷ ws) t zero (suc j) h k =
+    ltb→lt (identifier_of w) (identifier_of (get_or ws j 0))
+    (all_get_d (λ v. ltb (identifier_of w) (identifier_of v)) ws j 0 (both_l (all (λ v. ltb (identifier_of w) (identifier_of v)) ws) _ t) (omega (arith, k)))
+rises_at (w ∷ ws) t (suc i) (suc j) h k =
+    rises_at ws (both_r (all (λ v. ltb (identifier_of w) (identifier_of v)) ws) (rises ws) t) i j (omega (arith, h)) (omega (arith, k))
 
-pub heard-names : {ends : Bool} {ws : List ℕ} {s l r n : ℕ} → Live ends ws s l r n → Named (epochWords (Message s l r n) ws)
+pub heard-names : {ends : Bool} {ws : List ℕ} {s l r n : ℕ} → Live ends ws s l r n → Named (epoch_words (Message s l r n) ws)
 heard-names {ends} {ws} {s} {l} {r} {n} live =
-    let names = epochWords (Message s l r n) ws in
-    let terms = masks (termWords (Message s l r n) ws) in
-    let fit : T (namesFit (wanted s terms) names) = rw (epochs-part live, terms-middle live) live.fit in
+    let names = epoch_words (Message s l r n) ws in
+    let terms = masks (term_words (Message s l r n) ws) in
+    let fit : T (names_fit (wanted s terms) names) = rw (epochs_part live, terms-middle live) live.fit in
     record {
-      small = λ i h. ltb→lt (get_or names i 0) nameLimit (all_get_d (λ w. ltb w nameLimit) names i 0 (epochs-below live) h);
+      small = λ i h. ltb→lt (get_or names i 0) name_limit (all_get_d (λ w. ltb w name_limit) names i 0 (epochs-below live) h);
       few = λ i h.
-          fit-identifier (wanted s terms) names fit (wanted-lt s terms live.taken.sender-le (masks-lt (termWords (Message s l r n) ws)))
+          fit_identifier (wanted s terms) names fit (wanted_lt s terms live.taken.sender-le (masks_lt (term_words (Message s l r n) ws)))
           (get_or names i 0) (at_in names 0 i h);
-      rising = rises-at names (epochs-rise live);
+      rising = rises_at names (epochs_rise live);
     }

@@ -1,7 +1,7 @@
 -- Worked cases of the live message (document 02, W-204), each proved by computation in proofs/WorkedMessages. Assumes nothing: these are definitions.
 use Rattle.std.specs.Prelude.{ℕ, ◌+◌, ◌*◌, ◌%◌, List, [], ◌∷◌, ◌++◌, replicate}
-use Rattle.message.specs.Words.{payloadSize, word, check}
-use Rattle.message.specs.Write.{endWords}
+use Rattle.message.specs.Words.{payload_size, word, check}
+use Rattle.message.specs.Write.{end_words}
 use Rattle.message.specs.declared.Reading.{Reading}
 use Rattle.message.specs.declared.Reading.TheVariants.{Message, Refused}
 use Rattle.epochs.specs.Epochs.{name}
@@ -11,7 +11,7 @@ abbrev pub closed : List ℕ → List ℕ
 closed ws = ws ++ (word 7 (check ws) ∷ [])
 
 abbrev pub ajar : List ℕ → List ℕ
-ajar ws = ws ++ (word 7 ((check ws + 1) % payloadSize) ∷ [])
+ajar ws = ws ++ (word 7 ((check ws + 1) % payload_size) ∷ [])
 
 -- a head, and an interval in centre form
 abbrev pub head : ℕ → ℕ → ℕ
@@ -32,10 +32,10 @@ abbrev pub rows : List Row
 rows =
     -- the shortest message, and one with a term in ends form, epochs 1, 0 and 15
     row (closed (head 3 0 ∷ name 3 0 ∷ around 9 4)) (Message 3 5 13 0)
-    ∷ row (closed (head 0 1 ∷ name 0 1 ∷ name 1 0 ∷ name 2 15 ∷ (endWords 7 8 ++ (word 6 6 ∷ [])))) (Message 0 7 8 1)
+    ∷ row (closed (head 0 1 ∷ name 0 1 ∷ name 1 0 ∷ name 2 15 ∷ (end_words 7 8 ++ (word 6 6 ∷ [])))) (Message 0 7 8 1)
     -- a missing epoch word, of a term or of the sender, is 42 before a wrong check word is 15
     ∷ row (ajar (head 3 1 ∷ name 3 0 ∷ (around 9 4 ++ (word 6 2 ∷ [])))) (Refused 42)
-    ∷ row (ajar (head 3 0 ∷ endWords 7 8)) (Refused 42)
+    ∷ row (ajar (head 3 0 ∷ end_words 7 8)) (Refused 42)
     ∷ row (ajar (head 3 1 ∷ name 1 0 ∷ name 3 0 ∷ (around 9 4 ++ (word 6 2 ∷ [])))) (Refused 15)
     -- "a wrong kind behind it beats it (14)"; "kind 0 in a term's place 14"
     ∷ row (closed (head 3 1 ∷ name 3 0 ∷ word 4 0 ∷ word 4 9 ∷ word 4 4 ∷ word 6 2 ∷ [])) (Refused 14)

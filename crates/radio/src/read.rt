@@ -1,9 +1,9 @@
 // Reading: what document 02 adds to document 01's reading, which stays in crate `message`. The order is 10, 12, 11, 13, 14, 42, 15 to 17.
 ghost use Rattle.std.specs.Prelude.{◌≡◌, ◌&&◌, ℕ, ◌≤◌, ◌<◌, eqb, length};
 ghost use Rattle.message.specs.Words.{masks};
-ghost use Rattle.message.specs.Read.{shapeRefusal, termWords};
-ghost use Rattle.radio.specs.Names.{wanted as Names·wanted, namesFit};
-ghost use Rattle.radio.specs.Read.{opening, epochPart, epochWordsFit, readWords, epochWords};
+ghost use Rattle.message.specs.Read.{shape_refusal, term_words};
+ghost use Rattle.radio.specs.Names.{wanted, names_fit};
+ghost use Rattle.radio.specs.Read.{opening, epoch_part, epoch_words_fit, read_words, epoch_words};
 
 use super::{NAME_LIMIT, WORDS_LEAST, WORDS_MOST};
 use message::Reading;
@@ -20,7 +20,7 @@ struct Walked {
 fn walk(words: &[u32]) -> Walked
     requires { 1 ≤ length words.now }
     ensures { (result.at ≡ opening words.now) × (result.at ≤ length words.now)
-        × ((mask : ℕ) → result.ok && eqb result.seen mask ≡ namesFit mask (epochPart words.now)) }
+        × ((mask : ℕ) → result.ok && eqb result.seen mask ≡ names_fit mask (epoch_part words.now)) }
 {
     let mut at: usize = 1;
     let mut ok = true;
@@ -41,7 +41,7 @@ fn walk(words: &[u32]) -> Walked
 // The sender and the identifiers in the terms.
 pub fn wanted(sender: u32, terms: &[u32]) -> u32
     requires { sender < 32 }
-    ensures { result ≡ Names·wanted sender (masks terms.now) }
+    ensures { result ≡ wanted sender (masks terms.now) }
 {
     let mut mask = names::single(sender);
     let mut i: usize = 0;
@@ -54,9 +54,9 @@ pub fn wanted(sender: u32, terms: &[u32]) -> u32
 
 // Whether the epoch words, which were walked, fit the sender and the terms.
 fn epochs_fit(words: &[u32], walked: Walked) -> bool
-    requires { (walked.at ≡ opening words.now) × (shapeRefusal walked.at words.now ≡ 0)
-        × ((mask : ℕ) → walked.ok && eqb walked.seen mask ≡ namesFit mask (epochPart words.now)) }
-    ensures { result ≡ epochWordsFit words.now }
+    requires { (walked.at ≡ opening words.now) × (shape_refusal walked.at words.now ≡ 0)
+        × ((mask : ℕ) → walked.ok && eqb walked.seen mask ≡ names_fit mask (epoch_part words.now)) }
+    ensures { result ≡ epoch_words_fit words.now }
 {
     let head = words[0];
     let last = words.len() - 1;
@@ -69,7 +69,7 @@ fn epochs_fit(words: &[u32], walked: Walked) -> bool
 
 // The message in the words, or its first refusal.
 pub fn read(words: &[u32]) -> Reading
-    ensures { result ≡ readWords words.now }
+    ensures { result ≡ read_words words.now }
 {
     let n = words.len();
     if (n < WORDS_LEAST) | (WORDS_MOST < n) {
@@ -89,8 +89,8 @@ pub fn read(words: &[u32]) -> Reading
 
 // The term words of a message that was read: exactly its words of kind 6, as a part of the caller's slice.
 pub fn term_words(words: &[u32], got: Reading) -> &[u32]
-    requires { got ≡ readWords words.now }
-    ensures { result.now ≡ termWords got words.now }
+    requires { got ≡ read_words words.now }
+    ensures { result.now ≡ term_words got words.now }
 {
     let Reading::Message(_, _, _, count) = got else {
         return &words[..0];
@@ -102,8 +102,8 @@ pub fn term_words(words: &[u32], got: Reading) -> &[u32]
 
 // The epoch words of a message that was read: exactly its words of kind 0, as a part of the caller's slice.
 pub fn epoch_words(words: &[u32], got: Reading) -> &[u32]
-    requires { got ≡ readWords words.now }
-    ensures { result.now ≡ epochWords got words.now }
+    requires { got ≡ read_words words.now }
+    ensures { result.now ≡ epoch_words got words.now }
 {
     let Reading::Message(_, _, _, _) = got else {
         return &words[..0];

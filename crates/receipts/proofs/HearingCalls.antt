@@ -14,62 +14,62 @@ use lib.Dec.{T, eqb}
 use lib.ListN.{length, get_or, set, length-set}
 use lib.Seq.{get_or-set_same, get_or-set_other}
 use Rattle.numbers.specs.Numbers.{put, Bytes}
-use Rattle.numbers.proofs.NumberLaws.{tab-ext}
+use Rattle.numbers.proofs.NumberLaws.{tab_ext}
 use Rattle.names.specs.Sets.{has}
 use Rattle.names.specs.code.Parts.{digit}
 use Rattle.names.proofs.SetLaws.{digit-empty}
 use Rattle.predicates.specs.Lists.{all}
 use Rattle.predicates.proofs.ListLaws.{both, both_l, both_r, cond_ind}
-use Rattle.epochs.specs.Epochs.{epochsMost, epochsIn, older, raised, NotAbove, spoken}
+use Rattle.epochs.specs.Epochs.{epochs_most, epochs_in, older, raised, NotAbove, spoken}
 use Rattle.epochs.specs.code.Known.{Named}
 use Rattle.epochs.proofs.EpochLaws.{below, digit-older, length-raised, raised-same}
 use Rattle.clocks.specs.declared.Readings.{Readings}
-use Rattle.clocks.specs.Clocks.{Saved, nothing, savedOk, readingsFail, watched}
-use Rattle.clocks.specs.Places.{placeSize, savedBytes}
-use Rattle.state.specs.Model.{Head, State, withClocks, nameMost}
-use Rattle.state.specs.Layout.{stateSize, clocksMost, clockPlace, epochsAt, zeros, parts, stateBytes, head_of, store_of, state_of}
-use Rattle.state.specs.Form.{inForm, headOk, stateOk}
-use Rattle.state.proofs.PartLaws.{put-over, part-stored}
-use Rattle.state.proofs.StateLaws.{state-out, length-state, parts-sized, form-ok, put-form, put-state, put-state-same, place-put}
+use Rattle.clocks.specs.Clocks.{Saved, nothing, saved_ok, readings_fail, watched}
+use Rattle.clocks.specs.Places.{place_size, saved_bytes}
+use Rattle.state.specs.Model.{Head, State, with_clocks, name_most}
+use Rattle.state.specs.Layout.{state_size, clocks_most, clock_place, epochs_at, zeros, parts, state_bytes, head_of, store_of, state_of}
+use Rattle.state.specs.Form.{in_form, head_ok, state_ok}
+use Rattle.state.proofs.PartLaws.{put-over, part_stored}
+use Rattle.state.proofs.StateLaws.{state_out, length-state, parts_sized, form_ok, put-form, put-state, put-state-same, place-put}
 use Rattle.engine.specs.Hearing.{cleared}
-use Rattle.engine.specs.code.Hearing.{heardHead, clearedBelow}
-use Rattle.engine.proofs.WatchLaws.{all_set, length-watched, watched-ok}
-use Rattle.engine.proofs.HearingLaws.{length-cleared, cleared-ok, cleared-none, heard-ok}
+use Rattle.engine.specs.code.Hearing.{heard_head, cleared_below}
+use Rattle.engine.proofs.WatchLaws.{all_set, length-watched, watched_ok}
+use Rattle.engine.proofs.HearingLaws.{length-cleared, cleared_ok, cleared-none, heard_ok}
 
 -- ---- places cleared one after the other
 
 module _ (r : ℕ) (cs : List Saved) where
-  length-below : (n : ℕ) → length (clearedBelow n r cs) ≡ length cs
-  unfolding clearedBelow
+  length-below : (n : ℕ) → length (cleared_below n r cs) ≡ length cs
+  unfolding cleared_below
   length-below zero = refl
   length-below (suc n) =
-      cond_ind (λ l. length l ≡ length cs) (has n r) (set (clearedBelow n r cs) n nothing) (clearedBelow n r cs)
-      (λ _. length-set (clearedBelow n r cs) n nothing ∙ length-below n) (λ _. length-below n)
+      cond_ind (λ l. length l ≡ length cs) (has n r) (set (cleared_below n r cs) n nothing) (cleared_below n r cs)
+      (λ _. length-set (cleared_below n r cs) n nothing ∙ length-below n) (λ _. length-below n)
 
-  below-ok : (n : ℕ) → T (all savedOk cs) → T (all savedOk (clearedBelow n r cs))
-  unfolding clearedBelow savedOk
-  below-ok zero t = t
-  below-ok (suc n) t =
-      cond_ind (λ l. T (all savedOk l)) (has n r) (set (clearedBelow n r cs) n nothing) (clearedBelow n r cs)
-      (λ _. all_set savedOk (clearedBelow n r cs) n nothing (below-ok n t) tt) (λ _. below-ok n t)
+  below_ok : (n : ℕ) → T (all saved_ok cs) → T (all saved_ok (cleared_below n r cs))
+  unfolding cleared_below saved_ok
+  below_ok zero t = t
+  below_ok (suc n) t =
+      cond_ind (λ l. T (all saved_ok l)) (has n r) (set (cleared_below n r cs) n nothing) (cleared_below n r cs)
+      (λ _. all_set saved_ok (cleared_below n r cs) n nothing (below_ok n t) tt) (λ _. below_ok n t)
 
   -- those that are still to come stay
-  below-ahead : (n k : ℕ) → n ≤ k → get_or (clearedBelow n r cs) k nothing ≡ get_or cs k nothing
-  unfolding clearedBelow
+  below-ahead : (n k : ℕ) → n ≤ k → get_or (cleared_below n r cs) k nothing ≡ get_or cs k nothing
+  unfolding cleared_below
   below-ahead zero k h = refl
   below-ahead (suc n) k h =
-      cond_ind (λ l. get_or l k nothing ≡ get_or cs k nothing) (has n r) (set (clearedBelow n r cs) n nothing) (clearedBelow n r cs)
-      (λ _. get_or-set_other (clearedBelow n r cs) n k nothing nothing (λ e. omega (arith, h, e)) ∙ below-ahead n k (omega arith))
+      cond_ind (λ l. get_or l k nothing ≡ get_or cs k nothing) (has n r) (set (cleared_below n r cs) n nothing) (cleared_below n r cs)
+      (λ _. get_or-set_other (cleared_below n r cs) n k nothing nothing (λ e. omega (arith, h, e)) ∙ below-ahead n k (omega arith))
       (λ _. below-ahead n k (omega arith))
 
   -- those that were passed are as they are to be
-  below-passed : (n k : ℕ) → k < n → k < length cs → get_or (clearedBelow n r cs) k nothing ≡ cond (has k r) nothing (get_or cs k nothing)
-  unfolding clearedBelow
-  below-passed zero k h l = absurd (omega arith)
-  below-passed (suc n) k h l = go (ℕ_discrete k n) (λ m. below-passed n k m l)
+  below_passed : (n k : ℕ) → k < n → k < length cs → get_or (cleared_below n r cs) k nothing ≡ cond (has k r) nothing (get_or cs k nothing)
+  unfolding cleared_below
+  below_passed zero k h l = absurd (omega arith)
+  below_passed (suc n) k h l = go (ℕ_discrete k n) (λ m. below_passed n k m l)
     where
       before : List Saved
-      before = clearedBelow n r cs
+      before = cleared_below n r cs
 
       here : n < length cs → (b : Bool) → get_or (cond b (set before n nothing) before) n nothing ≡ cond b nothing (get_or cs n nothing)
       here l true = get_or-set_same before n nothing nothing (omega (arith, l, length-below n))
@@ -83,9 +83,9 @@ module _ (r : ℕ) (cs : List Saved) where
           cond_ind (λ x. get_or x k nothing ≡ cond (has k r) nothing (get_or cs k nothing)) (has n r) (set before n nothing) before
           (λ _. get_or-set_other before n k nothing nothing d ∙ old) (λ _. old)
 
-  below_all : clearedBelow (length cs) r cs ≡ cleared r cs
+  below_all : cleared_below (length cs) r cs ≡ cleared r cs
   unfolding cleared
-  below_all = sym (tab-ext nothing (length cs) _ (clearedBelow (length cs) r cs) (length-below (length cs)) (λ k l. sym (below-passed (length cs) k l l)))
+  below_all = sym (tab_ext nothing (length cs) _ (cleared_below (length cs) r cs) (length-below (length cs)) (λ k l. sym (below_passed (length cs) k l l)))
 
 -- ---- epochs where none has risen
 
@@ -96,8 +96,8 @@ none-risen ks es z n =
     (λ b. b.0)
     (below (get_or ks n 0) (get_or es n 0))
 
-heard-none : (own : ℕ) (names : List ℕ) (r : ℕ) (h : Head) → r ≡ older h.epochs (spoken own names h.epochs) → r ≡ 0 → heardHead own names r h ≡ h
-unfolding heardHead
+heard-none : (own : ℕ) (names : List ℕ) (r : ℕ) (h : Head) → r ≡ older h.epochs (spoken own names h.epochs) → r ≡ 0 → heard_head own names r h ≡ h
+unfolding heard_head
 heard-none own names r h e z =
     let quiet = none-risen h.epochs (spoken own names h.epochs) (sym e ∙ z) in
     rw (z, cleared-none h.clocks, raised-same h.epochs (spoken own names h.epochs) quiet)
@@ -105,108 +105,108 @@ heard-none own names r h e z =
 -- ---- states stored in front
 
 -- a right head with other clocks
-clocks-ok : (h : Head) (cs : List Saved) → T (headOk h) → length cs ≡ clocksMost → T (all savedOk cs) → T (headOk (withClocks h cs))
-unfolding headOk
-clocks-ok h cs t e k =
-    let there : T (eqb (length cs) clocksMost) = rw e tt in
+clocks_ok : (h : Head) (cs : List Saved) → T (head_ok h) → length cs ≡ clocks_most → T (all saved_ok cs) → T (head_ok (with_clocks h cs))
+unfolding head_ok
+clocks_ok h cs t e k =
+    let there : T (eqb (length cs) clocks_most) = rw e tt in
     search (both, both_l, both_r) depth 14
 
 -- of two the later one is left
-stored-over : (a b : State) (s t u : List ℕ) → T (stateOk a) → T (stateOk b) → t ≡ put 0 (stateBytes a) s → u ≡ put 0 (stateBytes b) t
-    → u ≡ put 0 (stateBytes b) s
-stored-over a b s t u p q e f = f ∙ rw e (put-over 0 (stateBytes b) (stateBytes a) s (length-state b q ∙ sym (length-state a p)))
+stored-over : (a b : State) (s t u : List ℕ) → T (state_ok a) → T (state_ok b) → t ≡ put 0 (state_bytes a) s → u ≡ put 0 (state_bytes b) t
+    → u ≡ put 0 (state_bytes b) s
+stored-over a b s t u p q e f = f ∙ rw e (put-over 0 (state_bytes b) (state_bytes a) s (length-state b q ∙ sym (length-state a p)))
 
-module _ (s : List ℕ) (f : T (inForm s)) (h : stateSize ≤ length s) where
+module _ (s : List ℕ) (f : T (in_form s)) (h : state_size ≤ length s) where
   -- what is lent is right, also with another right head
-  lent_ok : T (headOk (head_of s))
-  unfolding stateOk state_of
-  lent_ok = both_l (headOk (head_of s)) _ (form-ok s f)
+  lent_ok : T (head_ok (head_of s))
+  unfolding state_ok state_of
+  lent_ok = both_l (head_ok (head_of s)) _ (form_ok s f)
 
-  with-head : (g : Head) → g.own ≡ (head_of s).own → T (headOk g) → T (stateOk (record { head = g; store = store_of s }))
-  unfolding stateOk state_of
-  with-head g e n = both (headOk g) _ n (rw e (both_r (headOk (head_of s)) _ (form-ok s f)))
+  with_head : (g : Head) → g.own ≡ (head_of s).own → T (head_ok g) → T (state_ok (record { head = g; store = store_of s }))
+  unfolding state_ok state_of
+  with_head g e n = both (head_ok g) _ n (rw e (both_r (head_ok (head_of s)) _ (form_ok s f)))
 
-  lent-clocks : (length (head_of s).clocks ≡ clocksMost) × T (all savedOk (head_of s).clocks)
+  lent-clocks : (length (head_of s).clocks ≡ clocks_most) × T (all saved_ok (head_of s).clocks)
   unfolding state_of
-  lent-clocks = let o = state-out (state_of s) (form-ok s f) in (o.clocks-all, o.clocks)
+  lent-clocks = let o = state_out (state_of s) (form_ok s f) in (o.clocks-all, o.clocks)
 
   -- ---- the clocks of risen identifiers
   module _ (r : ℕ) where
     -- the lent state where the places of the first n identifiers are cleared
     abbrev forgotten : ℕ → State
-    forgotten n = record { head = withClocks (head_of s) (clearedBelow n r (head_of s).clocks); store = store_of s }
+    forgotten n = record { head = with_clocks (head_of s) (cleared_below n r (head_of s).clocks); store = store_of s }
 
-    forgotten-ok : (n : ℕ) → T (stateOk (forgotten n))
-    forgotten-ok n =
+    forgotten_ok : (n : ℕ) → T (state_ok (forgotten n))
+    forgotten_ok n =
         let cs = (head_of s).clocks in
-        with-head (withClocks (head_of s) (clearedBelow n r cs)) refl
-        (clocks-ok (head_of s) (clearedBelow n r cs) lent_ok (length-below r cs n ∙ lent-clocks.0) (below-ok r cs n lent-clocks.1))
+        with_head (with_clocks (head_of s) (cleared_below n r cs)) refl
+        (clocks_ok (head_of s) (cleared_below n r cs) lent_ok (length-below r cs n ∙ lent-clocks.0) (below_ok r cs n lent-clocks.1))
 
-    pub forget-start : Bytes s → s ≡ put 0 (stateBytes (forgotten 0)) s
-    unfolding state_of clearedBelow
+    pub forget-start : Bytes s → s ≡ put 0 (state_bytes (forgotten 0)) s
+    unfolding state_of cleared_below
     forget-start b = sym (put-state-same s f b h)
 
-    pub forget-place : (i : ℕ) (t u : List ℕ) → i < clocksMost → has i r ≡ true → t ≡ put 0 (stateBytes (forgotten i)) s
-        → u ≡ put (clockPlace i) (zeros (clockPlace i + placeSize - clockPlace i)) t → u ≡ put 0 (stateBytes (forgotten (i + 1))) s
-    unfolding clearedBelow savedBytes
+    pub forget-place : (i : ℕ) (t u : List ℕ) → i < clocks_most → has i r ≡ true → t ≡ put 0 (state_bytes (forgotten i)) s
+        → u ≡ put (clock_place i) (zeros (clock_place i + place_size - clock_place i)) t → u ≡ put 0 (state_bytes (forgotten (i + 1))) s
+    unfolding cleared_below saved_bytes
     forget-place i t u l e p q =
-        let long : clockPlace i + placeSize - clockPlace i ≡ placeSize = omega arith in
-        q ∙ rw (long, add-one i, e, p) (place-put (forgotten i) s (forgotten-ok i) h i nothing l)
+        let long : clock_place i + place_size - clock_place i ≡ place_size = omega arith in
+        q ∙ rw (long, add-one i, e, p) (place-put (forgotten i) s (forgotten_ok i) h i nothing l)
 
-    pub forget-none : (i : ℕ) (t : List ℕ) → has i r ≡ false → t ≡ put 0 (stateBytes (forgotten i)) s → t ≡ put 0 (stateBytes (forgotten (i + 1))) s
-    unfolding clearedBelow
+    pub forget-none : (i : ℕ) (t : List ℕ) → has i r ≡ false → t ≡ put 0 (state_bytes (forgotten i)) s → t ≡ put 0 (state_bytes (forgotten (i + 1))) s
+    unfolding cleared_below
     forget-none i t e p = p ∙ rw (add-one i, e)
 
-    pub forget-done : (i : ℕ) (t : List ℕ) → i ≡ clocksMost → t ≡ put 0 (stateBytes (forgotten i)) s
-        → t ≡ put 0 (stateBytes (record { head = withClocks (head_of s) (cleared r (head_of s).clocks); store = store_of s })) s
+    pub forget-done : (i : ℕ) (t : List ℕ) → i ≡ clocks_most → t ≡ put 0 (state_bytes (forgotten i)) s
+        → t ≡ put 0 (state_bytes (record { head = with_clocks (head_of s) (cleared r (head_of s).clocks); store = store_of s })) s
     forget-done i t e p = let All-there = e ∙ sym lent-clocks.0 in p ∙ rw (All-there, below_all r (head_of s).clocks)
 
   -- ---- the epochs
   module _ (own : ℕ) (names : List ℕ) (named : Named names) (r : ℕ) where
     abbrev heard : State
-    heard = record { head = heardHead own names r (head_of s); store = store_of s }
+    heard = record { head = heard_head own names r (head_of s); store = store_of s }
 
-    heard-right : T (stateOk heard)
-    unfolding heardHead
-    heard-right = with-head (heardHead own names r (head_of s)) refl (heard-ok own names r (head_of s) lent_ok named)
+    heard-right : T (state_ok heard)
+    unfolding heard_head
+    heard-right = with_head (heard_head own names r (head_of s)) refl (heard_ok own names r (head_of s) lent_ok named)
 
     -- they are the last part, behind the clocks
-    pub epochs-stored : (t u : List ℕ) → t ≡ put 0 (stateBytes (record { head = withClocks (head_of s) (cleared r (head_of s).clocks); store = store_of s })) s
-        → u ≡ put epochsAt (raised (epochsIn epochsAt t) (spoken own names (epochsIn epochsAt t))) t → u ≡ put 0 (stateBytes heard) s
-    unfolding stateBytes parts head_of state_of heardHead
+    pub epochs-stored : (t u : List ℕ) → t ≡ put 0 (state_bytes (record { head = with_clocks (head_of s) (cleared r (head_of s).clocks); store = store_of s })) s
+        → u ≡ put epochs_at (raised (epochs_in epochs_at t) (spoken own names (epochs_in epochs_at t))) t → u ≡ put 0 (state_bytes heard) s
+    unfolding state_bytes parts head_of state_of heard_head
     epochs-stored t u p q =
         let cs = cleared r (head_of s).clocks in
-        let st : State = record { head = withClocks (head_of s) cs; store = store_of s } in
-        let ok : T (stateOk st) =
-        with-head (withClocks (head_of s) cs) refl
-        (clocks-ok (head_of s) cs lent_ok (length-cleared r (head_of s).clocks ∙ lent-clocks.0) (cleared-ok r (head_of s).clocks lent-clocks.1)) in
-        let known : epochsIn epochsAt t ≡ (head_of s).epochs = ap (λ (x : State). x.head.epochs) (ap state_of p ∙ put-state st s ok h) in
+        let st : State = record { head = with_clocks (head_of s) cs; store = store_of s } in
+        let ok : T (state_ok st) =
+        with_head (with_clocks (head_of s) cs) refl
+        (clocks_ok (head_of s) cs lent_ok (length-cleared r (head_of s).clocks ∙ lent-clocks.0) (cleared_ok r (head_of s).clocks lent-clocks.1)) in
+        let known : epochs_in epochs_at t ≡ (head_of s).epochs = ap (λ (x : State). x.head.epochs) (ap state_of p ∙ put-state st s ok h) in
         let es = raised (head_of s).epochs (spoken own names (head_of s).epochs) in
-        let long : length es ≡ epochsMost = length-raised (head_of s).epochs _ ∙ (state-out (state_of s) (form-ok s f)).epochs-all in
-        (part-stored 8 es (parts st) s t u (omega arith) long (q ∙ rw known) (record { sized = parts-sized st ok; stored = p })).stored
+        let long : length es ≡ epochs_most = length-raised (head_of s).epochs _ ∙ (state_out (state_of s) (form_ok s f)).epochs-all in
+        (part_stored 8 es (parts st) s t u (omega arith) long (q ∙ rw known) (record { sized = parts_sized st ok; stored = p })).stored
 
     -- where none has risen nothing moves
-    pub epochs-stay : Bytes s → r ≡ older (head_of s).epochs (spoken own names (head_of s).epochs) → r ≡ 0 → s ≡ put 0 (stateBytes heard) s
+    pub epochs_stay : Bytes s → r ≡ older (head_of s).epochs (spoken own names (head_of s).epochs) → r ≡ 0 → s ≡ put 0 (state_bytes heard) s
     unfolding state_of
-    epochs-stay b e z = rw (heard-none own names r (head_of s) e z) (sym (put-state-same s f b h))
+    epochs_stay b e z = rw (heard-none own names r (head_of s) e z) (sym (put-state-same s f b h))
 
     -- ---- the readings, over both
-    module _ (t : List ℕ) (p : t ≡ put 0 (stateBytes heard) s) where
-      pub heard-form : T (inForm t)
+    module _ (t : List ℕ) (p : t ≡ put 0 (state_bytes heard) s) where
+      pub heard-form : T (in_form t)
       heard-form = rw p (put-form heard s heard-right h)
 
-      pub close-stored : (sender : ℕ) (readings : Readings) (u : List ℕ) → sender ≤ nameMost → T (not (readingsFail readings))
-          → u ≡ put 0 (stateBytes (record { head = withClocks (head_of t) (watched readings sender (head_of t).clocks); store = store_of t })) t
-          → u ≡ put 0 (stateBytes (record { head = withClocks heard.head (watched readings sender heard.head.clocks); store = store_of s })) s
-      unfolding state_of heardHead
+      pub close-stored : (sender : ℕ) (readings : Readings) (u : List ℕ) → sender ≤ name_most → T (not (readings_fail readings))
+          → u ≡ put 0 (state_bytes (record { head = with_clocks (head_of t) (watched readings sender (head_of t).clocks); store = store_of t })) t
+          → u ≡ put 0 (state_bytes (record { head = with_clocks heard.head (watched readings sender heard.head.clocks); store = store_of s })) s
+      unfolding state_of heard_head
       close-stored sender readings u l k q =
           let same : state_of t ≡ heard = ap state_of p ∙ put-state heard s heard-right h in
           let head : head_of t ≡ heard.head = ap (λ (x : State). x.head) same in
           let store : store_of t ≡ store_of s = ap (λ (x : State). x.store) same in
           let cs = heard.head.clocks in
-          let o = state-out heard heard-right in
-          let new = withClocks heard.head (watched readings sender cs) in
-          let ok = with-head new refl
-          (clocks-ok heard.head (watched readings sender cs) (heard-ok own names r (head_of s) lent_ok named) (length-watched readings sender cs ∙ o.clocks-all)
-          (watched-ok readings sender cs k (omega (arith, o.clocks-all)) o.clocks)) in
+          let o = state_out heard heard-right in
+          let new = with_clocks heard.head (watched readings sender cs) in
+          let ok = with_head new refl
+          (clocks_ok heard.head (watched readings sender cs) (heard_ok own names r (head_of s) lent_ok named) (length-watched readings sender cs ∙ o.clocks-all)
+          (watched_ok readings sender cs k (omega (arith, o.clocks-all)) o.clocks)) in
           stored-over heard (record { head = new; store = store_of s }) s t u heard-right ok p (rw (head, store) at q)

@@ -4,21 +4,21 @@ ghost use Rattle.std.specs.Prelude.{◌≡◌, not, ◌≤◌, T, length};
 ghost use Rattle.numbers.specs.Numbers.{put};
 ghost use Rattle.epochs.specs.Epochs.{older, spoken};
 ghost use Rattle.epochs.specs.code.Known.{Named};
-ghost use Rattle.clocks.specs.Clocks.{readingsFail, watched};
-ghost use Rattle.state.specs.Model.{Head, State, nameMost, withClocks};
-ghost use Rattle.state.specs.Layout.{stateSize, stateBytes, head_of, store_of};
-ghost use Rattle.state.specs.Form.{inForm};
+ghost use Rattle.clocks.specs.Clocks.{readings_fail, watched};
+ghost use Rattle.state.specs.Model.{Head, State, name_most, with_clocks};
+ghost use Rattle.state.specs.Layout.{state_size, state_bytes, head_of, store_of};
+ghost use Rattle.state.specs.Form.{in_form};
 ghost use Rattle.engine.specs.Hearing.{cleared};
-ghost use Rattle.engine.specs.code.Hearing.{heardHead};
+ghost use Rattle.engine.specs.code.Hearing.{heard_head};
 
 use clocks::Readings;
 
 // Forgets what is saved of the clocks of these identifiers.
 fn forget(state: &mut [u8], risen: u32)
-    requires { (stateSize ≤ length state.old) × T (inForm state.old) }
+    requires { (state_size ≤ length state.old) × T (in_form state.old) }
     ensures { (let h : Head = head_of state.old in
         state.new
-        ≡ put 0 (stateBytes (record { head = withClocks h (cleared risen h.clocks); store = store_of state.old }))
+        ≡ put 0 (state_bytes (record { head = with_clocks h (cleared risen h.clocks); store = store_of state.old }))
         state.old) }
 {
     let mut i: usize = 0;
@@ -33,12 +33,12 @@ fn forget(state: &mut [u8], risen: u32)
 
 // Stores the epochs that names bring: where some have risen, what is saved of those clocks goes.
 fn store_epochs(state: &mut [u8], own: u32, names: &[u32], risen: u32)
-    requires { (stateSize ≤ length state.old) × T (inForm state.old) × Named names.now }
+    requires { (state_size ≤ length state.old) × T (in_form state.old) × Named names.now }
     ensures { (let st : State = record {
-      head = heardHead own names.now risen (head_of state.old);
+      head = heard_head own names.now risen (head_of state.old);
       store = store_of state.old;
     } in
-        state.new ≡ put 0 (stateBytes st) state.old) }
+        state.new ≡ put 0 (state_bytes st) state.old) }
 {
     forget(state, risen);
     epochs::known::raise(state, state::EPOCHS_AT, own, names);
@@ -53,13 +53,13 @@ pub(crate) fn close(
     sender: u32,
     readings: Readings,
 )
-    requires state_size_in_bounds { (stateSize ≤ length state.old) × T (inForm state.old) × Named names.now }
-    requires sender_le_name_most { (sender ≤ nameMost) × T (not (readingsFail readings))
+    requires state_size_in_bounds { (state_size ≤ length state.old) × T (in_form state.old) × Named names.now }
+    requires sender_le_name_most { (sender ≤ name_most) × T (not (readings_fail readings))
         × (risen ≡ older (head_of state.old).epochs (spoken own names.now (head_of state.old).epochs)) }
-    ensures { (let h : Head = heardHead own names.now risen (head_of state.old) in
+    ensures { (let h : Head = heard_head own names.now risen (head_of state.old) in
         state.new
         ≡ put 0
-        (stateBytes (record { head = withClocks h (watched readings sender h.clocks); store = store_of state.old }))
+        (state_bytes (record { head = with_clocks h (watched readings sender h.clocks); store = store_of state.old }))
         state.old) }
 {
     if risen != 0 {

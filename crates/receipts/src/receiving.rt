@@ -5,12 +5,12 @@ ghost use Rattle.std.specs.Prelude.{◌≡◌, cond, [], ◌∷◌, ◌*◌, ◌
 ghost use Rattle.predicates.specs.Predicates.{implies};
 ghost use Rattle.ends.specs.Ends.{BothSplit};
 ghost use Rattle.state.specs.Model.{Store};
-ghost use Rattle.state.specs.Layout.{stateSize, datumTerms, entryTerms, stateBytes, heldCount, entryCount, head_of, store_of};
-ghost use Rattle.state.specs.Form.{inForm};
+ghost use Rattle.state.specs.Layout.{state_size, datum_terms, entry_terms, state_bytes, held_count, entry_count, head_of, store_of};
+ghost use Rattle.state.specs.Form.{in_form};
 ghost use Rattle.state.specs.Refusal.{after};
-ghost use Rattle.state.specs.code.Tables.{datumOf};
-ghost use Rattle.steps.specs.Steps.{settled, tooMany};
-ghost use Rattle.receipts.specs.code.Blame.{blamedBy};
+ghost use Rattle.state.specs.code.Tables.{datum_of};
+ghost use Rattle.steps.specs.Steps.{settled, too_many};
+ghost use Rattle.receipts.specs.code.Blame.{blamed_by};
 
 use ends::Ends;
 use steps::Rows;
@@ -32,13 +32,13 @@ const FEW_MASKS: usize = FEW_DATA * state::ENTRY_TERMS;
 // Takes the four steps with the datum of these ends under p. After a violation `blame` is the sender's name as a term, which becomes an entry
 // first; else it is 0. The array has a row for each entry that can be learnt. Answers 0 or 32.
 fn take_in(state: &mut [u8], new: Ends, p: &[u32], old: Rows, masks: &mut [u32], blame: u32) -> u32
-    requires state_size_in_bounds { (stateSize ≤ length state.old) × T (inForm state.old) }
-    requires held_value { (old.held ≡ heldCount state.old) × (old.known ≡ entryCount state.old) }
-    requires p_nonzero { (0 < length p.now) × (length p.now ≤ datumTerms) × (max 1 old.held * entryTerms ≤ length masks.old) × BothSplit new }
+    requires state_size_in_bounds { (state_size ≤ length state.old) × T (in_form state.old) }
+    requires held_value { (old.held ≡ held_count state.old) × (old.known ≡ entry_count state.old) }
+    requires p_nonzero { (0 < length p.now) × (length p.now ≤ datum_terms) × (max 1 old.held * entry_terms ≤ length masks.old) × BothSplit new }
     requires t { (blame ≡ 0 → ⊥) → T (implies (blame ∷ []) p.now) }
-    ensures value { result ≡ cond (tooMany (settled (datumOf new p.now) (blamedBy blame (store_of state.old)))) 32 0 }
-    ensures state_after { (let k : Store = settled (datumOf new p.now) (blamedBy blame (store_of state.old)) in
-        state.new ≡ after result (stateBytes (record { head = head_of state.old; store = k })) state.old) }
+    ensures value { result ≡ cond (too_many (settled (datum_of new p.now) (blamed_by blame (store_of state.old)))) 32 0 }
+    ensures state_after { (let k : Store = settled (datum_of new p.now) (blamed_by blame (store_of state.old)) in
+        state.new ≡ after result (state_bytes (record { head = head_of state.old; store = k })) state.old) }
 {
     let mut lefts = [0u64; DATA_ENDS];
     let mut rights = [0u64; DATA_ENDS];
@@ -78,12 +78,12 @@ fn take_in(state: &mut [u8], new: Ends, p: &[u32], old: Rows, masks: &mut [u32],
 
 // The same with an array for any number of held data.
 fn take_many(state: &mut [u8], new: Ends, p: &[u32], old: Rows, blame: u32) -> u32
-    requires state_size_in_bounds { (stateSize ≤ length state.old) × T (inForm state.old) }
-    requires held_value { (old.held ≡ heldCount state.old) × (old.known ≡ entryCount state.old) }
-    requires p_nonzero { (0 < length p.now) × (length p.now ≤ datumTerms) × ((blame ≡ 0 → ⊥) → T (implies (blame ∷ []) p.now)) × BothSplit new }
-    ensures value { result ≡ cond (tooMany (settled (datumOf new p.now) (blamedBy blame (store_of state.old)))) 32 0 }
-    ensures state_after { (let k : Store = settled (datumOf new p.now) (blamedBy blame (store_of state.old)) in
-        state.new ≡ after result (stateBytes (record { head = head_of state.old; store = k })) state.old) }
+    requires state_size_in_bounds { (state_size ≤ length state.old) × T (in_form state.old) }
+    requires held_value { (old.held ≡ held_count state.old) × (old.known ≡ entry_count state.old) }
+    requires p_nonzero { (0 < length p.now) × (length p.now ≤ datum_terms) × ((blame ≡ 0 → ⊥) → T (implies (blame ∷ []) p.now)) × BothSplit new }
+    ensures value { result ≡ cond (too_many (settled (datum_of new p.now) (blamed_by blame (store_of state.old)))) 32 0 }
+    ensures state_after { (let k : Store = settled (datum_of new p.now) (blamed_by blame (store_of state.old)) in
+        state.new ≡ after result (state_bytes (record { head = head_of state.old; store = k })) state.old) }
 {
     let mut masks = [0u32; LEARNT_MASKS];
     take_in(state, new, p, old, &mut masks, blame)
@@ -92,11 +92,11 @@ fn take_many(state: &mut [u8], new: Ends, p: &[u32], old: Rows, blame: u32) -> u
 // Takes the four steps with the datum of these ends under p, the blamed name being an entry first, if there is one. Answers 0 or 32. Where
 // few data are held, less is cleared.
 pub(crate) fn take_datum(state: &mut [u8], new: Ends, p: &[u32], blame: u32) -> u32
-    requires state_size_in_bounds { (stateSize ≤ length state.old) × T (inForm state.old) }
-    requires p_nonzero { (0 < length p.now) × (length p.now ≤ datumTerms) × ((blame ≡ 0 → ⊥) → T (implies (blame ∷ []) p.now)) × BothSplit new }
-    ensures value { result ≡ cond (tooMany (settled (datumOf new p.now) (blamedBy blame (store_of state.old)))) 32 0 }
-    ensures state_after { (let k : Store = settled (datumOf new p.now) (blamedBy blame (store_of state.old)) in
-        state.new ≡ after result (stateBytes (record { head = head_of state.old; store = k })) state.old) }
+    requires state_size_in_bounds { (state_size ≤ length state.old) × T (in_form state.old) }
+    requires p_nonzero { (0 < length p.now) × (length p.now ≤ datum_terms) × ((blame ≡ 0 → ⊥) → T (implies (blame ∷ []) p.now)) × BothSplit new }
+    ensures value { result ≡ cond (too_many (settled (datum_of new p.now) (blamed_by blame (store_of state.old)))) 32 0 }
+    ensures state_after { (let k : Store = settled (datum_of new p.now) (blamed_by blame (store_of state.old)) in
+        state.new ≡ after result (state_bytes (record { head = head_of state.old; store = k })) state.old) }
 {
     let h = numbers::get32(state, state::HELD_AT) as usize;
     let n = numbers::get32(state, state::KNOWN_AT) as usize;

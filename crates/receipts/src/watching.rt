@@ -2,18 +2,18 @@
 // of their sender, and saved. Only the sender's place is read or written.
 ghost use Rattle.std.specs.Prelude.{◌≡◌, not, cond, ◌≤◌, ◌^◌, T, length};
 ghost use Rattle.numbers.specs.Numbers.{put};
-ghost use Rattle.clocks.specs.Clocks.{readingsFail, violatedBy, watched};
-ghost use Rattle.state.specs.Model.{Head, nameMost, withClocks};
-ghost use Rattle.state.specs.Layout.{stateSize, stateBytes, head_of, store_of};
-ghost use Rattle.state.specs.Form.{inForm};
-ghost use Rattle.engine.specs.Calls.{clockOf};
+ghost use Rattle.clocks.specs.Clocks.{readings_fail, violated_by, watched};
+ghost use Rattle.state.specs.Model.{Head, name_most, with_clocks};
+ghost use Rattle.state.specs.Layout.{state_size, state_bytes, head_of, store_of};
+ghost use Rattle.state.specs.Form.{in_form};
+ghost use Rattle.engine.specs.Calls.{clock_of};
 
 use clocks::Readings;
 
 // Whether a receipt's readings violate test (20) against what is saved of their sender's clock.
 fn violated(state: &[u8], sender: u32, readings: Readings) -> bool
-    requires { (stateSize ≤ length state.now) × T (inForm state.now) × (sender ≤ nameMost) × T (not (readingsFail readings)) }
-    ensures { (let h : Head = head_of state.now in result ≡ violatedBy h.drift (clockOf h sender) readings) }
+    requires { (state_size ≤ length state.now) × T (in_form state.now) × (sender ≤ name_most) × T (not (readings_fail readings)) }
+    ensures { (let h : Head = head_of state.now in result ≡ violated_by h.drift (clock_of h sender) readings) }
 {
     let Readings::With(new, drift) = readings else {
         return false;
@@ -30,9 +30,9 @@ fn violated(state: &[u8], sender: u32, readings: Readings) -> bool
 
 // The sender's name as a term where its readings violate the test; else 0.
 pub(crate) fn blame(state: &[u8], sender: u32, readings: Readings) -> u32
-    requires { (stateSize ≤ length state.now) × T (inForm state.now) × (sender ≤ nameMost) × T (not (readingsFail readings)) }
+    requires { (state_size ≤ length state.now) × T (in_form state.now) × (sender ≤ name_most) × T (not (readings_fail readings)) }
     ensures { (let h : Head = head_of state.now in
-        result ≡ cond (violatedBy h.drift (clockOf h sender) readings) (2 ^ sender) 0) }
+        result ≡ cond (violated_by h.drift (clock_of h sender) readings) (2 ^ sender) 0) }
 {
     if violated(state, sender, readings) {
         return names::single(sender);
@@ -42,11 +42,11 @@ pub(crate) fn blame(state: &[u8], sender: u32, readings: Readings) -> u32
 
 // Saves a receipt's readings in their sender's place; without readings every place stays.
 pub(crate) fn save(state: &mut [u8], sender: u32, readings: Readings)
-    requires { (stateSize ≤ length state.old) × T (inForm state.old) × (sender ≤ nameMost) × T (not (readingsFail readings)) }
+    requires { (state_size ≤ length state.old) × T (in_form state.old) × (sender ≤ name_most) × T (not (readings_fail readings)) }
     ensures { (let h : Head = head_of state.old in
         state.new
         ≡ put 0
-        (stateBytes (record { head = withClocks h (watched readings sender h.clocks); store = store_of state.old }))
+        (state_bytes (record { head = with_clocks h (watched readings sender h.clocks); store = store_of state.old }))
         state.old) }
 {
     let Readings::With(new, _) = readings else {

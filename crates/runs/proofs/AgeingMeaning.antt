@@ -16,7 +16,7 @@ use Rattle.state.specs.Model.{Datum}
 use Rattle.engine.specs.Ageing.{widened}
 use Rattle.asking.specs.Instants.{Within, InAll}
 use Rattle.asking.proofs.InstantLaws.{Active, Allows}
-use Rattle.runs.proofs.ReceiptMeaning.{inall-each, active-cases}
+use Rattle.runs.proofs.ReceiptMeaning.{inall_each, active-cases}
 
 module _ (s lo hi : ℕ) where
   within_on : (l r a : ℕ) (y : ℤ) → lo ≤ a → a ≤ hi → Within l r y → Within (l + lo) (r + hi) (y +ℤ pos a)
@@ -27,18 +27,18 @@ module _ (s lo hi : ℕ) where
   aged-each : (ds : List Datum) (x : ℤ)
       → InAll s (map (widened lo hi) ds) x ↔ Each (λ d. Active s d → Within (d.left + lo) (d.right + hi) x) ds
   unfolding widened
-  aged-each ds x = Iff.trans (inall-each s x (map (widened lo hi) ds)) (each_map (Allows s x) (widened lo hi) ds)
+  aged-each ds x = Iff.trans (inall_each s x (map (widened lo hi) ds)) (each_map (Allows s x) (widened lo hi) ds)
 
-  pub age-in : (ds : List Datum) (y : ℤ) (a : ℕ) → lo ≤ a → a ≤ hi → InAll s ds y → InAll s (map (widened lo hi) ds) (y +ℤ pos a)
-  age-in ds y a p q h =
-      (aged-each ds (y +ℤ pos a)).1 (λ d m b. within_on d.left d.right a y p q ((inall-each s y ds).0 h d m b))
+  pub age_in : (ds : List Datum) (y : ℤ) (a : ℕ) → lo ≤ a → a ≤ hi → InAll s ds y → InAll s (map (widened lo hi) ds) (y +ℤ pos a)
+  age_in ds y a p q h =
+      (aged-each ds (y +ℤ pos a)).1 (λ d m b. within_on d.left d.right a y p q ((inall_each s y ds).0 h d m b))
 
   -- the instant before, and the advance
   abbrev Before : List Datum → ℤ → Type 0
   Before ds x = (y : ℤ) × (a : ℕ) × (lo ≤ a) × (a ≤ hi) × (y +ℤ pos a ≡ x) × InAll s ds y
 
-  pub age-out : (ds : List Datum) → lo ≤ hi → (k : ℕ) → InAll s ds (pos k) → (x : ℤ) → InAll s (map (widened lo hi) ds) x → Before ds x
-  age-out ds fits k at x h = go (active-cases s ds)
+  pub age_out : (ds : List Datum) → lo ≤ hi → (k : ℕ) → InAll s ds (pos k) → (x : ℤ) → InAll s (map (widened lo hi) ds) x → Before ds x
+  age_out ds fits k at x h = go (active-cases s ds)
     where
       back : (x : ℤ) → Each (λ d. Active s d → Within (d.left + lo) (d.right + hi) x) ds → (d : Datum) → In d ds → Active s d → Before ds x
       back (negsuc m) w d i b = absurd (w d i b)
@@ -50,9 +50,9 @@ module _ (s lo hi : ℕ) where
             omega (arith, v.0),
             omega (arith, v.0),
             ap pos (omega (arith, v.0)),
-            (inall-each s (pos j) ds).1 (λ e i b.
+            (inall_each s (pos j) ds).1 (λ e i b.
                 let v = w e i b in
-                let u = (inall-each s (pos k) ds).0 at e i b in
+                let u = (inall_each s (pos k) ds).0 at e i b in
                 omega (arith, v.0, v.1, u.0, u.1)),
           )
 

@@ -14,7 +14,7 @@ use lib.Dec.{T}
 use lib.IntN.{ℤ, pos}
 use Rattle.names.specs.Sets.{subset, has}
 use Rattle.names.specs.code.Parts.{digit}
-use Rattle.names.proofs.SetLaws.{digit-single-same, digit-single-other, subset-in, has_in, has-out, has-mono}
+use Rattle.names.proofs.SetLaws.{digit-single-same, digit-single_other, subset_in, has_in, has_out, has_mono}
 use Rattle.predicates.specs.Lists.{all}
 use Rattle.predicates.specs.Predicates.{holds}
 use Rattle.predicates.proofs.ListLaws.{or_l, or_cases}
@@ -26,17 +26,17 @@ use Rattle.runs.proofs.ReceiptMeaning.{Some, entries-each, learn-each, unexplain
 
 -- the set of one name is inside the sets that hold it
 single-subset : (name s : ℕ) → T (has name s) → T (subset (2 ^ name) s)
-single-subset name s h = subset-in (2 ^ name) s (λ m. go m (ℕ_discrete name m))
+single-subset name s h = subset_in (2 ^ name) s (λ m. go m (ℕ_discrete name m))
   where
     go : (m : ℕ) → Dec (name ≡ m) → digit (2 ^ name) m ≤ digit s m
-    go m (yes e) = rw (← e) (omega (arith, digit-single-same name, has-out name s h))
-    go m (no f) = omega (arith, digit-single-other name m f)
+    go m (yes e) = rw (← e) (omega (arith, digit-single-same name, has_out name s h))
+    go m (no f) = omega (arith, digit-single_other name m f)
 
 -- a predicate of one name is true for the sets that hold it
 holds-single : (name s : ℕ) → T (holds s (2 ^ name ∷ [])) ↔ T (has name s)
 unfolding holds
 holds-single name s = (
-  λ h. ⊎_elim (λ i. has-mono name (2 ^ name) s i (has_in name (2 ^ name) (digit-single-same name))) (λ f. absurd f) (or_cases (subset (2 ^ name) s) false h),
+  λ h. ⊎_elim (λ i. has_mono name (2 ^ name) s i (has_in name (2 ^ name) (digit-single-same name))) (λ f. absurd f) (or_cases (subset (2 ^ name) s) false h),
   λ h. or_l (subset (2 ^ name) s) false (single-subset name s h),
 )
 
@@ -47,9 +47,9 @@ module _ (s : ℕ) where
     cleared : (x : ℤ) → T (all (holds s) k.entries) → InAll s (unexplained k.entries k.held) x ↔ InAll s k.held x
     cleared x h = unexplained-all s x k.entries ((entries-each s k.entries).0 h) k.held
 
-    swept-fine : (x : ℤ) → Fine s (swept k) x ↔ Fine s k x
+    swept_fine : (x : ℤ) → Fine s (swept k) x ↔ Fine s k x
     unfolding swept
-    swept-fine x = (λ h. (h.0, (cleared x h.0).0 h.1), λ h. (h.0, (cleared x h.0).1 h.1))
+    swept_fine x = (λ h. (h.0, (cleared x h.0).0 h.1), λ h. (h.0, (cleared x h.0).1 h.1))
 
     swept-some : Some s k → Some s (swept k)
     unfolding swept
@@ -65,10 +65,10 @@ module _ (s : ℕ) where
         Iff.trans (entries-each s (learn (2 ^ name ∷ []) es))
         (Iff.trans (learn-each s (2 ^ name ∷ []) es) (Iff.and (holds-single name s) (Iff.symm (entries-each s es))))
 
-    pub blamed-fine : (x : ℤ) → Fine s (swept (blamed name k)) x ↔ (T (has name s) × Fine s k x)
+    pub blamed_fine : (x : ℤ) → Fine s (swept (blamed name k)) x ↔ (T (has name s) × Fine s k x)
     unfolding blamed
-    blamed-fine x =
-        Iff.trans (swept-fine (blamed name k) x)
+    blamed_fine x =
+        Iff.trans (swept_fine (blamed name k) x)
         (λ h. let t = name-learnt.0 h.0 in (t.0, (t.1, h.1)), λ h. (name-learnt.1 (h.0, h.1.0), h.1.1))
 
     pub blamed-some : Some s k → Some s (swept (blamed name k))

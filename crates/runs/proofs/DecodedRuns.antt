@@ -11,140 +11,140 @@ use lib.Dec.{T, eqb, eqb→eq, ltb, nltb→le}
 use lib.ListN.{length}
 use Rattle.numbers.specs.Numbers.{put}
 use Rattle.state.specs.Model.{State}
-use Rattle.state.specs.Layout.{stateSize, stateBytes, state_of}
-use Rattle.state.specs.Form.{inForm, stateOk}
+use Rattle.state.specs.Layout.{state_size, state_bytes, state_of}
+use Rattle.state.specs.Form.{in_form, state_ok}
 use Rattle.state.specs.Refusal.{after}
-use Rattle.state.proofs.StateLaws.{form-ok, put-state}
-use Rattle.state.proofs.LentLaws.{refuse-none, lent-next, lent-passed}
-use Rattle.engine.specs.Calls.{Setup, setUp, age, done}
-use Rattle.engine.specs.Refusals.{setUpRefusal, ageRefusal}
-use Rattle.engine.proofs.CallLaws.{set-up-ok, age-ok}
-use Rattle.monitor.specs.Calls.{setUpNumber, setUpState, ageNumber, ageState}
-use Rattle.monitor.specs.Receive.{delivered, deliveredState, receiptNumber, receiveNumber, receiveState}
-use Rattle.monitor.proofs.FormKept.{set-up-form, length-set-up, age-form, length-age, delivered-ok, receive-passed, receive-form}
+use Rattle.state.proofs.StateLaws.{form_ok, put-state}
+use Rattle.state.proofs.LentLaws.{refuse-none, lent_next, lent_passed}
+use Rattle.engine.specs.Calls.{Setup, set_up, age, done}
+use Rattle.engine.specs.Refusals.{set_up_refusal, age_refusal}
+use Rattle.engine.proofs.CallLaws.{set_up_ok, age_ok}
+use Rattle.monitor.specs.Calls.{set_up_number, set_up_state, age_number, age_state}
+use Rattle.monitor.specs.Receive.{delivered, delivered_state, receipt_number, receive_number, receive_state}
+use Rattle.monitor.proofs.FormKept.{set_up-form, length-set_up, age-form, length-age, delivered_ok, receive_passed, receive-form}
 use Rattle.monitor.proofs.FormKept.{length-receive}
 use Rattle.runs.specs.Book.{Request, ageing, receipt, Step}
-use Rattle.runs.specs.Runs.{requestNumber, bytesAfter, bytesRun, steps, Run, begin, stateAfter, steps_of}
+use Rattle.runs.specs.Runs.{request_number, bytes_after, bytes_run, steps, Run, begin, state_after, steps_of}
 
 -- ---- requests on a state
 
 -- the number of a request on a state in form
-unfoldable pub numberOn : State → Request → ℕ
-numberOn st (ageing reading) = ageRefusal st reading
-numberOn st (receipt g) = receiptNumber st g
+unfoldable pub number_on : State → Request → ℕ
+number_on st (ageing reading) = age_refusal st reading
+number_on st (receipt g) = receipt_number st g
 
 -- the state that a taken one makes
-unfoldable pub doneBy : State → Request → State
-doneBy st (ageing reading) = done st (age reading)
-doneBy st (receipt g) = deliveredState st (delivered g)
+unfoldable pub done_by : State → Request → State
+done_by st (ageing reading) = done st (age reading)
+done_by st (receipt g) = delivered_state st (delivered g)
 
 -- "A refusal is its number alone; state and output stay as they were."
 unfoldable pub next : State → Request → State
-next st q = cond (eqb (numberOn st q) 0) (doneBy st q) st
+next st q = cond (eqb (number_on st q) 0) (done_by st q) st
 
 -- the requests with their numbers, and the state after them
-unfoldable pub stepsFrom : State → List Request → List Step
-stepsFrom st [] = []
-stepsFrom st (q ∷ qs) = record { request = q; number = numberOn st q } ∷ stepsFrom (next st q) qs
+unfoldable pub steps_from : State → List Request → List Step
+steps_from st [] = []
+steps_from st (q ∷ qs) = record { request = q; number = number_on st q } ∷ steps_from (next st q) qs
 
-unfoldable pub stateFrom : State → List Request → State
-stateFrom st [] = st
-stateFrom st (q ∷ qs) = stateFrom (next st q) qs
+unfoldable pub state_from : State → List Request → State
+state_from st [] = st
+state_from st (q ∷ qs) = state_from (next st q) qs
 
 -- ---- bytes in form
 
 -- what a call leaves, by its number
-after-state : (number : ℕ) (st : State) (s : List ℕ) → stateSize ≤ length s → (number ≡ 0 → T (stateOk st))
-    → state_of (after number (stateBytes st) s) ≡ cond (eqb number 0) st (state_of s)
+after-state : (number : ℕ) (st : State) (s : List ℕ) → state_size ≤ length s → (number ≡ 0 → T (state_ok st))
+    → state_of (after number (state_bytes st) s) ≡ cond (eqb number 0) st (state_of s)
 unfolding after
 after-state number st s h ok = go (eqb number 0) (λ e. ok (eqb→eq number 0 e))
   where
-    go : (b : Bool) → (T b → T (stateOk st)) → state_of (cond b (put 0 (stateBytes st) s) s) ≡ cond b st (state_of s)
+    go : (b : Bool) → (T b → T (state_ok st)) → state_of (cond b (put 0 (state_bytes st) s) s) ≡ cond b st (state_of s)
     go true f = put-state st s (f tt) h
     go false f = refl
 
-module _ (s : List ℕ) (h : stateSize ≤ length s) (t : T (inForm s)) where
-  pub number-on : (q : Request) → requestNumber s q ≡ numberOn (state_of s) q
-  unfolding requestNumber numberOn ageNumber receiveNumber
-  number-on (ageing reading) = lent-next s (ageRefusal (state_of s) reading) h t
-  number-on (receipt g) = lent-next s (receiptNumber (state_of s) g) h t
+module _ (s : List ℕ) (h : state_size ≤ length s) (t : T (in_form s)) where
+  pub number_on_lem : (q : Request) → request_number s q ≡ number_on (state_of s) q
+  unfolding request_number number_on age_number receive_number
+  number_on_lem (ageing reading) = lent_next s (age_refusal (state_of s) reading) h t
+  number_on_lem (receipt g) = lent_next s (receipt_number (state_of s) g) h t
 
-  pub state-on : (q : Request) → state_of (bytesAfter s q) ≡ next (state_of s) q
-  unfolding bytesAfter next doneBy requestNumber ageNumber ageState receiveState
-  state-on (ageing reading) =
-      rw (← (number-on (ageing reading)))
-      (after-state (ageNumber s reading) (done (state_of s) (age reading)) s h
-      (λ z. age-ok (state_of s) reading (form-ok s t) (lent-passed s (ageRefusal (state_of s) reading) z).2))
-  state-on (receipt g) =
-      rw (← (number-on (receipt g)))
-      (after-state (receiveNumber s g) (deliveredState (state_of s) (delivered g)) s h
-      (λ z. let k = receive-passed s g z in delivered-ok s g t k.1 k.2 k.3))
+  pub state_on : (q : Request) → state_of (bytes_after s q) ≡ next (state_of s) q
+  unfolding bytes_after next done_by request_number age_number age_state receive_state
+  state_on (ageing reading) =
+      rw (← (number_on_lem (ageing reading)))
+      (after-state (age_number s reading) (done (state_of s) (age reading)) s h
+      (λ z. age_ok (state_of s) reading (form_ok s t) (lent_passed s (age_refusal (state_of s) reading) z).2))
+  state_on (receipt g) =
+      rw (← (number_on_lem (receipt g)))
+      (after-state (receive_number s g) (delivered_state (state_of s) (delivered g)) s h
+      (λ z. let k = receive_passed s g z in delivered_ok s g t k.1 k.2 k.3))
 
-  pub form-on : (q : Request) → T (inForm (bytesAfter s q))
-  unfolding bytesAfter
-  form-on (ageing reading) = age-form s reading t
-  form-on (receipt g) = receive-form s g t
+  pub form_on : (q : Request) → T (in_form (bytes_after s q))
+  unfolding bytes_after
+  form_on (ageing reading) = age-form s reading t
+  form_on (receipt g) = receive-form s g t
 
-  pub long-on : (q : Request) → stateSize ≤ length (bytesAfter s q)
-  unfolding bytesAfter
-  long-on (ageing reading) = rw (length-age s reading) h
-  long-on (receipt g) = rw (length-receive s g) h
+  pub long_on : (q : Request) → state_size ≤ length (bytes_after s q)
+  unfolding bytes_after
+  long_on (ageing reading) = rw (length-age s reading) h
+  long_on (receipt g) = rw (length-receive s g) h
 
 -- ---- a list of requests
 
-pub steps-run : (qs : List Request) (s : List ℕ) → stateSize ≤ length s → T (inForm s) → steps s qs ≡ stepsFrom (state_of s) qs
-unfolding steps stepsFrom
-steps-run [] s h t = refl
-steps-run (q ∷ qs) s h t =
-    rw (number-on s h t q, steps-run qs (bytesAfter s q) (long-on s h t q) (form-on s h t q), state-on s h t q)
+pub steps_run : (qs : List Request) (s : List ℕ) → state_size ≤ length s → T (in_form s) → steps s qs ≡ steps_from (state_of s) qs
+unfolding steps steps_from
+steps_run [] s h t = refl
+steps_run (q ∷ qs) s h t =
+    rw (number_on_lem s h t q, steps_run qs (bytes_after s q) (long_on s h t q) (form_on s h t q), state_on s h t q)
 
-pub state-run : (qs : List Request) (s : List ℕ) → stateSize ≤ length s → T (inForm s) → state_of (bytesRun s qs) ≡ stateFrom (state_of s) qs
-unfolding bytesRun stateFrom
-state-run [] s h t = refl
-state-run (q ∷ qs) s h t = state-run qs (bytesAfter s q) (long-on s h t q) (form-on s h t q) ∙ ap (λ (st : State). stateFrom st qs) (state-on s h t q)
+pub state_run : (qs : List Request) (s : List ℕ) → state_size ≤ length s → T (in_form s) → state_of (bytes_run s qs) ≡ state_from (state_of s) qs
+unfolding bytes_run state_from
+state_run [] s h t = refl
+state_run (q ∷ qs) s h t = state_run qs (bytes_after s q) (long_on s h t q) (form_on s h t q) ∙ ap (λ (st : State). state_from st qs) (state_on s h t q)
 
-pub form-run : (qs : List Request) (s : List ℕ) → stateSize ≤ length s → T (inForm s) → T (inForm (bytesRun s qs))
-unfolding bytesRun
-form-run [] s h t = t
-form-run (q ∷ qs) s h t = form-run qs (bytesAfter s q) (long-on s h t q) (form-on s h t q)
+pub form_run : (qs : List Request) (s : List ℕ) → state_size ≤ length s → T (in_form s) → T (in_form (bytes_run s qs))
+unfolding bytes_run
+form_run [] s h t = t
+form_run (q ∷ qs) s h t = form_run qs (bytes_after s q) (long_on s h t q) (form_on s h t q)
 
-pub long-run : (qs : List Request) (s : List ℕ) → stateSize ≤ length s → T (inForm s) → stateSize ≤ length (bytesRun s qs)
-unfolding bytesRun
-long-run [] s h t = h
-long-run (q ∷ qs) s h t = long-run qs (bytesAfter s q) (long-on s h t q) (form-on s h t q)
+pub long_run : (qs : List Request) (s : List ℕ) → state_size ≤ length s → T (in_form s) → state_size ≤ length (bytes_run s qs)
+unfolding bytes_run
+long_run [] s h t = h
+long_run (q ∷ qs) s h t = long_run qs (bytes_after s q) (long_on s h t q) (form_on s h t q)
 
 -- ---- a run
 
-pub set-up-number : (s : List ℕ) (u : Setup) → stateSize ≤ length s → setUpNumber s u ≡ setUpRefusal u
-unfolding setUpNumber
-set-up-number s u h = rw (le-ltb (length s) stateSize h)
+pub set_up_number_lem : (s : List ℕ) (u : Setup) → state_size ≤ length s → set_up_number s u ≡ set_up_refusal u
+unfolding set_up_number
+set_up_number_lem s u h = rw (le-ltb (length s) state_size h)
 
-pub set-up-taken : (s : List ℕ) (u : Setup) → stateSize ≤ length s → setUpRefusal u ≡ 0 → setUpNumber s u ≡ 0
-set-up-taken s u h e = set-up-number s u h ∙ e
+pub set_up-taken : (s : List ℕ) (u : Setup) → state_size ≤ length s → set_up_refusal u ≡ 0 → set_up_number s u ≡ 0
+set_up-taken s u h e = set_up_number_lem s u h ∙ e
 
 module _ (r : Run) where
-  passed : (stateSize ≤ length r.buffer) × (setUpRefusal r.setup ≡ 0)
-  unfolding setUpNumber
+  passed : (state_size ≤ length r.buffer) × (set_up_refusal r.setup ≡ 0)
+  unfolding set_up_number
   passed =
-      let a = refuse-none (ltb (length r.buffer) stateSize) 24 (setUpRefusal r.setup) (omega arith) r.taken in
-      (nltb→le (length r.buffer) stateSize a.0, a.1)
+      let a = refuse-none (ltb (length r.buffer) state_size) 24 (set_up_refusal r.setup) (omega arith) r.taken in
+      (nltb→le (length r.buffer) state_size a.0, a.1)
 
-  begun-long : stateSize ≤ length (begin r)
+  begun-long : state_size ≤ length (begin r)
   unfolding begin
-  begun-long = rw (length-set-up r.buffer r.setup) passed.0
+  begun-long = rw (length-set_up r.buffer r.setup) passed.0
 
-  begun-form : T (inForm (begin r))
+  begun-form : T (in_form (begin r))
   unfolding begin
-  begun-form = set-up-form r.buffer r.setup r.taken
+  begun-form = set_up-form r.buffer r.setup r.taken
 
-  begun-state : state_of (begin r) ≡ setUp r.setup
-  unfolding begin setUpState after
-  begun-state = rw r.taken (put-state (setUp r.setup) r.buffer (set-up-ok r.setup passed.1) passed.0)
+  begun-state : state_of (begin r) ≡ set_up r.setup
+  unfolding begin set_up_state after
+  begun-state = rw r.taken (put-state (set_up r.setup) r.buffer (set_up_ok r.setup passed.1) passed.0)
 
-  pub run-steps : steps_of r ≡ stepsFrom (setUp r.setup) r.requests
+  pub run_steps : steps_of r ≡ steps_from (set_up r.setup) r.requests
   unfolding steps_of
-  run-steps = steps-run r.requests (begin r) begun-long begun-form ∙ ap (λ (st : State). stepsFrom st r.requests) begun-state
+  run_steps = steps_run r.requests (begin r) begun-long begun-form ∙ ap (λ (st : State). steps_from st r.requests) begun-state
 
-  pub run-state : state_of (stateAfter r) ≡ stateFrom (setUp r.setup) r.requests
-  unfolding stateAfter
-  run-state = state-run r.requests (begin r) begun-long begun-form ∙ ap (λ (st : State). stateFrom st r.requests) begun-state
+  pub run_state : state_of (state_after r) ≡ state_from (set_up r.setup) r.requests
+  unfolding state_after
+  run_state = state_run r.requests (begin r) begun-long begun-form ∙ ap (λ (st : State). state_from st r.requests) begun-state

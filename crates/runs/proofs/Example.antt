@@ -6,62 +6,62 @@ use mathlib.Core.Logic.{inl, inr}
 use mathlib.Core.List.{List, map}
 use native.Mathlib.Nat.{le_refl}
 use lib.ListN.{length, get_or, replicate, length-replicate}
-use Rattle.names.specs.Sets.{subset, setUnion, minus, has}
+use Rattle.names.specs.Sets.{subset, set_union, minus, has}
 use Rattle.numbers.specs.Numbers.{num, bytes, tab, words_of, bytes_of}
-use Rattle.predicates.specs.Predicates.{holds, implies, isTrue, isNormal, struck, insertRising, rising, minimal, normal, formed}
-use Rattle.message.specs.Words.{ofKind, masks, wordSum, check}
-use Rattle.message.specs.Read.{headWordFits, isEnds, opens, width, spanKinds, middle, kindsFit, checkFits, pair, span, withSpan}
-use Rattle.message.specs.Read.{shapeRefusal, contents, termWords}
-use Rattle.epochs.specs.Epochs.{epochsMost, withdraw, older, raised, told, spoken}
-use Rattle.radio.specs.Names.{named, wanted, rises, namesFit, names_of}
-use Rattle.radio.specs.Read.{leading, epochCount, epochPart, epochWordsFit, readWords, epochWords}
-use Rattle.message.specs.Write.{endWords, front, body, messageWords}
-use Rattle.state.specs.Layout.{stateSize, zeros}
-use Rattle.entries.specs.Entries.{explained, learn, withdrawnEntries}
-use Rattle.steps.specs.Steps.{disjoint, learnt, unexplained, same, meet, met, without, betters, stored, heldAfter, settled, received, blamed, swept, judged, tooMany}
-use Rattle.steps.specs.Withdrawn.{withdrawnData, withdrawn}
-use Rattle.engine.specs.Ageing.{leastAdvance, greatestAdvance, slow, fast, widened, aged}
+use Rattle.predicates.specs.Predicates.{holds, implies, is_true, is_normal, struck, insert_rising, rising, minimal, normal, formed}
+use Rattle.message.specs.Words.{of_kind, masks, word_sum, check}
+use Rattle.message.specs.Read.{head_word_fits, is_ends, opens, width, span_kinds, middle, kinds_fit, check_fits, pair, span, with_span}
+use Rattle.message.specs.Read.{shape_refusal, contents, term_words}
+use Rattle.epochs.specs.Epochs.{epochs_most, withdraw, older, raised, told, spoken}
+use Rattle.radio.specs.Names.{named, wanted, rises, names_fit, names_of}
+use Rattle.radio.specs.Read.{leading, epoch_count, epoch_part, epoch_words_fit, read_words, epoch_words}
+use Rattle.message.specs.Write.{end_words, front, body, message_words}
+use Rattle.state.specs.Layout.{state_size, zeros}
+use Rattle.entries.specs.Entries.{explained, learn, withdrawn_entries}
+use Rattle.steps.specs.Steps.{disjoint, learnt, unexplained, same, meet, met, without, betters, stored, held_after, settled, received, blamed, swept, judged, too_many}
+use Rattle.steps.specs.Withdrawn.{withdrawn_data, withdrawn}
+use Rattle.engine.specs.Ageing.{least_advance, greatest_advance, slow, fast, widened, aged}
 use Rattle.engine.specs.Receiving.{grown}
-use Rattle.engine.specs.Hearing.{spokenBy, risen, late, cleared, hearing, heeded, arrived}
-use Rattle.clocks.specs.Clocks.{strays, ahead_of, behindOf, saving, violates, readingsFail, violatedBy, watched}
-use Rattle.engine.specs.Calls.{begun, setUp, violated, moved, made, done}
-use Rattle.engine.specs.Refusals.{setUpRefusal, passesEnd, ageRefusal, receiptRefusal}
-use Rattle.monitor.specs.Messages.{readBytes}
-use Rattle.monitor.specs.Receive.{delivered, deliveredAs, deliveredNumber, deliveredState}
-use Rattle.runs.specs.Book.{Step, opened, lines_of, entered, enteredDelivery, enteredRequest, noted, bookOf}
+use Rattle.engine.specs.Hearing.{spoken_by, risen, late, cleared, hearing, heeded, arrived}
+use Rattle.clocks.specs.Clocks.{strays, ahead_of, behind_of, saving, violates, readings_fail, violated_by, watched}
+use Rattle.engine.specs.Calls.{begun, set_up, violated, moved, made, done}
+use Rattle.engine.specs.Refusals.{set_up_refusal, passes_end, age_refusal, receipt_refusal}
+use Rattle.monitor.specs.Messages.{read_bytes}
+use Rattle.monitor.specs.Receive.{delivered, delivered_as, delivered_number, delivered_state}
+use Rattle.runs.specs.Book.{Step, opened, lines_of, entered, entered_delivery, entered_request, noted, book_of}
 use Rattle.runs.specs.Runs.{Run, book, taken_of, Further}
 use Rattle.runs.specs.Cases.{usual}
-use Rattle.runs.specs.Example.{exampleSetup, exampleRequests, exampleNumbers, exampleLines, exampleRun, Example}
-use Rattle.runs.specs.Example.{fewerTaken, fewerRequests, moreTaken, moreRequests, fewerRun, moreRun, FurtherExample}
-use Rattle.runs.proofs.DecodedRuns.{numberOn, doneBy, next, stepsFrom, set-up-taken, run-steps}
+use Rattle.runs.specs.Example.{example_setup, example_requests, example_numbers, example_lines, example_run, Example}
+use Rattle.runs.specs.Example.{fewer_taken, fewer_requests, more_taken, more_requests, fewer_run, more_run, FurtherExample}
+use Rattle.runs.proofs.DecodedRuns.{number_on, done_by, next, steps_from, set_up-taken, run_steps}
 
 -- ---- on states
 
 record OnStates : Type 0 where
-  numbers : map (λ (p : Step). p.number) (stepsFrom (setUp exampleSetup) exampleRequests) ≡ exampleNumbers
-  lines : (bookOf (opened exampleSetup) (stepsFrom (setUp exampleSetup) exampleRequests)).lines ≡ exampleLines
-  fewer : taken_of (stepsFrom (setUp (usual 5)) fewerRequests) ≡ fewerTaken
-  more : taken_of (stepsFrom (setUp (usual 5)) moreRequests) ≡ moreTaken
-  premise : Further (opened (usual 5)) fewerTaken moreTaken
+  numbers : map (λ (p : Step). p.number) (steps_from (set_up example_setup) example_requests) ≡ example_numbers
+  lines : (book_of (opened example_setup) (steps_from (set_up example_setup) example_requests)).lines ≡ example_lines
+  fewer : taken_of (steps_from (set_up (usual 5)) fewer_requests) ≡ fewer_taken
+  more : taken_of (steps_from (set_up (usual 5)) more_requests) ≡ more_taken
+  premise : Further (opened (usual 5)) fewer_taken more_taken
 
-on-states : OnStates
-unfolding subset setUnion has holds implies isTrue isNormal struck insertRising rising minimal normal formed
+on_states : OnStates
+unfolding subset set_union has holds implies is_true is_normal struck insert_rising rising minimal normal formed
     num bytes tab words_of bytes_of
-    ofKind masks wordSum check headWordFits isEnds opens width spanKinds middle kindsFit checkFits
-    pair span withSpan shapeRefusal contents readWords termWords
-    endWords front body messageWords readBytes
-    minus withdraw older raised told spoken named wanted rises namesFit names_of leading epochCount epochPart epochWordsFit epochWords
-    spokenBy risen late cleared hearing heeded arrived withdrawnData withdrawnEntries withdrawn
-    leastAdvance greatestAdvance slow fast widened aged
-    grown disjoint explained learn learnt unexplained same meet met without betters stored heldAfter settled received
-    strays ahead_of behindOf saving violates readingsFail violatedBy watched violated blamed swept judged
-    begun setUp moved made done passesEnd ageRefusal tooMany receiptRefusal
-    delivered deliveredAs deliveredNumber deliveredState
-    opened lines_of entered enteredDelivery enteredRequest noted bookOf
-    numberOn doneBy next stepsFrom taken_of exampleRequests exampleNumbers exampleLines
-on-states =
+    of_kind masks word_sum check head_word_fits is_ends opens width span_kinds middle kinds_fit check_fits
+    pair span with_span shape_refusal contents read_words term_words
+    end_words front body message_words read_bytes
+    minus withdraw older raised told spoken named wanted rises names_fit names_of leading epoch_count epoch_part epoch_words_fit epoch_words
+    spoken_by risen late cleared hearing heeded arrived withdrawn_data withdrawn_entries withdrawn
+    least_advance greatest_advance slow fast widened aged
+    grown disjoint explained learn learnt unexplained same meet met without betters stored held_after settled received
+    strays ahead_of behind_of saving violates readings_fail violated_by watched violated blamed swept judged
+    begun set_up moved made done passes_end age_refusal too_many receipt_refusal
+    delivered delivered_as delivered_number delivered_state
+    opened lines_of entered entered_delivery entered_request noted book_of
+    number_on done_by next steps_from taken_of example_requests example_numbers example_lines
+on_states =
     -- no epoch is above the known one: all are 0
-    let known : (n : ℕ) → get_or (replicate epochsMost 0) n 0 ≤ get_or (replicate epochsMost 0) n 0 = λ n. le_refl (get_or (replicate epochsMost 0) n 0) in
+    let known : (n : ℕ) → get_or (replicate epochs_most 0) n 0 ≤ get_or (replicate epochs_most 0) n 0 = λ n. le_refl (get_or (replicate epochs_most 0) n 0) in
     record {
       numbers = refl;
       lines = refl;
@@ -70,34 +70,34 @@ on-states =
       premise = inr ((refl, known), inl (refl, inr ((refl, known), inl (refl, inr ((refl, known), inl (refl, ((refl, known), tt)))))));
     }
 
-begins-taken : (setUpRefusal exampleSetup ≡ 0) × (setUpRefusal (usual 5) ≡ 0)
-unfolding setUpRefusal
+begins-taken : (set_up_refusal example_setup ≡ 0) × (set_up_refusal (usual 5) ≡ 0)
+unfolding set_up_refusal
 begins-taken = (refl, refl)
 
 -- ---- on bytes
 
-pub example-holds : Example
+pub example_holds : Example
 unfolding Example book
-example-holds buffer h =
-    let begins = set-up-taken buffer exampleSetup h begins-taken.0 in
-    let r = exampleRun buffer begins in (
+example_holds buffer h =
+    let begins = set_up-taken buffer example_setup h begins-taken.0 in
+    let r = example_run buffer begins in (
       begins,
-      ap (λ (ps : List Step). map (λ (p : Step). p.number) ps) (run-steps r) ∙ on-states.numbers,
-      ap (λ (ps : List Step). (bookOf (opened exampleSetup) ps).lines) (run-steps r) ∙ on-states.lines,
+      ap (λ (ps : List Step). map (λ (p : Step). p.number) ps) (run_steps r) ∙ on_states.numbers,
+      ap (λ (ps : List Step). (book_of (opened example_setup) ps).lines) (run_steps r) ∙ on_states.lines,
     )
 
 -- the run in 5,393 zeros
 pub example : Run
 unfolding Example
 example =
-    let room : stateSize ≤ length (zeros stateSize) = rw (length-replicate {A = ℕ} stateSize 0) (le_refl stateSize) in
-    exampleRun (zeros stateSize) (example-holds (zeros stateSize) room).0
+    let room : state_size ≤ length (zeros state_size) = rw (length-replicate {A = ℕ} state_size 0) (le_refl state_size) in
+    example_run (zeros state_size) (example_holds (zeros state_size) room).0
 
-pub further-example : FurtherExample
+pub further_example : FurtherExample
 unfolding FurtherExample
-further-example one other h k =
-    let begins = set-up-taken one (usual 5) h begins-taken.1 in
-    let begins-other = set-up-taken other (usual 5) k begins-taken.1 in
-    let fewer = ap taken_of (run-steps (fewerRun one begins)) ∙ on-states.fewer in
-    let more = ap taken_of (run-steps (moreRun other begins-other)) ∙ on-states.more in
-    record { begins = begins; beginsOther = begins-other; takenFewer = fewer; takenMore = more; further = rw (fewer, more) on-states.premise }
+further_example one other h k =
+    let begins = set_up-taken one (usual 5) h begins-taken.1 in
+    let begins-other = set_up-taken other (usual 5) k begins-taken.1 in
+    let fewer = ap taken_of (run_steps (fewer_run one begins)) ∙ on_states.fewer in
+    let more = ap taken_of (run_steps (more_run other begins-other)) ∙ on_states.more in
+    record { begins = begins; begins_other = begins-other; taken_fewer = fewer; taken_more = more; further = rw (fewer, more) on_states.premise }

@@ -1,13 +1,13 @@
 -- The book of a run, and the instants that are possible by it (document 01, "Asking"). "The book is fed each call's arguments and whether it was
 -- taken, and nothing from the state bytes." Assumes nothing: these are definitions.
 use Rattle.std.specs.Prelude.{ℕ, zero, suc, ◌≤◌, ◌≡◌, ◌⊎◌, Bool, true, cond, List, [], ◌∷◌, ◌++◌, T, ℤ, pos, ◌+ℤ◌}
-use Rattle.names.specs.Sets.{setUnion, has}
+use Rattle.names.specs.Sets.{set_union, has}
 use Rattle.predicates.specs.Predicates.{holds}
 use Rattle.epochs.specs.Epochs.{older}
 use Rattle.state.specs.Model.{Datum, Head}
 use Rattle.engine.specs.Ageing.{slow, fast}
 use Rattle.engine.specs.Receiving.{grown}
-use Rattle.engine.specs.Hearing.{spokenBy}
+use Rattle.engine.specs.Hearing.{spoken_by}
 use Rattle.engine.specs.Calls.{Setup, begun, Call, age, receive, violated, moved}
 use Rattle.asking.specs.Instants.{Within, Allowed}
 use Rattle.monitor.specs.Receive.{Receipt, Delivered, refused, brings, delivered}
@@ -49,41 +49,41 @@ opened u = record { head = begun u; lines = [] }
 -- document 02, W-204, it "keeps known epochs of its own by the same rule".
 unfoldable pub lines_of : Head → Call → List Line
 lines_of h (age reading) = advanced (slow h reading) (fast h reading) ∷ []
-lines_of h (receive g) = cond (violated h g) (blames (spokenBy h g) g.sender ∷ []) [] ++ (heard (spokenBy h g) (grown h g) ∷ [])
+lines_of h (receive g) = cond (violated h g) (blames (spoken_by h g) g.sender ∷ []) [] ++ (heard (spoken_by h g) (grown h g) ∷ [])
 
 unfoldable pub entered : Book → Call → Book
 entered b c = record { head = moved b.head c; lines = b.lines ++ lines_of b.head c }
 
 -- a receipt enters what its message delivers; a message that cannot be read is never taken
-unfoldable pub enteredDelivery : Book → Delivered → Book
-enteredDelivery b (refused number) = b
-enteredDelivery b (brings g) = entered b (receive g)
+unfoldable pub entered_delivery : Book → Delivered → Book
+entered_delivery b (refused number) = b
+entered_delivery b (brings g) = entered b (receive g)
 
-unfoldable pub enteredRequest : Book → Request → Book
-enteredRequest b (ageing reading) = entered b (age reading)
-enteredRequest b (receipt g) = enteredDelivery b (delivered g)
+unfoldable pub entered_request : Book → Request → Book
+entered_request b (ageing reading) = entered b (age reading)
+entered_request b (receipt g) = entered_delivery b (delivered g)
 
 -- "A refused call enters nothing."
 unfoldable pub noted : ℕ → Book → Request → Book
-noted zero b q = enteredRequest b q
+noted zero b q = entered_request b q
 noted (suc n) b q = b
 
-unfoldable pub bookOf : Book → List Step → Book
-bookOf b [] = b
-bookOf b (p ∷ ps) = bookOf (noted p.number b p.request) ps
+unfoldable pub book_of : Book → List Step → Book
+book_of b [] = b
+book_of b (p ∷ ps) = book_of (noted p.number b p.request) ps
 
 -- ---- paths
 
 -- Where ks are the known epochs, s has names that are current, and every older name counts as failed: "An explaining set now counts current names
 -- only, failed old ones being free". Of a line with the epochs es these are the failed identifiers.
-abbrev pub failedUnder : List ℕ → ℕ → List ℕ → ℕ
-failedUnder ks s es = setUnion s (older es ks)
+abbrev pub failed_under : List ℕ → ℕ → List ℕ → ℕ
+failed_under ks s es = set_union s (older es ks)
 
 -- they make the line's predicate true, or hold its name
 unfoldable pub sees : List ℕ → ℕ → Line → Bool
 sees ks s (advanced lo hi) = true
-sees ks s (heard es d) = holds (failedUnder ks s es) d.terms
-sees ks s (blames es n) = has n (failedUnder ks s es)
+sees ks s (heard es d) = holds (failed_under ks s es) d.terms
+sees ks s (blames es n) = has n (failed_under ks s es)
 
 -- a path from the true time y to the true time x, where v tells which lines' predicates are true. "In the book's order each ageing advances it by
 -- a whole amount from its least to its greatest (the drift bounds). A receipt leaves it where it is, and it is then in the interval or the set

@@ -4,8 +4,8 @@ use Rattle.std.specs.Prelude.{ℕ, ◌+◌, ◌*◌, ◌-◌, ◌^◌, ◌≤◌
 use Rattle.numbers.specs.Numbers.{tab, bytes_of}
 use Rattle.predicates.specs.Lists.{all, In}
 use Rattle.predicates.specs.Predicates.{formed}
-use Rattle.message.specs.Write.{messageWords}
-use Rattle.epochs.specs.Epochs.{epochsMost, name}
+use Rattle.message.specs.Write.{message_words}
+use Rattle.epochs.specs.Epochs.{epochs_most, name}
 use Rattle.radio.specs.Names.{wanted, names_of}
 use Rattle.clocks.specs.declared.Triple.{Triple}
 use Rattle.clocks.specs.declared.Readings.TheVariants.{With}
@@ -13,18 +13,18 @@ use Rattle.clocks.specs.Clocks.{Saved, nothing, three}
 use Rattle.clocks.specs.Worked.{triple}
 use Rattle.ends.specs.Ends.{million}
 use Rattle.state.specs.Model.{Datum, datum, State}
-use Rattle.state.specs.Layout.{stateSize, stateBytes, head_of, store_of}
-use Rattle.state.specs.Form.{stateOk}
+use Rattle.state.specs.Layout.{state_size, state_bytes, head_of, store_of}
+use Rattle.state.specs.Form.{state_ok}
 use Rattle.engine.specs.Ageing.{slow, fast}
-use Rattle.engine.specs.Calls.{Setup, setup, setUp, clockOf}
+use Rattle.engine.specs.Calls.{Setup, setup, set_up, clock_of}
 use Rattle.asking.specs.declared.Answer.{Answer}
 use Rattle.asking.specs.declared.Answer.TheVariants.{Contradicted, Open, Between}
-use Rattle.monitor.specs.Calls.{setUpNumber, ageNumber}
-use Rattle.monitor.specs.Receive.{receiptOf, receiptWith}
-use Rattle.asking.specs.Asking.{answerNumbers}
-use Rattle.monitor.specs.Ask.{answerSize, Shows, askNumber, askOutput}
+use Rattle.monitor.specs.Calls.{set_up_number, age_number}
+use Rattle.monitor.specs.Receive.{receipt_of, receipt_with}
+use Rattle.asking.specs.Asking.{answer_numbers}
+use Rattle.monitor.specs.Ask.{answer_size, Shows, ask_number, ask_output}
 use Rattle.runs.specs.Book.{Request, ageing, receipt, Step}
-use Rattle.runs.specs.Runs.{requestNumber, bytesRun, steps, Run, stateAfter, steps_of}
+use Rattle.runs.specs.Runs.{request_number, bytes_run, steps, Run, state_after, steps_of}
 
 -- ---- a row
 
@@ -49,7 +49,7 @@ pub data Question : Type 0 where
   -- a request returns the number
   returning : Request → ℕ → Question
   -- a setting up returns the number
-  settingUp : Setup → ℕ → Question
+  setting_up : Setup → ℕ → Question
 
 -- it is put after a setting up and requests
 pub record Case : Type 0 where
@@ -61,26 +61,26 @@ pub record Case : Type 0 where
 
 -- what must come comes, on the state bytes s: for asking by the number that it returns and the 24 bytes of its output
 abbrev pub Comes : List ℕ → Question → Type 0
-Comes s (asking limit a) = (out : List ℕ) → answerSize ≤ length out → (askNumber s limit out ≡ 0) × Shows (askOutput s limit out) (answerNumbers a)
-Comes s (refusing limit number) = (out : List ℕ) → askNumber s limit out ≡ number
+Comes s (asking limit a) = (out : List ℕ) → answer_size ≤ length out → (ask_number s limit out ≡ 0) × Shows (ask_output s limit out) (answer_numbers a)
+Comes s (refusing limit number) = (out : List ℕ) → ask_number s limit out ≡ number
 Comes s (holding ds) = (store_of s).held ≡ ds
 Comes s (knowing es) = (store_of s).entries ≡ es
-Comes s (remembering name v) = clockOf (head_of s) name ≡ v
+Comes s (remembering name v) = clock_of (head_of s) name ≡ v
 Comes s (dating identifier epoch) = get_or (head_of s).epochs identifier 0 ≡ epoch
 Comes s (forming sender terms p) = formed (head_of s).own sender terms ≡ p
-Comes s (advancing reading lo hi) = (ageNumber s reading ≡ 0) × (slow (head_of s) reading ≡ lo) × (fast (head_of s) reading ≡ hi)
-Comes s (returning q number) = requestNumber s q ≡ number
-Comes s (settingUp u number) = setUpNumber s u ≡ number
+Comes s (advancing reading lo hi) = (age_number s reading ≡ 0) × (slow (head_of s) reading ≡ lo) × (fast (head_of s) reading ≡ hi)
+Comes s (returning q number) = request_number s q ≡ number
+Comes s (setting_up u number) = set_up_number s u ≡ number
 
 -- the row as a run in a buffer
-abbrev pub run_of : (c : Case) (buffer : List ℕ) → setUpNumber buffer c.setup ≡ 0 → Run
+abbrev pub run_of : (c : Case) (buffer : List ℕ) → set_up_number buffer c.setup ≡ 0 → Run
 run_of c buffer begins = record { buffer = buffer; setup = c.setup; taken = begins; requests = c.requests }
 
 -- the setting up and every request are taken, since a row about a state that nobody reaches would say nothing; and then what must come comes
 pub record CaseComes (c : Case) (buffer : List ℕ) : Type 0 where
-  pub begins : setUpNumber buffer c.setup ≡ 0
+  pub begins : set_up_number buffer c.setup ≡ 0
   pub taken : T (all (λ (p : Step). eqb p.number 0) (steps_of (run_of c buffer begins)))
-  pub comes : Comes (stateAfter (run_of c buffer begins)) c.question
+  pub comes : Comes (state_after (run_of c buffer begins)) c.question
 
 -- ---- the table
 
@@ -104,11 +104,11 @@ renewed own = record { own = own; drift = 100; reading = 0; epoch = 2 }
 
 -- a receipt of a message of these words, "four bytes make a word", as the listing's `get`
 abbrev pub get : ℕ → ℕ → List ℕ → Request
-get least greatest words = receipt (receiptOf least greatest (bytes_of words))
+get least greatest words = receipt (receipt_of least greatest (bytes_of words))
 
 -- the words of a sender's message of an interval and terms, all under epoch 0
 abbrev pub said : ℕ → ℕ → ℕ → List ℕ → List ℕ
-said sender left right terms = messageWords sender (names_of (replicate epochsMost 0) (wanted sender terms)) left right terms
+said sender left right terms = message_words sender (names_of (replicate epochs_most 0) (wanted sender terms)) left right terms
 
 -- a receipt of sender 1's message of an interval, over a channel with these delays
 abbrev pub delayed : ℕ → ℕ → ℕ → ℕ → Request
@@ -119,20 +119,20 @@ abbrev pub hear : ℕ → ℕ → ℕ → List ℕ → Request
 hear sender left right terms = get 0 0 (said sender left right terms)
 
 -- the same under other names, given as epoch words
-abbrev pub hearNamed : List ℕ → ℕ → ℕ → ℕ → List ℕ → Request
-hearNamed names sender left right terms = get 0 0 (messageWords sender names left right terms)
+abbrev pub hear_named : List ℕ → ℕ → ℕ → ℕ → List ℕ → Request
+hear_named names sender left right terms = get 0 0 (message_words sender names left right terms)
 
 -- sender 1 mended, under epoch 1
 abbrev pub mended : ℕ → ℕ → Request
-mended left right = hearNamed (name 1 1 ∷ []) 1 left right []
+mended left right = hear_named (name 1 1 ∷ []) 1 left right []
 
 -- the same with the sender's clock reading, the own one, a half width and the sender's drift
 abbrev pub tick : ℕ → ℕ → ℕ → List ℕ → Triple → ℕ → Request
-tick sender left right terms t drift = receipt (receiptWith 0 0 (With t drift) (bytes_of (said sender left right terms)))
+tick sender left right terms t drift = receipt (receipt_with 0 0 (With t drift) (bytes_of (said sender left right terms)))
 
 -- and under another name
-abbrev pub tickNamed : List ℕ → ℕ → ℕ → ℕ → List ℕ → Triple → ℕ → Request
-tickNamed names sender left right terms t drift = receipt (receiptWith 0 0 (With t drift) (bytes_of (messageWords sender names left right terms)))
+abbrev pub tick_named : List ℕ → ℕ → ℕ → ℕ → List ℕ → Triple → ℕ → Request
+tick_named names sender left right terms t drift = receipt (receipt_with 0 0 (With t drift) (bytes_of (message_words sender names left right terms)))
 
 -- [0,10] from sender 1 with these readings and no drift
 abbrev pub one : ℕ → ℕ → ℕ → Request
@@ -147,64 +147,64 @@ abbrev pub whole : ℕ → ℕ → List ℕ → Datum
 whole left right terms = datum (left * million) (right * million) terms
 
 -- the requests of the listing, up to its first message, its ageing and its second message
-abbrev pub listingFirst : List Request
-listingFirst = get 0 50 (536870913 ∷ 1 ∷ 1073741824 ∷ 1074741824 ∷ 1610612736 ∷ 1611612936 ∷ 3760096586 ∷ []) ∷ []
+abbrev pub listing_first : List Request
+listing_first = get 0 50 (536870913 ∷ 1 ∷ 1073741824 ∷ 1074741824 ∷ 1610612736 ∷ 1611612936 ∷ 3760096586 ∷ []) ∷ []
 
-abbrev pub listingAged : List Request
-listingAged = listingFirst ++ (ageing 2_000_000 ∷ [])
+abbrev pub listing_aged : List Request
+listing_aged = listing_first ++ (ageing 2_000_000 ∷ [])
 
-abbrev pub listingSecond : List Request
-listingSecond = listingAged ++ (get 0 0 (536870914 ∷ 2 ∷ 1073741824 ∷ 1076742824 ∷ 1610612736 ∷ 1613613736 ∷ 3764098388 ∷ []) ∷ [])
+abbrev pub listing_second : List Request
+listing_second = listing_aged ++ (get 0 0 (536870914 ∷ 2 ∷ 1073741824 ∷ 1076742824 ∷ 1610612736 ∷ 1613613736 ∷ 3764098388 ∷ []) ∷ [])
 
 -- the terms {6} to {13}
-abbrev pub eightTerms : List ℕ
-eightTerms = 2 ^ 6 ∷ 2 ^ 7 ∷ 2 ^ 8 ∷ 2 ^ 9 ∷ 2 ^ 10 ∷ 2 ^ 11 ∷ 2 ^ 12 ∷ 2 ^ 13 ∷ []
+abbrev pub eight_terms : List ℕ
+eight_terms = 2 ^ 6 ∷ 2 ^ 7 ∷ 2 ^ 8 ∷ 2 ^ 9 ∷ 2 ^ 10 ∷ 2 ^ 11 ∷ 2 ^ 12 ∷ 2 ^ 13 ∷ []
 
 -- document 02, W-206. Receipts after sender 1 was mended: one of sender 2 comes twice, and again with readings; those of the older name of 1 are not
 -- heeded. And the same the other way round
-abbrev pub oneOrder : List Request
-oneOrder =
+abbrev pub one_order : List Request
+one_order =
     hear 2 0 20 [] ∷ hear 2 0 20 [] ∷ tick 2 3 20 [] (triple 0 0 0) 0 ∷ one 0 0 0 ∷ one 10 10 0 ∷ tick 3 0 9 [] (triple 5 5 0) 0 ∷ []
 
-abbrev pub otherOrder : List Request
-otherOrder = reverse oneOrder
+abbrev pub other_order : List Request
+other_order = reverse one_order
 
 -- what is held after either
-abbrev pub heldOne : List Datum
-heldOne = whole 0 10 (2 ^ 1 ∷ []) ∷ whole 3 20 (2 ^ 2 ∷ []) ∷ whole 0 9 (2 ^ 3 ∷ []) ∷ []
+abbrev pub held_one : List Datum
+held_one = whole 0 10 (2 ^ 1 ∷ []) ∷ whole 3 20 (2 ^ 2 ∷ []) ∷ whole 0 9 (2 ^ 3 ∷ []) ∷ []
 
-abbrev pub heldOther : List Datum
-heldOther = whole 0 10 (2 ^ 1 ∷ []) ∷ whole 0 9 (2 ^ 3 ∷ []) ∷ whole 3 20 (2 ^ 2 ∷ []) ∷ []
+abbrev pub held_other : List Datum
+held_other = whole 0 10 (2 ^ 1 ∷ []) ∷ whole 0 9 (2 ^ 3 ∷ []) ∷ whole 3 20 (2 ^ 2 ∷ []) ∷ []
 
 -- the first n senders, each without terms, all overlapping
 abbrev pub overlapping : ℕ → List Request
 overlapping n = tab n (λ sender. hear sender 0 10 [])
 
 -- senders 1 to 8, each apart from all others
-abbrev pub eightApart : List Request
-eightApart = tab 8 (λ i. hear (i + 1) (i * 10) (i * 10 + 1) [])
+abbrev pub eight_apart : List Request
+eight_apart = tab 8 (λ i. hear (i + 1) (i * 10) (i * 10 + 1) [])
 
 -- three gateways give readings of clocks that agree; then the host counts all readings from a beginning that is 1,000 later
 abbrev pub started : List Request
 started = tick 1 0 10 [] (triple 2_000 2_000 1) 0 ∷ tick 2 0 10 [] (triple 2_000 2_000 1) 0 ∷ tick 3 0 10 [] (triple 2_000 2_000 1) 0 ∷ []
 
-abbrev pub begunAnew : List Request
-begunAnew = tick 1 0 10 [] (triple 1_010 1_010 1) 0 ∷ tick 2 0 10 [] (triple 1_010 1_010 1) 0 ∷ tick 3 0 10 [] (triple 1_010 1_010 1) 0 ∷ []
+abbrev pub begun_anew : List Request
+begun_anew = tick 1 0 10 [] (triple 1_010 1_010 1) 0 ∷ tick 2 0 10 [] (triple 1_010 1_010 1) 0 ∷ tick 3 0 10 [] (triple 1_010 1_010 1) 0 ∷ []
 
-unfoldable pub orderCases : List Case
-orderCases =
-    given (steady 5) (mended 0 10 ∷ oneOrder) (holding heldOne)
-    ∷ given (steady 5) (mended 0 10 ∷ otherOrder) (holding heldOther)
-    ∷ given (steady 5) (mended 0 10 ∷ oneOrder) (asking 0 (Between 3 9))
-    ∷ given (steady 5) (mended 0 10 ∷ otherOrder) (asking 0 (Between 3 9))
+unfoldable pub order_cases : List Case
+order_cases =
+    given (steady 5) (mended 0 10 ∷ one_order) (holding held_one)
+    ∷ given (steady 5) (mended 0 10 ∷ other_order) (holding held_other)
+    ∷ given (steady 5) (mended 0 10 ∷ one_order) (asking 0 (Between 3 9))
+    ∷ given (steady 5) (mended 0 10 ∷ other_order) (asking 0 (Between 3 9))
     -- the readings of one sender have to keep their order: these are quiet, and in the other order the later one violates the test
     ∷ given (steady 5) (one 0 0 0 ∷ one 10 10 0 ∷ []) (asking 0 (Between 0 10))
     ∷ given (steady 5) (one 10 10 0 ∷ one 0 0 0 ∷ []) (asking 0 Contradicted)
     ∷ []
 
 -- document 02, W-201: what test (20) is made of
-unfoldable pub clockCases : List Case
-clockCases =
+unfoldable pub clock_cases : List Case
+clock_cases =
     -- own drift 100 and the sender's 300: at the bound, and one past it
     given (usual 5) (tick 1 0 10 [] (triple 0 0 0) 300 ∷ tick 1 0 10 [] (triple 2500 2501 0) 300 ∷ []) (knowing [])
     ∷ given (usual 5) (tick 1 0 10 [] (triple 0 0 0) 300 ∷ tick 1 0 10 [] (triple 2499 2500 0) 300 ∷ []) (knowing ((2 ^ 1 ∷ []) ∷ []))
@@ -223,26 +223,26 @@ clockCases =
     ∷ given (steady 5) (one 0 10 0 ∷ one 20 20 10 ∷ []) (knowing [])
     ∷ given (steady 5) (one 0 10 0 ∷ one 20 20 10 ∷ one 45 40 1 ∷ []) (knowing ((2 ^ 1 ∷ []) ∷ []))
     -- three gateways whose readings are counted from a later beginning, all at once: each clock seems to have jumped
-    ∷ given (steady 5) (started ++ begunAnew) (knowing ((2 ^ 1 ∷ []) ∷ (2 ^ 2 ∷ []) ∷ (2 ^ 3 ∷ []) ∷ []))
-    ∷ given (steady 5) (started ++ begunAnew) (asking 0 Contradicted)
-    ∷ given (steady 5) (started ++ begunAnew) (asking 1 Contradicted)
+    ∷ given (steady 5) (started ++ begun_anew) (knowing ((2 ^ 1 ∷ []) ∷ (2 ^ 2 ∷ []) ∷ (2 ^ 3 ∷ []) ∷ []))
+    ∷ given (steady 5) (started ++ begun_anew) (asking 0 Contradicted)
+    ∷ given (steady 5) (started ++ begun_anew) (asking 1 Contradicted)
     -- a sender's clock that starts again at 0 is blamed, unless it comes back under a new epoch
     ∷ given (steady 5) (one 1_000 1_000 0 ∷ one 0 1_010 0 ∷ []) (asking 0 Contradicted)
-    ∷ given (steady 5) (one 1_000 1_000 0 ∷ tickNamed (name 1 1 ∷ []) 1 0 10 [] (triple 0 1_010 0) 0 ∷ []) (asking 0 (Between 0 10))
+    ∷ given (steady 5) (one 1_000 1_000 0 ∷ tick_named (name 1 1 ∷ []) 1 0 10 [] (triple 0 1_010 0) 0 ∷ []) (asking 0 (Between 0 10))
     ∷ []
 
 -- a limit of each kind, on both sides
-unfoldable pub limitCases : List Case
-limitCases =
+unfoldable pub limit_cases : List Case
+limit_cases =
     -- "1 own name above 28"; "41 own epoch above 15"; "2 drift above 1,000"; "3 reading 2^58 or more (also in ageing)"
-    given (usual 5) [] (settingUp (setup 28 0 0 0) 0)
-    ∷ given (usual 5) [] (settingUp (setup 29 0 0 0) 1)
-    ∷ given (usual 5) [] (settingUp (setup 5 0 0 15) 0)
-    ∷ given (usual 5) [] (settingUp (setup 5 0 0 16) 41)
-    ∷ given (usual 5) [] (settingUp (setup 5 1_000 0 0) 0)
-    ∷ given (usual 5) [] (settingUp (setup 5 1_001 0 0) 2)
-    ∷ given (usual 5) [] (settingUp (setup 5 0 (2 ^ 58 - 1) 0) 0)
-    ∷ given (usual 5) [] (settingUp (setup 5 0 (2 ^ 58) 0) 3)
+    given (usual 5) [] (setting_up (setup 28 0 0 0) 0)
+    ∷ given (usual 5) [] (setting_up (setup 29 0 0 0) 1)
+    ∷ given (usual 5) [] (setting_up (setup 5 0 0 15) 0)
+    ∷ given (usual 5) [] (setting_up (setup 5 0 0 16) 41)
+    ∷ given (usual 5) [] (setting_up (setup 5 1_000 0 0) 0)
+    ∷ given (usual 5) [] (setting_up (setup 5 1_001 0 0) 2)
+    ∷ given (usual 5) [] (setting_up (setup 5 0 (2 ^ 58 - 1) 0) 0)
+    ∷ given (usual 5) [] (setting_up (setup 5 0 (2 ^ 58) 0) 3)
     ∷ given (usual 5) [] (returning (ageing (2 ^ 58 - 1)) 0)
     ∷ given (usual 5) [] (returning (ageing (2 ^ 58)) 3)
     -- "sender above 28"
@@ -258,12 +258,12 @@ limitCases =
     ∷ given (usual 28) (overlapping 15) (returning (hear 15 0 10 []) 0)
     ∷ given (usual 28) (overlapping 16) (returning (hear 16 0 10 []) 32)
     -- "and 32 entries": eight data apart make 28; a ninth that is apart from four of them makes 32, one that is apart from five 33
-    ∷ given (usual 28) eightApart (returning (hear 9 40 80 []) 0)
-    ∷ given (usual 28) eightApart (returning (hear 9 50 80 []) 32)
+    ∷ given (usual 28) eight_apart (returning (hear 9 40 80 []) 0)
+    ∷ given (usual 28) eight_apart (returning (hear 9 50 80 []) 32)
     -- "a datum has 1 to 8 terms": with the sender eight, and nine; nine in the message
-    ∷ given (usual 5) [] (returning (hear 6 0 10 eightTerms) 0)
-    ∷ given (usual 5) [] (returning (hear 2 0 10 eightTerms) 31)
-    ∷ given (usual 5) [] (returning (hear 6 0 10 (eightTerms ++ (2 ^ 14 ∷ []))) 12)
+    ∷ given (usual 5) [] (returning (hear 6 0 10 eight_terms) 0)
+    ∷ given (usual 5) [] (returning (hear 2 0 10 eight_terms) 31)
+    ∷ given (usual 5) [] (returning (hear 6 0 10 (eight_terms ++ (2 ^ 14 ∷ []))) 12)
     -- "30 an end would pass 2^58 − 1"
     ∷ given (steady 5) [] (returning (delayed 0 1 0 (2 ^ 58 - 2)) 0)
     ∷ given (steady 5) [] (returning (delayed 0 1 0 (2 ^ 58 - 1)) 30)
@@ -273,9 +273,9 @@ limitCases =
 unfoldable pub cases : List Case
 cases =
     -- those of W-206, which the example in `specs.Example` needs by themselves, and then all others
-    orderCases
-    ++ clockCases
-    ++ limitCases
+    order_cases
+    ++ clock_cases
+    ++ limit_cases
     -- "no data: open for limits 0 and 4. Limit 5: 22."
     ++ given (usual 5) [] (asking 0 Open)
     ∷ given (usual 5) [] (asking 4 Open)
@@ -310,12 +310,12 @@ cases =
     ∷ given (usual 5) (hear 1 0 10 [] ∷ ageing 0 ∷ []) (holding (whole 0 10 (2 ^ 1 ∷ []) ∷ []))
     -- the listing (its `fewest` is not here: `ones` takes as many steps as the mask is large). Document 02, W-202: "with delays 0 and 50 its
     -- first two answers end at 1000251 and 3000451"
-    ∷ given (usual 5) listingFirst (asking 0 (Between 1_000_000 1_000_251))
-    ∷ given (usual 5) listingAged (asking 0 (Between 2_999_800 3_000_451))
+    ∷ given (usual 5) listing_first (asking 0 (Between 1_000_000 1_000_251))
+    ∷ given (usual 5) listing_aged (asking 0 (Between 2_999_800 3_000_451))
     -- "contradicted", "between 2999800 3001000", "open"
-    ∷ given (usual 5) listingSecond (asking 0 Contradicted)
-    ∷ given (usual 5) listingSecond (asking 1 (Between 2_999_800 3_001_000))
-    ∷ given (usual 5) listingSecond (asking 2 Open)
+    ∷ given (usual 5) listing_second (asking 0 Contradicted)
+    ∷ given (usual 5) listing_second (asking 1 (Between 2_999_800 3_001_000))
+    ∷ given (usual 5) listing_second (asking 2 Open)
     -- document 02, W-201. A test exactly at the bound, 2 > 2: no violation
     ∷ given (steady 5) (one 0 0 1 ∷ one 100 102 1 ∷ []) (asking 0 (Between 0 10))
     ∷ given (steady 5) (one 0 0 1 ∷ one 100 102 1 ∷ []) (remembering 1 (three (triple 100 102 1) (triple 0 0 1) (triple 100 102 1)))
@@ -362,32 +362,32 @@ cases =
     ∷ given (usual 5) (hear 1 0 10 [] ∷ hear 2 20 30 [] ∷ mended 22 40 ∷ []) (holding (whole 20 30 (2 ^ 2 ∷ []) ∷ whole 22 40 (2 ^ 1 ∷ []) ∷ []))
     ∷ given (usual 5) (mended 22 40 ∷ hear 1 0 10 [] ∷ hear 2 20 30 [] ∷ []) (asking 0 (Between 22 30))
     -- its epoch is heard in a term, in a term that is struck, and from an old sender
-    ∷ given (usual 5) (hear 1 0 10 [] ∷ hearNamed (name 1 1 ∷ name 2 0 ∷ []) 2 0 5 (2 ^ 1 ∷ []) ∷ []) (holding (whole 0 5 (2 ^ 1 ∷ 2 ^ 2 ∷ []) ∷ []))
-    ∷ given (usual 5) (hear 1 0 10 [] ∷ hearNamed (name 1 1 ∷ name 2 0 ∷ name 5 0 ∷ []) 2 0 5 ((2 ^ 1 + 2 ^ 5) ∷ []) ∷ []) (holding (whole 0 5 (2 ^ 2 ∷ []) ∷ []))
-    ∷ given (usual 5) (mended 0 10 ∷ hear 3 0 9 [] ∷ hearNamed (name 1 0 ∷ name 3 1 ∷ []) 1 0 5 (2 ^ 3 ∷ []) ∷ []) (holding (whole 0 10 (2 ^ 1 ∷ []) ∷ []))
+    ∷ given (usual 5) (hear 1 0 10 [] ∷ hear_named (name 1 1 ∷ name 2 0 ∷ []) 2 0 5 (2 ^ 1 ∷ []) ∷ []) (holding (whole 0 5 (2 ^ 1 ∷ 2 ^ 2 ∷ []) ∷ []))
+    ∷ given (usual 5) (hear 1 0 10 [] ∷ hear_named (name 1 1 ∷ name 2 0 ∷ name 5 0 ∷ []) 2 0 5 ((2 ^ 1 + 2 ^ 5) ∷ []) ∷ []) (holding (whole 0 5 (2 ^ 2 ∷ []) ∷ []))
+    ∷ given (usual 5) (mended 0 10 ∷ hear 3 0 9 [] ∷ hear_named (name 1 0 ∷ name 3 1 ∷ []) 1 0 5 (2 ^ 3 ∷ []) ∷ []) (holding (whole 0 10 (2 ^ 1 ∷ []) ∷ []))
     -- a late name in a term counts as failed; alone in it, it makes the predicate true
     ∷ given (usual 5) (mended 0 10 ∷ hear 2 0 9 ((2 ^ 1 + 2 ^ 3) ∷ []) ∷ []) (holding (whole 0 10 (2 ^ 1 ∷ []) ∷ whole 0 9 (2 ^ 2 ∷ 2 ^ 3 ∷ []) ∷ []))
     ∷ given (usual 5) (mended 0 10 ∷ hear 2 0 9 (2 ^ 1 ∷ []) ∷ []) (holding (whole 0 10 (2 ^ 1 ∷ []) ∷ []))
     -- two data of one predicate are not merged, and one that an entry implies stays
-    ∷ given (usual 5) (hear 2 0 9 ((2 ^ 1 + 2 ^ 3) ∷ []) ∷ hear 2 3 20 (2 ^ 3 ∷ []) ∷ hearNamed (name 1 1 ∷ []) 1 0 30 [] ∷ [])
+    ∷ given (usual 5) (hear 2 0 9 ((2 ^ 1 + 2 ^ 3) ∷ []) ∷ hear 2 3 20 (2 ^ 3 ∷ []) ∷ hear_named (name 1 1 ∷ []) 1 0 30 [] ∷ [])
     (holding (whole 0 9 (2 ^ 2 ∷ 2 ^ 3 ∷ []) ∷ whole 3 20 (2 ^ 2 ∷ 2 ^ 3 ∷ []) ∷ whole 0 30 (2 ^ 1 ∷ []) ∷ []))
-    ∷ given (usual 5) (hear 2 0 9 ((2 ^ 1 + 2 ^ 3) ∷ []) ∷ hear 3 0 1 [] ∷ hear 3 5 6 [] ∷ hearNamed (name 1 1 ∷ []) 1 0 30 (0 ∷ []) ∷ [])
+    ∷ given (usual 5) (hear 2 0 9 ((2 ^ 1 + 2 ^ 3) ∷ []) ∷ hear 3 0 1 [] ∷ hear 3 5 6 [] ∷ hear_named (name 1 1 ∷ []) 1 0 30 (0 ∷ []) ∷ [])
     (holding (whole 0 9 (2 ^ 2 ∷ 2 ^ 3 ∷ []) ∷ []))
     -- a violation's entry goes with the name, and so do its triples; an older name's readings are not heeded
     ∷ given (steady 5) (one 0 0 1 ∷ one 100 103 1 ∷ mended 0 10 ∷ []) (knowing [])
     ∷ given (steady 5) (one 0 0 1 ∷ one 100 103 1 ∷ mended 0 10 ∷ []) (remembering 1 nothing)
-    ∷ given (steady 5) (one 0 0 1 ∷ tickNamed (name 1 1 ∷ []) 1 0 10 [] (triple 100 500 1) 0 ∷ [])
+    ∷ given (steady 5) (one 0 0 1 ∷ tick_named (name 1 1 ∷ []) 1 0 10 [] (triple 100 500 1) 0 ∷ [])
     (remembering 1 (three (triple 100 500 1) (triple 100 500 1) (triple 100 500 1)))
-    ∷ given (steady 5) (tickNamed (name 1 1 ∷ []) 1 0 10 [] (triple 0 0 1) 0 ∷ one 100 500 1 ∷ [])
+    ∷ given (steady 5) (tick_named (name 1 1 ∷ []) 1 0 10 [] (triple 0 0 1) 0 ∷ one 100 500 1 ∷ [])
     (remembering 1 (three (triple 0 0 1) (triple 0 0 1) (triple 0 0 1)))
     -- "a message never changes the own epoch", and 18 comes under any
-    ∷ given (renewed 5) (hearNamed (name 1 0 ∷ name 2 0 ∷ name 5 9 ∷ []) 1 0 10 ((2 ^ 2 + 2 ^ 5) ∷ []) ∷ []) (dating 5 2)
-    ∷ given (renewed 5) (hearNamed (name 1 0 ∷ name 2 0 ∷ name 5 9 ∷ []) 1 0 10 ((2 ^ 2 + 2 ^ 5) ∷ []) ∷ []) (holding (whole 0 10 (2 ^ 1 ∷ []) ∷ []))
-    ∷ given (renewed 5) [] (returning (hearNamed (name 5 9 ∷ []) 5 0 10 []) 18)
+    ∷ given (renewed 5) (hear_named (name 1 0 ∷ name 2 0 ∷ name 5 9 ∷ []) 1 0 10 ((2 ^ 2 + 2 ^ 5) ∷ []) ∷ []) (dating 5 2)
+    ∷ given (renewed 5) (hear_named (name 1 0 ∷ name 2 0 ∷ name 5 9 ∷ []) 1 0 10 ((2 ^ 2 + 2 ^ 5) ∷ []) ∷ []) (holding (whole 0 10 (2 ^ 1 ∷ []) ∷ []))
+    ∷ given (renewed 5) [] (returning (hear_named (name 5 9 ∷ []) 5 0 10 []) 18)
     ∷ given (usual 5) (mended 0 10 ∷ []) (dating 1 1)
     -- 31 counts after late names have left: nine terms, and with 6 old none but the empty one
-    ∷ given (usual 5) [] (returning (hear 2 0 10 eightTerms) 31)
-    ∷ given (usual 5) (hearNamed (name 6 1 ∷ []) 6 0 5 [] ∷ []) (returning (hear 2 0 10 eightTerms) 0)
+    ∷ given (usual 5) [] (returning (hear 2 0 10 eight_terms) 31)
+    ∷ given (usual 5) (hear_named (name 6 1 ∷ []) 6 0 5 [] ∷ []) (returning (hear 2 0 10 eight_terms) 0)
     -- document 02, W-205. A right end of 11.0001: a new left end of 11 meets it, and one of 12 does not
     ∷ given (usual 5) (hear 1 0 10 [] ∷ ageing 1 ∷ hear 2 11 20 [] ∷ []) (knowing [])
     ∷ given (usual 5) (hear 1 0 10 [] ∷ ageing 1 ∷ hear 2 11 20 [] ∷ []) (asking 0 (Between 11 12))
@@ -408,7 +408,7 @@ cases =
 
 -- "The cases marked P are proved together, as one table with a common statement": each row holds of the exported calls, in every buffer that has room
 unfoldable pub EachCase : Type 0
-EachCase = (c : Case) → In c cases → (buffer : List ℕ) → stateSize ≤ length buffer → CaseComes c buffer
+EachCase = (c : Case) → In c cases → (buffer : List ℕ) → state_size ≤ length buffer → CaseComes c buffer
 
 -- ---- rows on a state whose bytes are lent as they stand
 
@@ -419,31 +419,31 @@ pub record Lent : Type 0 where
 
 -- the state is right, every request on its bytes is taken, and then what must come comes
 pub record LentComes (c : Lent) (rest : List ℕ) : Type 0 where
-  pub right : T (stateOk c.state)
-  pub taken : T (all (λ (p : Step). eqb p.number 0) (steps (stateBytes c.state ++ rest) c.requests))
-  pub comes : Comes (bytesRun (stateBytes c.state ++ rest) c.requests) c.question
+  pub right : T (state_ok c.state)
+  pub taken : T (all (λ (p : Step). eqb p.number 0) (steps (state_bytes c.state ++ rest) c.requests))
+  pub comes : Comes (bytes_run (state_bytes c.state ++ rest) c.requests) c.question
 
 -- a monitor 5 without drift that holds these data
-abbrev pub lentHolding : List Datum → List Request → Question → Lent
-lentHolding ds qs q = record { state = record { head = (setUp (steady 5)).head; store = record { held = ds; entries = [] } }; requests = qs; question = q }
+abbrev pub lent_holding : List Datum → List Request → Question → Lent
+lent_holding ds qs q = record { state = record { head = (set_up (steady 5)).head; store = record { held = ds; entries = [] } }; requests = qs; question = q }
 
 -- document 02, W-205: ends that only their millionths tell apart
 unfoldable pub fractions : List Lent
 fractions =
     -- [5.2,5.4] under 1 and [5.5,5.6] under 2 lie within one microsecond and have no instant in common
-    lentHolding (datum 5_200_000 5_400_000 (2 ^ 1 ∷ []) ∷ datum 5_500_000 5_600_000 (2 ^ 2 ∷ []) ∷ []) [] (asking 0 Contradicted)
-    ∷ lentHolding (datum 5_200_000 5_400_000 (2 ^ 1 ∷ []) ∷ datum 5_500_000 5_600_000 (2 ^ 2 ∷ []) ∷ []) [] (asking 1 (Between 5 6))
+    lent_holding (datum 5_200_000 5_400_000 (2 ^ 1 ∷ []) ∷ datum 5_500_000 5_600_000 (2 ^ 2 ∷ []) ∷ []) [] (asking 0 Contradicted)
+    ∷ lent_holding (datum 5_200_000 5_400_000 (2 ^ 1 ∷ []) ∷ datum 5_500_000 5_600_000 (2 ^ 2 ∷ []) ∷ []) [] (asking 1 (Between 5 6))
     -- [5.2,5.4] and [5.3,5.6] have
-    ∷ lentHolding (datum 5_200_000 5_400_000 (2 ^ 1 ∷ []) ∷ datum 5_300_000 5_600_000 (2 ^ 2 ∷ []) ∷ []) [] (asking 0 (Between 5 6))
+    ∷ lent_holding (datum 5_200_000 5_400_000 (2 ^ 1 ∷ []) ∷ datum 5_300_000 5_600_000 (2 ^ 2 ∷ []) ∷ []) [] (asking 0 (Between 5 6))
     -- an answer without millionths does not round
-    ∷ lentHolding (datum 5_200_000 7_000_000 (2 ^ 1 ∷ []) ∷ datum 6_000_000 9_100_000 (2 ^ 2 ∷ []) ∷ []) [] (asking 0 (Between 6 7))
+    ∷ lent_holding (datum 5_200_000 7_000_000 (2 ^ 1 ∷ []) ∷ datum 6_000_000 9_100_000 (2 ^ 2 ∷ []) ∷ []) [] (asking 0 (Between 6 7))
     -- rule 15: [5.2,5.9] and [5,6] under 1 give [5.2,5.9]
-    ∷ lentHolding (datum 5_200_000 5_900_000 (2 ^ 1 ∷ []) ∷ []) (hear 1 5 6 [] ∷ []) (holding (datum 5_200_000 5_900_000 (2 ^ 1 ∷ []) ∷ []))
+    ∷ lent_holding (datum 5_200_000 5_900_000 (2 ^ 1 ∷ []) ∷ []) (hear 1 5 6 [] ∷ []) (holding (datum 5_200_000 5_900_000 (2 ^ 1 ∷ []) ∷ []))
     -- rule 14: a new [5,9] under 1 does not lie within the held [5.2,9] under 1+2, so both stay
-    ∷ lentHolding (datum 5_200_000 9_000_000 (2 ^ 1 ∷ 2 ^ 2 ∷ []) ∷ []) (hear 1 5 9 [] ∷ [])
+    ∷ lent_holding (datum 5_200_000 9_000_000 (2 ^ 1 ∷ 2 ^ 2 ∷ []) ∷ []) (hear 1 5 9 [] ∷ [])
     (holding (datum 5_200_000 9_000_000 (2 ^ 1 ∷ 2 ^ 2 ∷ []) ∷ whole 5 9 (2 ^ 1 ∷ []) ∷ []))
     -- but within a held [5,9.1] it does, and that goes
-    ∷ lentHolding (datum 5_000_000 9_100_000 (2 ^ 1 ∷ 2 ^ 2 ∷ []) ∷ []) (hear 1 5 9 [] ∷ []) (holding (whole 5 9 (2 ^ 1 ∷ []) ∷ []))
+    ∷ lent_holding (datum 5_000_000 9_100_000 (2 ^ 1 ∷ 2 ^ 2 ∷ []) ∷ []) (hear 1 5 9 [] ∷ []) (holding (whole 5 9 (2 ^ 1 ∷ []) ∷ []))
     ∷ []
 
 -- each row holds, whatever stands behind the state

@@ -3,78 +3,78 @@
 -- what its proof shows. A further call is a further line in each of the definitions over `Exported`. Assumes nothing: these are definitions.
 use Rattle.std.specs.Prelude.{ℕ, ◌+◌, ◌*◌, ◌%◌, ◌≤◌, ◌≡◌, Bool, false, not, cond, ◌||◌, List, [], ◌∷◌, ◌++◌, map, length, get_or, take, drop, T, ltb, leb, eqb}
 use Rattle.numbers.specs.Numbers.{Bytes, num, words_of}
-use Rattle.predicates.specs.Predicates.{isTrue, isNormal}
-use Rattle.epochs.specs.Epochs.{NotAbove, epochsIn}
-use Rattle.message.specs.Words.{payload, masks, endsLimit}
-use Rattle.message.specs.Read.{termCount, headWordFits, isEnds, opens, start, middle, kindsFit, checkFits, pair}
+use Rattle.predicates.specs.Predicates.{is_true, is_normal}
+use Rattle.epochs.specs.Epochs.{NotAbove, epochs_in}
+use Rattle.message.specs.Words.{payload, masks, ends_limit}
+use Rattle.message.specs.Read.{term_count, head_word_fits, is_ends, opens, start, middle, kinds_fit, check_fits, pair}
 use Rattle.radio.specs.Names.{wanted, names_of}
-use Rattle.radio.specs.Read.{wordsLeast, wordsMost, epochCount, opening, epochWordsFit}
+use Rattle.radio.specs.Read.{words_least, words_most, epoch_count, opening, epoch_words_fit}
 use Rattle.clocks.specs.declared.Triple.{Triple}
 use Rattle.clocks.specs.declared.Readings.TheVariants.{Without, With}
 use Rattle.clocks.specs.Clocks.{fails}
 use Rattle.state.specs.Model.{State}
-use Rattle.state.specs.Layout.{stateSize, own_at, held_at, entries_at, clocksAt, epochsAt, head_of, state_of, datumAt}
-use Rattle.state.specs.Form.{inForm}
+use Rattle.state.specs.Layout.{state_size, own_at, held_at, entries_at, clocks_at, epochs_at, head_of, state_of, datum_at}
+use Rattle.state.specs.Form.{in_form}
 use Rattle.state.specs.Refusal.{refuse}
 use Rattle.engine.specs.Receiving.{Delivery}
-use Rattle.engine.specs.Hearing.{spokenBy, arrived}
+use Rattle.engine.specs.Hearing.{spoken_by, arrived}
 use Rattle.engine.specs.Calls.{Setup}
-use Rattle.engine.specs.Refusals.{ownFails, epochFails, driftFails, readingFails, goesBack, agesPast, delaysFail, fromSelf, growsPast, termsFail, overfills}
-use Rattle.monitor.specs.Messages.{readNumber, readOutput, rewriteNumber, rewriteOutput}
-use Rattle.monitor.specs.Calls.{setUpNumber, setUpState, ageNumber, ageState, noDatumAt, writeNumber, writeOutput}
-use Rattle.monitor.specs.Receive.{Receipt, receiptOf, receiptWith, Delivered, refused, brings, delivered, receiveNumber, receiveState}
-use Rattle.monitor.specs.Ask.{limitFails, askNumber, askOutput, fewestNumber, fewestOutput}
+use Rattle.engine.specs.Refusals.{own_fails, epoch_fails, drift_fails, reading_fails, goes_back, ages_past, delays_fail, from_self, grows_past, terms_fail, overfills}
+use Rattle.monitor.specs.Messages.{read_number, read_output, rewrite_number, rewrite_output}
+use Rattle.monitor.specs.Calls.{set_up_number, set_up_state, age_number, age_state, no_datum_at, write_number, write_output}
+use Rattle.monitor.specs.Receive.{Receipt, receipt_of, receipt_with, Delivered, refused, brings, delivered, receive_number, receive_state}
+use Rattle.monitor.specs.Ask.{limit_fails, ask_number, ask_output, fewest_number, fewest_output}
 
 -- ---- the exported calls
 
 -- a call with what C hands in, in the parameters' order: numbers, bytes that are read, and the lent bytes that it may write: the state of the first
 -- four, the output of the others
 pub data Exported : Type 0 where
-  monitorSetUp : List ℕ → Setup → Exported
-  monitorAge : List ℕ → ℕ → Exported
-  monitorReceive : List ℕ → ℕ → ℕ → List ℕ → Exported
-  monitorReceiveWithReadings : List ℕ → ℕ → ℕ → Triple → ℕ → List ℕ → Exported
-  monitorAsk : List ℕ → ℕ → List ℕ → Exported
-  monitorFewest : List ℕ → List ℕ → Exported
-  monitorWrite : List ℕ → ℕ → List ℕ → Exported
-  messageRead : List ℕ → List ℕ → Exported
-  messageRewrite : List ℕ → List ℕ → Exported
+  monitor_set_up : List ℕ → Setup → Exported
+  monitor_age : List ℕ → ℕ → Exported
+  monitor_receive : List ℕ → ℕ → ℕ → List ℕ → Exported
+  monitor_receive_with_readings : List ℕ → ℕ → ℕ → Triple → ℕ → List ℕ → Exported
+  monitor_ask : List ℕ → ℕ → List ℕ → Exported
+  monitor_fewest : List ℕ → List ℕ → Exported
+  monitor_write : List ℕ → ℕ → List ℕ → Exported
+  message_read : List ℕ → List ℕ → Exported
+  message_rewrite : List ℕ → List ℕ → Exported
 
 -- the number that it returns, as its contract has it
 abbrev pub returned : Exported → ℕ
-returned (monitorSetUp s u) = setUpNumber s u
-returned (monitorAge s reading) = ageNumber s reading
-returned (monitorReceive s least greatest m) = receiveNumber s (receiptOf least greatest m)
-returned (monitorReceiveWithReadings s least greatest t drift m) = receiveNumber s (receiptWith least greatest (With t drift) m)
-returned (monitorAsk s limit out) = askNumber s limit out
-returned (monitorFewest s out) = fewestNumber s out
-returned (monitorWrite s position out) = writeNumber s position out
-returned (messageRead m out) = readNumber m out
-returned (messageRewrite m out) = rewriteNumber m out
+returned (monitor_set_up s u) = set_up_number s u
+returned (monitor_age s reading) = age_number s reading
+returned (monitor_receive s least greatest m) = receive_number s (receipt_of least greatest m)
+returned (monitor_receive_with_readings s least greatest t drift m) = receive_number s (receipt_with least greatest (With t drift) m)
+returned (monitor_ask s limit out) = ask_number s limit out
+returned (monitor_fewest s out) = fewest_number s out
+returned (monitor_write s position out) = write_number s position out
+returned (message_read m out) = read_number m out
+returned (message_rewrite m out) = rewrite_number m out
 
 -- the lent bytes as C hands them in
-unfoldable pub lentBytes : Exported → List ℕ
-lentBytes (monitorSetUp s u) = s
-lentBytes (monitorAge s reading) = s
-lentBytes (monitorReceive s least greatest m) = s
-lentBytes (monitorReceiveWithReadings s least greatest t drift m) = s
-lentBytes (monitorAsk s limit out) = out
-lentBytes (monitorFewest s out) = out
-lentBytes (monitorWrite s position out) = out
-lentBytes (messageRead m out) = out
-lentBytes (messageRewrite m out) = out
+unfoldable pub lent_bytes : Exported → List ℕ
+lent_bytes (monitor_set_up s u) = s
+lent_bytes (monitor_age s reading) = s
+lent_bytes (monitor_receive s least greatest m) = s
+lent_bytes (monitor_receive_with_readings s least greatest t drift m) = s
+lent_bytes (monitor_ask s limit out) = out
+lent_bytes (monitor_fewest s out) = out
+lent_bytes (monitor_write s position out) = out
+lent_bytes (message_read m out) = out
+lent_bytes (message_rewrite m out) = out
 
 -- and afterwards, as its contract has them
-abbrev pub leftBytes : Exported → List ℕ
-leftBytes (monitorSetUp s u) = setUpState s u
-leftBytes (monitorAge s reading) = ageState s reading
-leftBytes (monitorReceive s least greatest m) = receiveState s (receiptOf least greatest m)
-leftBytes (monitorReceiveWithReadings s least greatest t drift m) = receiveState s (receiptWith least greatest (With t drift) m)
-leftBytes (monitorAsk s limit out) = askOutput s limit out
-leftBytes (monitorFewest s out) = fewestOutput s out
-leftBytes (monitorWrite s position out) = writeOutput s position out
-leftBytes (messageRead m out) = readOutput m out
-leftBytes (messageRewrite m out) = rewriteOutput m out
+abbrev pub left_bytes : Exported → List ℕ
+left_bytes (monitor_set_up s u) = set_up_state s u
+left_bytes (monitor_age s reading) = age_state s reading
+left_bytes (monitor_receive s least greatest m) = receive_state s (receipt_of least greatest m)
+left_bytes (monitor_receive_with_readings s least greatest t drift m) = receive_state s (receipt_with least greatest (With t drift) m)
+left_bytes (monitor_ask s limit out) = ask_output s limit out
+left_bytes (monitor_fewest s out) = fewest_output s out
+left_bytes (monitor_write s position out) = write_output s position out
+left_bytes (message_read m out) = read_output m out
+left_bytes (message_rewrite m out) = rewrite_output m out
 
 -- ---- what is listed
 
@@ -82,16 +82,16 @@ leftBytes (messageRewrite m out) = rewriteOutput m out
 -- 12, 11, 13 to 18, 30, 31, 32; [..] Asking 24, 25, 22; fewest 24, 25. Where an output is lent, 24 for it comes last. Writing 24 (state), 25, 23, 24
 -- (output)." With readings 40 comes "after 21"; by document 02, W-204, 41 comes "after 1" and 42 "after 14"
 unfoldable pub listed : Exported → List ℕ
-listed (monitorSetUp s u) = 24 ∷ 1 ∷ 41 ∷ 2 ∷ 3 ∷ []
-listed (monitorAge s reading) = 24 ∷ 25 ∷ 3 ∷ 20 ∷ 30 ∷ []
-listed (monitorReceive s least greatest m) = 24 ∷ 25 ∷ 21 ∷ 10 ∷ 12 ∷ 11 ∷ 13 ∷ 14 ∷ 42 ∷ 15 ∷ 16 ∷ 17 ∷ 18 ∷ 30 ∷ 31 ∷ 32 ∷ []
-listed (monitorReceiveWithReadings s least greatest t drift m) =
+listed (monitor_set_up s u) = 24 ∷ 1 ∷ 41 ∷ 2 ∷ 3 ∷ []
+listed (monitor_age s reading) = 24 ∷ 25 ∷ 3 ∷ 20 ∷ 30 ∷ []
+listed (monitor_receive s least greatest m) = 24 ∷ 25 ∷ 21 ∷ 10 ∷ 12 ∷ 11 ∷ 13 ∷ 14 ∷ 42 ∷ 15 ∷ 16 ∷ 17 ∷ 18 ∷ 30 ∷ 31 ∷ 32 ∷ []
+listed (monitor_receive_with_readings s least greatest t drift m) =
     24 ∷ 25 ∷ 21 ∷ 40 ∷ 10 ∷ 12 ∷ 11 ∷ 13 ∷ 14 ∷ 42 ∷ 15 ∷ 16 ∷ 17 ∷ 18 ∷ 30 ∷ 31 ∷ 32 ∷ []
-listed (monitorAsk s limit out) = 24 ∷ 25 ∷ 22 ∷ 24 ∷ []
-listed (monitorFewest s out) = 24 ∷ 25 ∷ 24 ∷ []
-listed (monitorWrite s position out) = 24 ∷ 25 ∷ 23 ∷ 24 ∷ []
-listed (messageRead m out) = 10 ∷ 12 ∷ 11 ∷ 13 ∷ 14 ∷ 42 ∷ 15 ∷ 16 ∷ 17 ∷ 24 ∷ []
-listed (messageRewrite m out) = 10 ∷ 12 ∷ 11 ∷ 13 ∷ 14 ∷ 42 ∷ 15 ∷ 16 ∷ 17 ∷ 24 ∷ []
+listed (monitor_ask s limit out) = 24 ∷ 25 ∷ 22 ∷ 24 ∷ []
+listed (monitor_fewest s out) = 24 ∷ 25 ∷ 24 ∷ []
+listed (monitor_write s position out) = 24 ∷ 25 ∷ 23 ∷ 24 ∷ []
+listed (message_read m out) = 10 ∷ 12 ∷ 11 ∷ 13 ∷ 14 ∷ 42 ∷ 15 ∷ 16 ∷ 17 ∷ 24 ∷ []
+listed (message_rewrite m out) = 10 ∷ 12 ∷ 11 ∷ 13 ∷ 14 ∷ 42 ∷ 15 ∷ 16 ∷ 17 ∷ 24 ∷ []
 
 -- ---- the tests
 
@@ -104,33 +104,33 @@ abbrev pub test : Bool → ℕ → Test
 test fails number = record { fails = fails; number = number }
 
 -- the number of the first test that fails; 0 where none does
-unfoldable pub firstFailing : List Test → ℕ
-firstFailing [] = 0
-firstFailing (t ∷ ts) = refuse t.fails t.number (firstFailing ts)
+unfoldable pub first_failing : List Test → ℕ
+first_failing [] = 0
+first_failing (t ∷ ts) = refuse t.fails t.number (first_failing ts)
 
 -- "24 buffer too short": of n bytes
-abbrev pub tooShort : ℕ → List ℕ → Bool
-tooShort n buffer = ltb (length buffer) n
+abbrev pub too_short : ℕ → List ℕ → Bool
+too_short n buffer = ltb (length buffer) n
 
 -- a lent state: "24 buffer too short; 25 state out of form"
-abbrev pub stateTests : List ℕ → List Test
-stateTests s = test (tooShort stateSize s) 24 ∷ test (not (inForm s)) 25 ∷ []
+abbrev pub state_tests : List ℕ → List Test
+state_tests s = test (too_short state_size s) 24 ∷ test (not (in_form s)) 25 ∷ []
 
 -- 10: word count outside 6 to 43, and "a byte length that is not a multiple of 4 is number 10"
-unfoldable pub wordsFail : List ℕ → Bool
-wordsFail m = not (eqb (length m % 4) 0) || (ltb (length (words_of m)) wordsLeast || ltb wordsMost (length (words_of m)))
+unfoldable pub words_fail : List ℕ → Bool
+words_fail m = not (eqb (length m % 4) 0) || (ltb (length (words_of m)) words_least || ltb words_most (length (words_of m)))
 
 -- 13: "word count not that of head and form"; it "counts" the epoch words
-unfoldable pub countFails : List ℕ → Bool
-countFails ws = not (eqb (length ws) (start (opening ws) (isEnds (opening ws) ws) + termCount (get_or ws 0 0) + 1))
+unfoldable pub count_fails : List ℕ → Bool
+count_fails ws = not (eqb (length ws) (start (opening ws) (is_ends (opening ws) ws) + term_count (get_or ws 0 0) + 1))
 
 -- 16: "left above right, or an end below 0 or above 2^58 − 1". In ends form the two words of an end never pass that; in centre form the ends are
 -- "centre less and plus half width"
-unfoldable pub endsFail : List ℕ → Bool
-endsFail ws =
+unfoldable pub ends_fail : List ℕ → Bool
+ends_fail ws =
     let at = opening ws in
     let half = payload (get_or ws (at + 2) 0) in
-    cond (isEnds at ws) (ltb (pair ws (at + 2)) (pair ws at)) (ltb (pair ws at) half || leb endsLimit (pair ws at + half))
+    cond (is_ends at ws) (ltb (pair ws (at + 2)) (pair ws at)) (ltb (pair ws at) half || leb ends_limit (pair ws at + half))
 
 -- the words of a message: "10 word count outside" 6 to 43; "11 second word neither kind 2 nor 4", which is the one behind the epoch words; 12 head not of kind 1, sender above 28, term count
 -- above 8 or bits 10–28 not zero; 13 word count not that of head and form; 14 a later word of the wrong kind; 15 check word; 16 left above right, or
@@ -278,9 +278,9 @@ ClocksStay =
 -- a receipt leaves the own epoch: "a message never changes the own epoch"
 unfoldable pub OwnEpochStays : Type 0
 OwnEpochStays =
-    (s : List ℕ) (g : Receipt) → T (inForm s) → stateSize ≤ length s
-    → get_or (head_of (receiveState s g)).epochs (head_of s).own 0 ≡ get_or (head_of s).epochs (head_of s).own 0
+    (s : List ℕ) (g : Receipt) → T (in_form s) → state_size ≤ length s
+    → get_or (head_of (receive_state s g)).epochs (head_of s).own 0 ≡ get_or (head_of s).epochs (head_of s).own 0
 
 -- a receipt leaves own name, drift and reading
 unfoldable pub HeadStays : Type 0
-HeadStays = (s : List ℕ) → Bytes s → (g : Receipt) → take held_at (receiveState s g) ≡ take held_at s
+HeadStays = (s : List ℕ) → Bytes s → (g : Receipt) → take held_at (receive_state s g) ≡ take held_at s

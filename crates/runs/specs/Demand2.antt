@@ -6,77 +6,77 @@ use Rattle.numbers.specs.Numbers.{Bytes, words_of}
 use Rattle.predicates.specs.Lists.{keep}
 use Rattle.ends.specs.Ends.{down, up}
 use Rattle.message.specs.Words.{kind_of, masks}
-use Rattle.message.specs.Read.{isEnds}
+use Rattle.message.specs.Read.{is_ends}
 use Rattle.radio.specs.Names.{wanted, names_of}
 use Rattle.radio.specs.Read.{opening}
 use Rattle.state.specs.Model.{Datum}
-use Rattle.state.specs.Layout.{head_of, datumAt}
-use Rattle.monitor.specs.Messages.{readNumber, readOutput, rewriteNumber, rewriteOutput}
-use Rattle.monitor.specs.Calls.{writeNumber, writeOutput}
+use Rattle.state.specs.Layout.{head_of, datum_at}
+use Rattle.monitor.specs.Messages.{read_number, read_output, rewrite_number, rewrite_output}
+use Rattle.monitor.specs.Calls.{write_number, write_output}
 use Rattle.monitor.specs.Ask.{Shows}
-use Rattle.runs.specs.Demand1.{layoutSize, monitorWrite, messageRead, messageRewrite}
+use Rattle.runs.specs.Demand1.{layout_size, monitor_write, message_read, message_rewrite}
 
 -- ---- what C has of a message
 
 -- its terms: "the terms, kind 6"
-unfoldable pub termsIn : List ℕ → List ℕ
-termsIn m = masks (keep (λ w. eqb (kind_of w) 6) (words_of m))
+unfoldable pub terms_in : List ℕ → List ℕ
+terms_in m = masks (keep (λ w. eqb (kind_of w) 6) (words_of m))
 
 -- its epoch words: "one word of kind 0 for the sender and for each identifier in its terms"
-unfoldable pub namesIn : List ℕ → List ℕ
-namesIn m = keep (λ w. eqb (kind_of w) 0) (words_of m)
+unfoldable pub names_in : List ℕ → List ℕ
+names_in m = keep (λ w. eqb (kind_of w) 0) (words_of m)
 
 -- "ends form"
 abbrev pub InEndsForm : List ℕ → Type 0
-InEndsForm m = T (isEnds (opening (words_of m)) (words_of m))
+InEndsForm m = T (is_ends (opening (words_of m)) (words_of m))
 
 -- reading it is taken in every output with room and gives this sender and this interval; it has these terms, not only as many, and these epoch words
 pub record Says (m : List ℕ) (sender left right : ℕ) (terms names : List ℕ) : Type 0 where
-  pub accepted : (out : List ℕ) → layoutSize (messageRead m out) ≤ length out → readNumber m out ≡ 0
-  pub numbers : (out : List ℕ) → layoutSize (messageRead m out) ≤ length out
-      → Shows (readOutput m out) (sender ∷ left ∷ right ∷ length terms ∷ [])
-  pub its-terms : termsIn m ≡ terms
-  pub its-names : namesIn m ≡ names
+  pub accepted : (out : List ℕ) → layout_size (message_read m out) ≤ length out → read_number m out ≡ 0
+  pub numbers : (out : List ℕ) → layout_size (message_read m out) ≤ length out
+      → Shows (read_output m out) (sender ∷ left ∷ right ∷ length terms ∷ [])
+  pub its_terms : terms_in m ≡ terms
+  pub its_names : names_in m ≡ names
 
 -- ---- writing
 
 -- the front of the output, as long as the message is
-abbrev pub writtenIn : List ℕ → ℕ → List ℕ → List ℕ
-writtenIn s position out = take (layoutSize (monitorWrite s position out)) (writeOutput s position out)
+abbrev pub written_in : List ℕ → ℕ → List ℕ → List ℕ
+written_in s position out = take (layout_size (monitor_write s position out)) (write_output s position out)
 
 -- whenever it is taken: "takes one held datum by its position [..] and gives the own name as sender"; the left end is rounded down and the right one
 -- up, and each name has the epoch that is known
 unfoldable pub WrittenReads : Type 0
 WrittenReads =
-    (s : List ℕ) (position : ℕ) (out : List ℕ) → writeNumber s position out ≡ 0
-    → (let d : Datum = datumAt s position in
+    (s : List ℕ) (position : ℕ) (out : List ℕ) → write_number s position out ≡ 0
+    → (let d : Datum = datum_at s position in
     let own : ℕ = (head_of s).own in
-    Says (writtenIn s position out) own (down d.left) (up d.right) d.terms (names_of (head_of s).epochs (wanted own d.terms)))
+    Says (written_in s position out) own (down d.left) (up d.right) d.terms (names_of (head_of s).epochs (wanted own d.terms)))
 
 -- ---- rewriting
 
-abbrev pub rewrittenIn : List ℕ → List ℕ → List ℕ
-rewrittenIn m out = take (layoutSize (messageRewrite m out)) (rewriteOutput m out)
+abbrev pub rewritten_in : List ℕ → List ℕ → List ℕ
+rewritten_in m out = take (layout_size (message_rewrite m out)) (rewrite_output m out)
 
 -- "Rewriting takes a message and writes it in ends form with the sender, interval and terms it has", and its epoch words: reading the new message
 -- gives the number and the bytes that reading the old one gives, in every output
 pub record SaysAs (m w : List ℕ) : Type 0 where
-  pub number : (out : List ℕ) → readNumber w out ≡ readNumber m out
-  pub output : (out : List ℕ) → readOutput w out ≡ readOutput m out
-  pub same-terms : termsIn w ≡ termsIn m
-  pub same_names : namesIn w ≡ namesIn m
+  pub number : (out : List ℕ) → read_number w out ≡ read_number m out
+  pub output : (out : List ℕ) → read_output w out ≡ read_output m out
+  pub same-terms : terms_in w ≡ terms_in m
+  pub same_names : names_in w ≡ names_in m
 
 -- of every message that reading accepts, with room in the output
 pub record Rewrites (m out : List ℕ) : Type 0 where
-  pub taken : rewriteNumber m out ≡ 0
-  pub ends : InEndsForm (rewrittenIn m out)
-  pub reads : SaysAs m (rewrittenIn m out)
+  pub taken : rewrite_number m out ≡ 0
+  pub ends : InEndsForm (rewritten_in m out)
+  pub reads : SaysAs m (rewritten_in m out)
   -- "an accepted message in ends form is written again as the same words"
-  pub same : Bytes m → InEndsForm m → rewrittenIn m out ≡ m
+  pub same : Bytes m → InEndsForm m → rewritten_in m out ≡ m
 
 unfoldable pub RewrittenReads : Type 0
 RewrittenReads =
-    (m reading out : List ℕ) → readNumber m reading ≡ 0 → layoutSize (messageRewrite m out) ≤ length out → Rewrites m out
+    (m reading out : List ℕ) → read_number m reading ≡ 0 → layout_size (message_rewrite m out) ≤ length out → Rewrites m out
 
 -- ---- demand 2
 

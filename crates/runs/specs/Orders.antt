@@ -10,9 +10,9 @@ use Rattle.clocks.specs.declared.Readings.TheVariants.{Without, With}
 use Rattle.state.specs.Model.{Head}
 use Rattle.engine.specs.Hearing.{heeded}
 use Rattle.monitor.specs.Receive.{Delivered, refused, brings, delivered}
-use Rattle.monitor.specs.Ask.{limitMost, answerSize, fewestSize, askNumber, askOutput, fewestNumber, fewestOutput}
+use Rattle.monitor.specs.Ask.{limit_most, answer_size, fewest_size, ask_number, ask_output, fewest_number, fewest_output}
 use Rattle.runs.specs.Book.{Request, ageing, receipt}
-use Rattle.runs.specs.Runs.{requestNumber, bytesAfter, bytesRun, Run, stateAfter, book, Quiet}
+use Rattle.runs.specs.Runs.{request_number, bytes_after, bytes_run, Run, state_after, book, Quiet}
 
 -- ---- the premises
 
@@ -35,18 +35,18 @@ NoEpochChange h (receipt g ∷ qs) = Quiet h (delivered g) × NoEpochChange h qs
 -- "none refused": each is taken on the bytes that the one before it left
 abbrev pub NoneRefused : List ℕ → List Request → Type 0
 NoneRefused s [] = Unit {0}
-NoneRefused s (q ∷ qs) = (requestNumber s q ≡ 0) × NoneRefused (bytesAfter s q) qs
+NoneRefused s (q ∷ qs) = (request_number s q ≡ 0) × NoneRefused (bytes_after s q) qs
 
 -- there are readings
-abbrev pub isGiven : Readings → Bool
-isGiven Without = false
-isGiven (With t drift) = true
+abbrev pub is_given : Readings → Bool
+is_given Without = false
+is_given (With t drift) = true
 
 -- what is delivered comes from the sender n with clock readings, and they are heeded where the head is h: "an older sender's readings being neither
 -- tested nor saved" (W-204), only those of a current name are
 abbrev pub timed : Head → ℕ → Delivered → Bool
 timed h n (refused number) = false
-timed h n (brings d) = eqb d.sender n && isGiven (heeded h d)
+timed h n (brings d) = eqb d.sender n && is_given (heeded h d)
 
 -- the request is such a receipt: "of one sender", and it carries "clock readings"
 abbrev pub carries : Head → ℕ → Request → Bool
@@ -62,10 +62,10 @@ ReadingsKept h xs ys = (n : ℕ) → keep (carries h n) xs ≡ keep (carries h n
 -- "the same answer for each limit and the same fewest failures", as C sees them: on either state both calls are taken, in every output with room, and
 -- leave the same bytes in it
 pub record SameAnswers (s u : List ℕ) : Type 0 where
-  pub answers : (limit : ℕ) → limit ≤ limitMost → (out : List ℕ) → answerSize ≤ length out
-      → (askNumber s limit out ≡ 0) × (askNumber u limit out ≡ 0) × (askOutput s limit out ≡ askOutput u limit out)
-  pub failures : (out : List ℕ) → fewestSize ≤ length out
-      → (fewestNumber s out ≡ 0) × (fewestNumber u out ≡ 0) × (fewestOutput s out ≡ fewestOutput u out)
+  pub answers : (limit : ℕ) → limit ≤ limit_most → (out : List ℕ) → answer_size ≤ length out
+      → (ask_number s limit out ≡ 0) × (ask_number u limit out ≡ 0) × (ask_output s limit out ≡ ask_output u limit out)
+  pub failures : (out : List ℕ) → fewest_size ≤ length out
+      → (fewest_number s out ≡ 0) × (fewest_number u out ≡ 0) × (fewest_output s out ≡ fewest_output u out)
 
 -- ---- the statements
 
@@ -79,11 +79,11 @@ pub record OneBatch (h : Head) (xs ys : List Request) : Type 0 where
 -- "After one and the same history": after every run two orders of the same receipts give the same
 unfoldable pub AnyOrder : Type 0
 AnyOrder =
-    (r : Run) (xs ys : List Request) → OneBatch (book r).head xs ys → NoneRefused (stateAfter r) xs → NoneRefused (stateAfter r) ys
-    → SameAnswers (bytesRun (stateAfter r) xs) (bytesRun (stateAfter r) ys)
+    (r : Run) (xs ys : List Request) → OneBatch (book r).head xs ys → NoneRefused (state_after r) xs → NoneRefused (state_after r) ys
+    → SameAnswers (bytes_run (state_after r) xs) (bytes_run (state_after r) ys)
 
 -- and it stays so, whatever else is taken after them in both: the pool log does not depend on the order
-unfoldable pub AnyOrder·later : Type 0
-AnyOrder·later =
-    (r : Run) (xs ys more : List Request) → OneBatch (book r).head xs ys → NoneRefused (stateAfter r) (xs ++ more)
-    → NoneRefused (stateAfter r) (ys ++ more) → SameAnswers (bytesRun (stateAfter r) (xs ++ more)) (bytesRun (stateAfter r) (ys ++ more))
+unfoldable pub AnyOrderLater : Type 0
+AnyOrderLater =
+    (r : Run) (xs ys more : List Request) → OneBatch (book r).head xs ys → NoneRefused (state_after r) (xs ++ more)
+    → NoneRefused (state_after r) (ys ++ more) → SameAnswers (bytes_run (state_after r) (xs ++ more)) (bytes_run (state_after r) (ys ++ more))

@@ -12,13 +12,13 @@ use native.Mathlib.Omega.{arith}
 use lib.Dec.{T, T_not}
 use lib.Count.{ones}
 use lib.ListN.{length}
-use Rattle.names.specs.Sets.{subset, setUnion, minus}
-use Rattle.names.proofs.SetLaws.{subset-refl, subset-trans, subset-le, union_left, union_right, union-least}
-use Rattle.names.proofs.PartLaws.{minus-subset, subset-same, one_more, minus-free}
+use Rattle.names.specs.Sets.{subset, set_union, minus}
+use Rattle.names.proofs.SetLaws.{subset_refl, subset_trans, subset_le, union_left, union_right, union-least}
+use Rattle.names.proofs.PartLaws.{minus-subset, subset-same, one_more, minus_free}
 use Rattle.predicates.specs.Lists.{all}
 use Rattle.predicates.specs.Predicates.{holds}
 use Rattle.predicates.proofs.ListLaws.{both, both_l, both_r, or_cases, or_l, or_r, T_true, T_false, split, cond_ind}
-use Rattle.predicates.proofs.PredicateLaws.{holds-mono}
+use Rattle.predicates.proofs.PredicateLaws.{holds_mono}
 use Rattle.search.specs.code.Search.{Fits, Best, skipped}
 
 -- ---- predicates that s makes true are passed
@@ -30,7 +30,7 @@ skipped-all s u [] h = refl
 skipped-all s u (p ∷ ps) h =
     let rest = skipped-all s u ps h in
     cond_ind (λ qs. all (holds u) qs ≡ all (holds u) (p ∷ ps)) (holds s p) (skipped s ps) (p ∷ ps)
-    (λ t. rw (T_true (holds u p) (holds-mono s u p h t)) rest) (λ _. refl)
+    (λ t. rw (T_true (holds u p) (holds_mono s u p h t)) rest) (λ _. refl)
 
 -- where some predicate is left, s does not make all true; where none is, it does
 pub skipped-some : (s : ℕ) (ps qs : List (List ℕ)) (p : List ℕ) → p ∷ qs ≡ skipped s ps → all (holds s) ps ≡ false
@@ -43,19 +43,19 @@ skipped-some s (v ∷ ps) qs p e = go (split (holds s v)) (skipped-some s ps qs 
     go (inr n) f = rw (T_false (holds s v) n)
 
 pub skipped-none : (s : ℕ) (ps : List (List ℕ)) → [] ≡ skipped s ps → all (holds s) ps ≡ true
-skipped-none s ps e = sym (skipped-all s s ps (subset-refl s)) ∙ ap (all (holds s)) (sym e)
+skipped-none s ps e = sym (skipped-all s s ps (subset_refl s)) ∙ ap (all (holds s)) (sym e)
 
-fits-other : (limit s free u : ℕ) (ps qs : List (List ℕ)) → all (holds u) ps ≡ all (holds u) qs → Fits limit s free ps u → Fits limit s free qs u
-fits-other limit s free u ps qs e f =
+fits_other : (limit s free u : ℕ) (ps qs : List (List ℕ)) → all (holds u) ps ≡ all (holds u) qs → Fits limit s free ps u → Fits limit s free qs u
+fits_other limit s free u ps qs e f =
     record { above = f.above; within = f.within; few = f.few; holding = subst (λ (b : Bool). T b) e f.holding }
 
 module _ (enough limit s free best : ℕ) where
   pub best-skipped : (r : ℕ) (ps : List (List ℕ)) → Best enough limit s free (skipped s ps) best r → Best enough limit s free ps best r
   best-skipped r ps b =
       record {
-        from = ⊎_elim (λ e. inl e) (λ f. inr (fits-other limit s free r (skipped s ps) ps (skipped-all s r ps f.above) f)) b.from;
+        from = ⊎_elim (λ e. inl e) (λ f. inr (fits_other limit s free r (skipped s ps) ps (skipped-all s r ps f.above) f)) b.from;
         low = b.low;
-        least = λ u f. b.least u (fits-other limit s free u ps (skipped s ps) (sym (skipped-all s u ps f.above)) f);
+        least = λ u f. b.least u (fits_other limit s free u ps (skipped s ps) (sym (skipped-all s u ps f.above)) f);
       }
 
   -- r fits, and is at most every set that does
@@ -70,15 +70,15 @@ module _ (enough limit s free best : ℕ) where
   -- no predicate is left: s itself
   pub best-done : ones s ≤ limit → Best enough limit s free [] best (min s best)
   best-done few =
-      best_of [] s (record { above = subset-refl s; within = union_left s free; few = few; holding = tt }) (λ u f. subset-le s u f.above)
+      best_of [] s (record { above = subset_refl s; within = union_left s free; few = few; holding = tt }) (λ u f. subset_le s u f.above)
 
   -- nothing fits
   pub best_none : (ps : List (List ℕ)) → ((u : ℕ) → Fits limit s free ps u → ⊥) → Best enough limit s free ps best best
   best_none ps unfit = record { from = inl refl; low = le_refl best; least = λ u f. absurd (unfit u f) }
 
   -- a predicate is left, and no name may be added
-  pub best-full : (p : List ℕ) (ps : List (List ℕ)) → T (not (holds s p)) → limit ≤ ones s → Best enough limit s free (p ∷ ps) best best
-  best-full p ps n h =
+  pub best_full : (p : List ℕ) (ps : List (List ℕ)) → T (not (holds s p)) → limit ≤ ones s → Best enough limit s free (p ∷ ps) best best
+  best_full p ps n h =
       best_none (p ∷ ps) (λ u f.
       let same : s ≡ u = subset-same s u f.above (le_trans f.few h) in
       T_not (holds s p) n (subst (λ (x : ℕ). T (holds x p)) (sym same) (both_l (holds u p) (all (holds u) ps) f.holding)))
@@ -92,9 +92,9 @@ module _ (enough limit s free : ℕ) (ps : List (List ℕ)) where
 
   module _ (t : ℕ) (ts : List ℕ) where
     -- the set holds this term or one of the others
-    first-or : (u : ℕ) → T (all (holds u) ((t ∷ ts) ∷ ps)) → T (subset t u) ⊎ T (all (holds u) (ts ∷ ps))
+    first_or : (u : ℕ) → T (all (holds u) ((t ∷ ts) ∷ ps)) → T (subset t u) ⊎ T (all (holds u) (ts ∷ ps))
     unfolding holds
-    first-or u h =
+    first_or u h =
         let rest = both_r (holds u (t ∷ ts)) (all (holds u) ps) h in
         ⊎_elim (λ k. inl k) (λ k. inr (both (holds u ts) (all (holds u) ps) k rest))
         (or_cases (subset t u) (holds u ts) (both_l (holds u (t ∷ ts)) (all (holds u) ps) h))
@@ -113,65 +113,65 @@ module _ (enough limit s free : ℕ) (ps : List (List ℕ)) where
     fits-later free' u l f =
         record {
           above = f.above;
-          within = subset-trans u (setUnion s free') (setUnion s free) f.within
-              (union-least s free' (setUnion s free) (union_left s free) (subset-trans free' free (setUnion s free) l (union_right s free)));
+          within = subset_trans u (set_union s free') (set_union s free) f.within
+              (union-least s free' (set_union s free) (union_left s free) (subset_trans free' free (set_union s free) l (union_right s free)));
           few = f.few;
           holding = later u f.holding;
         }
 
     -- the term leads to no set that fits and is below `best`
-    pub terms-skip : (best r : ℕ) → ((u : ℕ) → Fits limit s free ((t ∷ ts) ∷ ps) u → T (subset t u) → best ≤ u)
+    pub terms_skip : (best r : ℕ) → ((u : ℕ) → Fits limit s free ((t ∷ ts) ∷ ps) u → T (subset t u) → best ≤ u)
         → Best enough limit s free (ts ∷ ps) best r → Best enough limit s free ((t ∷ ts) ∷ ps) best r
-    terms-skip best r high b =
+    terms_skip best r high b =
         record {
-          from = ⊎_elim (λ e. inl e) (λ f. inr (fits-later free r (subset-refl free) f)) b.from;
+          from = ⊎_elim (λ e. inl e) (λ f. inr (fits-later free r (subset_refl free) f)) b.from;
           low = b.low;
           least = λ u f. ⊎_elim
               (λ k. inl (le_trans b.low (high u f k)))
               (λ k. b.least u (record { above = f.above; within = f.within; few = f.few; holding = k }))
-              (first-or u f.holding);
+              (first_or u f.holding);
         }
 
     -- a set that fits and holds the term fits beyond s with the term
-    fits_on : (u : ℕ) → Fits limit s free ((t ∷ ts) ∷ ps) u → T (subset t u) → Fits limit (setUnion s t) free ps u
+    fits_on : (u : ℕ) → Fits limit s free ((t ∷ ts) ∷ ps) u → T (subset t u) → Fits limit (set_union s t) free ps u
     fits_on u f k =
         record {
           above = union-least s t u f.above k;
-          within = subset-trans u (setUnion s free) (setUnion (setUnion s t) free) f.within
-              (union-least s free (setUnion (setUnion s t) free)
-              (subset-trans s (setUnion s t) (setUnion (setUnion s t) free) (union_left s t) (union_left (setUnion s t) free)) (union_right (setUnion s t) free));
+          within = subset_trans u (set_union s free) (set_union (set_union s t) free) f.within
+              (union-least s free (set_union (set_union s t) free)
+              (subset_trans s (set_union s t) (set_union (set_union s t) free) (union_left s t) (union_left (set_union s t) free)) (union_right (set_union s t) free));
           few = f.few;
           holding = both_r (holds u (t ∷ ts)) (all (holds u) ps) f.holding;
         }
 
-    fits-back : (u : ℕ) → T (subset t (setUnion s free)) → Fits limit (setUnion s t) free ps u → Fits limit s free ((t ∷ ts) ∷ ps) u
-    fits-back u k f =
+    fits_back : (u : ℕ) → T (subset t (set_union s free)) → Fits limit (set_union s t) free ps u → Fits limit s free ((t ∷ ts) ∷ ps) u
+    fits_back u k f =
         record {
-          above = subset-trans s (setUnion s t) u (union_left s t) f.above;
-          within = subset-trans u (setUnion (setUnion s t) free) (setUnion s free) f.within
-              (union-least (setUnion s t) free (setUnion s free) (union-least s t (setUnion s free) (union_left s free) k) (union_right s free));
+          above = subset_trans s (set_union s t) u (union_left s t) f.above;
+          within = subset_trans u (set_union (set_union s t) free) (set_union s free) f.within
+              (union-least (set_union s t) free (set_union s free) (union-least s t (set_union s free) (union_left s free) k) (union_right s free));
           few = f.few;
-          holding = now u (subset-trans t (setUnion s t) u (union_right s t) f.above) f.holding;
+          holding = now u (subset_trans t (set_union s t) u (union_right s t) f.above) f.holding;
         }
 
-    module _ (best found : ℕ) (room : T (subset t (setUnion s free))) (b : Best enough limit (setUnion s t) free ps best found) where
-      from-term : (found ≡ best) ⊎ Fits limit s free ((t ∷ ts) ∷ ps) found
-      from-term = ⊎_elim (λ e. inl e) (λ f. inr (fits-back found room f)) b.from
+    module _ (best found : ℕ) (room : T (subset t (set_union s free))) (b : Best enough limit (set_union s t) free ps best found) where
+      from_term : (found ≡ best) ⊎ Fits limit s free ((t ∷ ts) ∷ ps) found
+      from_term = ⊎_elim (λ e. inl e) (λ f. inr (fits_back found room f)) b.from
 
       -- enough is found
-      pub terms-stop : found < enough → Best enough limit s free ((t ∷ ts) ∷ ps) best found
-      terms-stop h = record { from = from-term; low = b.low; least = λ u f. inr h }
+      pub terms_stop : found < enough → Best enough limit s free ((t ∷ ts) ∷ ps) best found
+      terms_stop h = record { from = from_term; low = b.low; least = λ u f. inr h }
 
       -- the search goes on with the other terms; `free'` is what is free then
       go_on : (free' r : ℕ) → enough ≤ found → T (subset free' free)
-          → ((u : ℕ) → Fits limit s free ((t ∷ ts) ∷ ps) u → (T (subset t u) → ⊥) → T (subset u (setUnion s free')))
+          → ((u : ℕ) → Fits limit s free ((t ∷ ts) ∷ ps) u → (T (subset t u) → ⊥) → T (subset u (set_union s free')))
           → Best enough limit s free' (ts ∷ ps) found r → Best enough limit s free ((t ∷ ts) ∷ ps) best r
       go_on free' r h l keeps c =
           record {
-            from = ⊎_elim (λ e. subst (λ (x : ℕ). (x ≡ best) ⊎ Fits limit s free ((t ∷ ts) ∷ ps) x) (sym e) from-term)
+            from = ⊎_elim (λ e. subst (λ (x : ℕ). (x ≡ best) ⊎ Fits limit s free ((t ∷ ts) ∷ ps) x) (sym e) from_term)
                 (λ f. inr (fits-later free' r l f)) c.from;
             low = le_trans c.low b.low;
-            least = λ u f. pick u f (first-or u f.holding) (split (subset t u));
+            least = λ u f. pick u f (first_or u f.holding) (split (subset t u));
           }
         where
           pick : (u : ℕ) → Fits limit s free ((t ∷ ts) ∷ ps) u → T (subset t u) ⊎ T (all (holds u) (ts ∷ ps))
@@ -181,11 +181,11 @@ module _ (enough limit s free : ℕ) (ps : List (List ℕ)) where
           pick u f (inr k) (inr n) =
               c.least u (record { above = f.above; within = keeps u f (T_not (subset t u) n); few = f.few; holding = k })
 
-      pub terms-on : (r : ℕ) → enough ≤ found → Best enough limit s free (ts ∷ ps) found r → Best enough limit s free ((t ∷ ts) ∷ ps) best r
-      terms-on r h c = go_on free r h (subset-refl free) (λ u f n. f.within) c
+      pub terms_on : (r : ℕ) → enough ≤ found → Best enough limit s free (ts ∷ ps) found r → Best enough limit s free ((t ∷ ts) ∷ ps) best r
+      terms_on r h c = go_on free r h (subset_refl free) (λ u f n. f.within) c
 
       -- the term adds one name, which is not free then
-      pub terms-bar : (r : ℕ) → enough ≤ found → ones (setUnion s t) ≡ ones s + 1
+      pub terms_bar : (r : ℕ) → enough ≤ found → ones (set_union s t) ≡ ones s + 1
           → Best enough limit s (minus free t) (ts ∷ ps) found r → Best enough limit s free ((t ∷ ts) ∷ ps) best r
-      terms-bar r h e c =
-          go_on (minus free t) r h (minus-subset free t) (λ u f n. minus-free s t u free f.within (one_more s t u e f.above n)) c
+      terms_bar r h e c =
+          go_on (minus free t) r h (minus-subset free t) (λ u f n. minus_free s t u free f.within (one_more s t u e f.above n)) c

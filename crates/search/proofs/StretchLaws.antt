@@ -12,30 +12,30 @@ use borrow.Author.Tests.{lt-ltb}
 use lib.Dec.{T, T_not, ltb, ltb→lt}
 use lib.ListN.{get_or, take}
 use Rattle.numbers.specs.Numbers.{tab}
-use Rattle.numbers.proofs.NumberLaws.{length-tab, getD-tab}
-use Rattle.names.specs.Sets.{setUnion, noSet}
-use Rattle.names.proofs.SetLaws.{subset-le}
-use Rattle.names.proofs.PartLaws.{union-add}
+use Rattle.numbers.proofs.NumberLaws.{length-tab, get_or-tab}
+use Rattle.names.specs.Sets.{set_union, no_set}
+use Rattle.names.proofs.SetLaws.{subset_le}
+use Rattle.names.proofs.PartLaws.{union_add}
 use Rattle.predicates.specs.Lists.{keep, In}
 use Rattle.predicates.specs.Predicates.{holds}
-use Rattle.predicates.proofs.ListLaws.{true-T, or_l, or_r, or_cases, all_in, all-out, keep-in, keep_out, map-in, map-out}
-use Rattle.search.specs.code.Search.{Rows, Fits, Best, rowTerms, predAt, preds}
-use Rattle.search.specs.code.LeftEnds.{outside, noEnd, Next, Last, IsEnd, Unbroken, Latest, Ready, needs, FirstEnd, FirstStretch, Unexplained}
+use Rattle.predicates.proofs.ListLaws.{true_T, or_l, or_r, or_cases, all_in, all_out, keep_in, keep_out, map_in, map_out}
+use Rattle.search.specs.code.Search.{Rows, Fits, Best, row_terms, pred_at, preds}
+use Rattle.search.specs.code.LeftEnds.{outside, no_end, Next, Last, IsEnd, Unbroken, Latest, Ready, needs, FirstEnd, FirstStretch, Unexplained}
 use Rattle.predicates.proofs.IndexLaws.{in_take, at_in, take_in}
 use Rattle.search.proofs.EndSteps.{outside-test}
 
 -- ---- rows that lack an instant
 
 module _ (lefts rights : List ℕ) (x k : ℕ) where
-  out-left : x < get_or lefts k 0 → T (outside lefts rights x k)
-  out-left h =
+  out_left : x < get_or lefts k 0 → T (outside lefts rights x k)
+  out_left h =
       rw (sym (outside-test lefts rights x k))
-      (or_l (ltb x (get_or lefts k 0)) (ltb (get_or rights k 0) x) (true-T _ (lt-ltb x (get_or lefts k 0) h)))
+      (or_l (ltb x (get_or lefts k 0)) (ltb (get_or rights k 0) x) (true_T _ (lt-ltb x (get_or lefts k 0) h)))
 
-  out-right : get_or rights k 0 < x → T (outside lefts rights x k)
-  out-right h =
+  out_right : get_or rights k 0 < x → T (outside lefts rights x k)
+  out_right h =
       rw (sym (outside-test lefts rights x k))
-      (or_r (ltb x (get_or lefts k 0)) (ltb (get_or rights k 0) x) (true-T _ (lt-ltb (get_or rights k 0) x h)))
+      (or_r (ltb x (get_or lefts k 0)) (ltb (get_or rights k 0) x) (true_T _ (lt-ltb (get_or rights k 0) x h)))
 
   out_cases : T (outside lefts rights x k) → (x < get_or lefts k 0) ⊎ (get_or rights k 0 < x)
   out_cases t =
@@ -45,8 +45,8 @@ module _ (lefts rights : List ℕ) (x k : ℕ) where
 -- ---- where a stretch ends
 
 module _ (n rows : ℕ) (lefts rights : List ℕ) (x roof r : ℕ) where
-  pub stretch-in : Next rights n rows x roof → Last lefts n rows x roof r → Unbroken n rows rights x r
-  stretch-in next last =
+  pub stretch_in : Next rights n rows x roof → Last lefts n rows x roof r → Unbroken n rows rights x r
+  stretch_in next last =
       record {
         rising = last.over;
         clear = λ k a b c. ⊎_elim (λ e. omega arith) (λ w. go k a b c w.4 (dec_lt (get_or rights k 0) x)) last.one;
@@ -56,41 +56,41 @@ module _ (n rows : ℕ) (lefts rights : List ℕ) (x roof r : ℕ) where
       go k a b c high (yes l) = l
       go k a b c high (no l) = absurd (omega (arith, next.least k a b (omega arith)))
 
-pub stretch-at : (n rows : ℕ) (lefts : List ℕ) (x roof r : ℕ) → Last lefts n rows x roof r → (r ≡ x) ⊎ IsEnd n rows lefts r
-stretch-at n rows lefts x roof r last = ⊎_elim (λ e. inl e) (λ w. inr (w.0, w.1, w.2, w.3)) last.one
+pub stretch_at : (n rows : ℕ) (lefts : List ℕ) (x roof r : ℕ) → Last lefts n rows x roof r → (r ≡ x) ⊎ IsEnd n rows lefts r
+stretch_at n rows lefts x roof r last = ⊎_elim (λ e. inl e) (λ w. inr (w.0, w.1, w.2, w.3)) last.one
 
 module _ (n rows : ℕ) (lefts rights : List ℕ) (table : Rows) (order : List ℕ) (ready : Ready n rows lefts rights table order) where
   -- an empty interval lacks every instant
-  pub out-empty : (x k : ℕ) → k < n → T (outside lefts rights x k)
-  out-empty x k h = go (dec_lt x (get_or lefts k 0))
+  pub out_empty : (x k : ℕ) → k < n → T (outside lefts rights x k)
+  out_empty x k h = go (dec_lt x (get_or lefts k 0))
     where
       go : Dec (x < get_or lefts k 0) → T (outside lefts rights x k)
-      go (yes a) = out-left lefts rights x k a
-      go (no a) = out-right lefts rights x k (omega (arith, ready.empty k h))
+      go (yes a) = out_left lefts rights x k a
+      go (no a) = out_right lefts rights x k (omega (arith, ready.empty k h))
 
-  pub end_below : (x : ℕ) → IsEnd n rows lefts x → x < noEnd
+  pub end_below : (x : ℕ) → IsEnd n rows lefts x → x < no_end
   end_below x e = omega (arith, e.3, ready.below e.0 e.2)
 
   -- ---- the next stretch: from the next end on, to x
 
   module _ (floor from : ℕ) (next : Next lefts n rows floor from) where
     -- an end below the next one is below the floor
-    pub under-floor : (k : ℕ) → n ≤ k → k < rows → get_or lefts k 0 < from → get_or lefts k 0 < floor
-    under-floor k a b c = go (dec_lt (get_or lefts k 0) floor)
+    pub under_floor : (k : ℕ) → n ≤ k → k < rows → get_or lefts k 0 < from → get_or lefts k 0 < floor
+    under_floor k a b c = go (dec_lt (get_or lefts k 0) floor)
       where
         go : Dec (get_or lefts k 0 < floor) → get_or lefts k 0 < floor
         go (yes l) = l
         go (no l) = absurd (omega (arith, next.least k a b (omega arith)))
 
-    module _ (some : from ≡ noEnd → ⊥) (x : ℕ) (stretch : Unbroken n rows rights from x) (at : (x ≡ from) ⊎ IsEnd n rows lefts x) where
+    module _ (some : from ≡ no_end → ⊥) (x : ℕ) (stretch : Unbroken n rows rights from x) (at : (x ≡ from) ⊎ IsEnd n rows lefts x) where
       from_end : IsEnd n rows lefts from
       from_end = ⊎_elim (λ e. absurd (some e)) (λ w. (w.0, w.1, w.2, w.3)) next.one
 
-      pub stretch-is-end : IsEnd n rows lefts x
-      stretch-is-end = ⊎_elim (λ e. subst (λ (y : ℕ). IsEnd n rows lefts y) (sym e) from_end) (λ w. w) at
+      pub stretch-is_end : IsEnd n rows lefts x
+      stretch-is_end = ⊎_elim (λ e. subst (λ (y : ℕ). IsEnd n rows lefts y) (sym e) from_end) (λ w. w) at
 
-      pub stretches-room : (x < noEnd) × (floor ≤ x)
-      stretches-room = (end_below x stretch-is-end, ⊎_elim (λ e. absurd (some e)) (λ w. omega (arith, w.4, stretch.rising)) next.one)
+      pub stretches_room : (x < no_end) × (floor ≤ x)
+      stretches_room = (end_below x stretch-is_end, ⊎_elim (λ e. absurd (some e)) (λ w. omega (arith, w.4, stretch.rising)) next.one)
 
   module _ (limit free : ℕ) where
     abbrev pub Explains : ℕ → ℕ → Type 0
@@ -98,7 +98,7 @@ module _ (n rows : ℕ) (lefts rights : List ℕ) (table : Rows) (order : List �
 
     -- what makes true what x needs does so for y, if y needs no more than that and what is true anyhow
     fits-fewer : (x y u : ℕ)
-        → ((k : ℕ) → k < rows → T (outside lefts rights y k) → T (outside lefts rights x k) ⊎ T (holds u (rowTerms table k)))
+        → ((k : ℕ) → k < rows → T (outside lefts rights y k) → T (outside lefts rights x k) ⊎ T (holds u (row_terms table k)))
         → Explains x u → Explains y u
     unfolding needs
     fits-fewer x y u more f =
@@ -107,10 +107,10 @@ module _ (n rows : ℕ) (lefts rights : List ℕ) (table : Rows) (order : List �
           within = f.within;
           few = f.few;
           holding = all_in (holds u) (needs rows lefts rights table order y) (λ p m.
-              go p (map-out (rowTerms table) (keep (outside lefts rights y) (take rows order)) p m));
+              go p (map_out (row_terms table) (keep (outside lefts rights y) (take rows order)) p m));
         }
       where
-        go : (p : List ℕ) → (k : ℕ) × In k (keep (outside lefts rights y) (take rows order)) × (p ≡ rowTerms table k) → T (holds u p)
+        go : (p : List ℕ) → (k : ℕ) × In k (keep (outside lefts rights y) (take rows order)) × (p ≡ row_terms table k) → T (holds u p)
         go p w =
             let k = w.0 in
             let there = keep_out (outside lefts rights y) (take rows order) k w.1 in
@@ -118,31 +118,31 @@ module _ (n rows : ℕ) (lefts rights : List ℕ) (table : Rows) (order : List �
             let row : k < rows = omega (arith, j.2, ready.placed j.0 j.1) in
             rw w.2
             (⊎_elim
-            (λ o. all-out (holds u) (needs rows lefts rights table order x) f.holding (rowTerms table k)
-            (map-in (rowTerms table) (keep (outside lefts rights x) (take rows order)) k (keep-in (outside lefts rights x) (take rows order) k there.0 o)))
+            (λ o. all_out (holds u) (needs rows lefts rights table order x) f.holding (row_terms table k)
+            (map_in (row_terms table) (keep (outside lefts rights x) (take rows order)) k (keep_in (outside lefts rights x) (take rows order) k there.0 o)))
             (λ h. h) (more k row there.1))
 
     -- what makes all predicates true explains every instant
-    pub all-explains : (x u : ℕ) → Fits limit 0 free (preds rows order table) u → Explains x u
-    unfolding needs preds predAt
-    all-explains x u f =
+    pub all_explains : (x u : ℕ) → Fits limit 0 free (preds rows order table) u → Explains x u
+    unfolding needs preds pred_at
+    all_explains x u f =
         record {
           above = f.above;
           within = f.within;
           few = f.few;
           holding = all_in (holds u) (needs rows lefts rights table order x) (λ p m.
-              go p (map-out (rowTerms table) (keep (outside lefts rights x) (take rows order)) p m));
+              go p (map_out (row_terms table) (keep (outside lefts rights x) (take rows order)) p m));
         }
       where
         terms : ℕ → List ℕ
-        terms j = rowTerms table (get_or order j 0)
+        terms j = row_terms table (get_or order j 0)
 
-        go : (p : List ℕ) → (k : ℕ) × In k (keep (outside lefts rights x) (take rows order)) × (p ≡ rowTerms table k) → T (holds u p)
+        go : (p : List ℕ) → (k : ℕ) × In k (keep (outside lefts rights x) (take rows order)) × (p ≡ row_terms table k) → T (holds u p)
         go p w =
             let there = keep_out (outside lefts rights x) (take rows order) w.0 w.1 in
             let j = in_take rows order w.0 there.0 in
-            let at : get_or (tab rows terms) j.0 [] ≡ p = getD-tab rows j.0 terms [] j.1 ∙ ap (rowTerms table) (sym j.2) ∙ sym w.2 in
-            rw at at (all-out (holds u) (tab rows terms) f.holding _ (at_in (tab rows terms) [] j.0 (rw length-tab j.1)))
+            let at : get_or (tab rows terms) j.0 [] ≡ p = get_or-tab rows j.0 terms [] j.1 ∙ ap (row_terms table) (sym j.2) ∙ sym w.2 in
+            rw at at (all_out (holds u) (tab rows terms) f.holding _ (at_in (tab rows terms) [] j.0 (rw length-tab j.1)))
 
     -- ---- the last end of a stretch
 
@@ -151,9 +151,9 @@ module _ (n rows : ℕ) (lefts rights : List ℕ) (table : Rows) (order : List �
       stretch-needs z u a b = fits-fewer z y u (λ k h o. inl (go k h (out_cases lefts rights y k o) (dec_lt k n)))
         where
           go : (k : ℕ) → k < rows → (y < get_or lefts k 0) ⊎ (get_or rights k 0 < y) → Dec (k < n) → T (outside lefts rights z k)
-          go k h w (yes c) = out-empty z k c
-          go k h (inl w) (no c) = out-left lefts rights z k (omega arith)
-          go k h (inr w) (no c) = out-right lefts rights z k (omega (arith, stretch.clear k (omega arith) h w))
+          go k h w (yes c) = out_empty z k c
+          go k h (inl w) (no c) = out_left lefts rights z k (omega arith)
+          go k h (inr w) (no c) = out_right lefts rights z k (omega (arith, stretch.clear k (omega arith) h w))
 
       -- with no set for the last end, there is none for any of the stretch
       pub stretch-fails : Unexplained n rows lefts rights table order limit free x → ((u : ℕ) → Explains y u → ⊥)
@@ -164,25 +164,25 @@ module _ (n rows : ℕ) (lefts rights : List ℕ) (table : Rows) (order : List �
           go (yes l) = before k a b l u f
           go (no l) = fails u (stretch-needs (get_or lefts k 0) u (omega arith) (omega arith) f)
 
-      pub stretch-part : (z : ℕ) → x ≤ z → z ≤ y → Unbroken n rows rights x z
-      stretch-part z a b = record { rising = a; clear = λ k c d e. stretch.clear k c d (omega arith) }
+      pub stretch_part : (z : ℕ) → x ≤ z → z ≤ y → Unbroken n rows rights x z
+      stretch_part z a b = record { rising = a; clear = λ k c d e. stretch.clear k c d (omega arith) }
 
-    module _ (small : free < noSet) where
+    module _ (small : free < no_set) where
       -- a search that found no set
-      pub no-set : (x r : ℕ) → Best noSet limit 0 free (needs rows lefts rights table order x) noSet r → noSet ≤ r
+      pub no_set_lem : (x r : ℕ) → Best no_set limit 0 free (needs rows lefts rights table order x) no_set r → no_set ≤ r
           → (u : ℕ) → Explains x u → ⊥
-      no-set x r b h u g =
-          let low : u < noSet = omega (arith, subset-le u (setUnion 0 free) g.within, union-add 0 free) in
+      no_set_lem x r b h u g =
+          let low : u < no_set = omega (arith, subset_le u (set_union 0 free) g.within, union_add 0 free) in
           ⊎_elim (λ e. absurd (omega arith)) (λ e. absurd (omega arith)) (b.least u g)
 
       -- ---- one stretch after the other
 
       module _ (floor from : ℕ) (before : Unexplained n rows lefts rights table order limit free floor) (next : Next lefts n rows floor from) where
         passed : Unexplained n rows lefts rights table order limit free from
-        passed k a b c = before k a b (under-floor floor from next k a b c)
+        passed k a b c = before k a b (under_floor floor from next k a b c)
 
-        pub stretches-none : from ≡ noEnd → FirstStretch n rows lefts rights table order limit free 0 0 noSet
-        stretches-none e =
+        pub stretches_none : from ≡ no_end → FirstStretch n rows lefts rights table order limit free 0 0 no_set
+        stretches_none e =
             record {
               stretch = λ h. absurd (omega arith);
               begins = λ h. absurd (omega arith);
@@ -191,71 +191,71 @@ module _ (n rows : ℕ) (lefts rights : List ℕ) (table : Rows) (order : List �
               never = λ _. rw e at passed;
             }
 
-        module _ (some : from ≡ noEnd → ⊥) (x : ℕ) (stretch : Unbroken n rows rights from x) (at : (x ≡ from) ⊎ IsEnd n rows lefts x) where
-          pub stretches-found : (r : ℕ) → Best noSet limit 0 free (needs rows lefts rights table order x) noSet r → r < noSet
+        module _ (some : from ≡ no_end → ⊥) (x : ℕ) (stretch : Unbroken n rows rights from x) (at : (x ≡ from) ⊎ IsEnd n rows lefts x) where
+          pub stretches_found : (r : ℕ) → Best no_set limit 0 free (needs rows lefts rights table order x) no_set r → r < no_set
               → FirstStretch n rows lefts rights table order limit free from x r
-          stretches-found r b l =
+          stretches_found r b l =
               record {
                 stretch = λ _. stretch;
                 begins = λ _. from_end floor from next some x stretch at;
-                reached = λ _. (stretch-is-end floor from next some x stretch at, ⊎_elim (λ e. absurd (omega arith)) (λ f. f) b.from);
+                reached = λ _. (stretch-is_end floor from next some x stretch at, ⊎_elim (λ e. absurd (omega arith)) (λ f. f) b.from);
                 earlier = λ _. passed;
                 never = λ h. absurd (omega arith);
               }
 
-          pub stretches-next : Best noSet limit 0 free (needs rows lefts rights table order x) noSet noSet
+          pub stretches_next : Best no_set limit 0 free (needs rows lefts rights table order x) no_set no_set
               → Unexplained n rows lefts rights table order limit free (x + 1)
-          stretches-next b = stretch-fails from x stretch passed (no-set x noSet b (omega arith))
+          stretches_next b = stretch-fails from x stretch passed (no_set_lem x no_set b (omega arith))
 
-    pub no-first : (from end set : ℕ) → FirstStretch n rows lefts rights table order limit free from end set → noSet ≤ set
-        → FirstEnd n rows lefts rights table order limit free 0 noSet
-    no-first from end set first h =
+    pub no_first : (from end set : ℕ) → FirstStretch n rows lefts rights table order limit free from end set → no_set ≤ set
+        → FirstEnd n rows lefts rights table order limit free 0 no_set
+    no_first from end set first h =
         record { found = λ l. absurd (omega arith); others = λ k a b c. first.never h k a b (ready.below k b) }
 
     -- ---- from an end that a set explains to the first that it does
 
-    needed-true : (x u k : ℕ) → Explains x u → k < rows → T (outside lefts rights x k) → T (holds u (rowTerms table k))
+    needed_true : (x u k : ℕ) → Explains x u → k < rows → T (outside lefts rights x k) → T (holds u (row_terms table k))
     unfolding needs
-    needed-true x u k f h o =
-        all-out (holds u) (needs rows lefts rights table order x) f.holding (rowTerms table k)
-        (map-in (rowTerms table) (keep (outside lefts rights x) (take rows order)) k (keep-in (outside lefts rights x) (take rows order) k (take_in rows order ready.ordered (ready.present k h)) o))
+    needed_true x u k f h o =
+        all_out (holds u) (needs rows lefts rights table order x) f.holding (row_terms table k)
+        (map_in (row_terms table) (keep (outside lefts rights x) (take rows order)) k (keep_in (outside lefts rights x) (take rows order) k (take_in rows order ready.ordered (ready.present k h)) o))
 
     module _ (x u l e : ℕ) (f : Explains x u) (end : IsEnd n rows lefts x) (latest : Latest n rows lefts table u l)
         (next : Next lefts n rows l e) where
-      latest-le : l ≤ x
-      latest-le = ⊎_elim (λ z. omega arith) (λ w. go w (dec_le (get_or lefts w.0 0) x)) latest.one
+      latest_le : l ≤ x
+      latest_le = ⊎_elim (λ z. omega arith) (λ w. go w (dec_le (get_or lefts w.0 0) x)) latest.one
         where
-          go : (w : (k : ℕ) × (n ≤ k) × (k < rows) × (l ≡ get_or lefts k 0) × T (not (holds u (rowTerms table k))))
+          go : (w : (k : ℕ) × (n ≤ k) × (k < rows) × (l ≡ get_or lefts k 0) × T (not (holds u (row_terms table k))))
               → Dec (get_or lefts w.0 0 ≤ x) → l ≤ x
           go w (yes h) = omega (arith, w.3)
           go w (no h) =
-              absurd (T_not (holds u (rowTerms table w.0)) w.4
-              (needed-true x u w.0 f w.2 (out-left lefts rights x w.0 (omega arith))))
+              absurd (T_not (holds u (row_terms table w.0)) w.4
+              (needed_true x u w.0 f w.2 (out_left lefts rights x w.0 (omega arith))))
 
-      pub back-le : e ≤ x
-      back-le = omega (arith, end.3, latest-le, next.least end.0 end.1 end.2 (omega (arith, end.3, latest-le)))
+      pub back_le : e ≤ x
+      back_le = omega (arith, end.3, latest_le, next.least end.0 end.1 end.2 (omega (arith, end.3, latest_le)))
 
       pub back_end : IsEnd n rows lefts e
-      back_end = ⊎_elim (λ q. absurd (omega (arith, back-le, end_below x end))) (λ w. (w.0, w.1, w.2, w.3)) next.one
+      back_end = ⊎_elim (λ q. absurd (omega (arith, back_le, end_below x end))) (λ w. (w.0, w.1, w.2, w.3)) next.one
 
-      pub back-explains : Explains e u
-      back-explains = fits-fewer x e u (λ k h o. go k h (out_cases lefts rights e k o) (dec_lt k n)) f
+      pub back_explains : Explains e u
+      back_explains = fits-fewer x e u (λ k h o. go k h (out_cases lefts rights e k o) (dec_lt k n)) f
         where
           far : l ≤ e
-          far = ⊎_elim (λ q. absurd (omega (arith, back-le, end_below x end))) (λ w. w.4) next.one
+          far = ⊎_elim (λ q. absurd (omega (arith, back_le, end_below x end))) (λ w. w.4) next.one
 
           go : (k : ℕ) → k < rows → (e < get_or lefts k 0) ⊎ (get_or rights k 0 < e) → Dec (k < n)
-              → T (outside lefts rights x k) ⊎ T (holds u (rowTerms table k))
-          go k h w (yes c) = inl (out-empty x k c)
+              → T (outside lefts rights x k) ⊎ T (holds u (row_terms table k))
+          go k h w (yes c) = inl (out_empty x k c)
           go k h (inl w) (no c) = ⊎_elim (λ m. absurd (omega (arith, far))) (λ t. inr t) (latest.most k (omega arith) h)
-          go k h (inr w) (no c) = inl (out-right lefts rights x k (omega (arith, back-le)))
+          go k h (inr w) (no c) = inl (out_right lefts rights x k (omega (arith, back_le)))
 
-    module _ (small : free < noSet) (from found by : ℕ) (first : FirstStretch n rows lefts rights table order limit free from found by)
-        (some : by < noSet) (end set : ℕ) (is-end : IsEnd n rows lefts end) (f : Explains end set) where
+    module _ (small : free < no_set) (from found by : ℕ) (first : FirstStretch n rows lefts rights table order limit free from found by)
+        (some : by < no_set) (end set : ℕ) (is-end : IsEnd n rows lefts end) (f : Explains end set) where
       -- no end before this one is explained
-      back-first : Unexplained n rows lefts rights table order limit free end → FirstEnd n rows lefts rights table order limit free end set
-      back-first before =
-          let low : set < noSet = omega (arith, subset-le set (setUnion 0 free) f.within, union-add 0 free) in
+      back_first : Unexplained n rows lefts rights table order limit free end → FirstEnd n rows lefts rights table order limit free end set
+      back_first before =
+          let low : set < no_set = omega (arith, subset_le set (set_union 0 free) f.within, union_add 0 free) in
           record {
             found = λ _. (is-end.0, is-end.1, is-end.2, is-end.3, f);
             others = λ k a b c. before k a b (⊎_elim (λ z. absurd (omega arith)) (λ l. l) c);
@@ -263,28 +263,28 @@ module _ (n rows : ℕ) (lefts rights : List ℕ) (table : Rows) (order : List �
 
       -- the stretch has none before it
       pub back_done : end ≤ from → FirstEnd n rows lefts rights table order limit free end set
-      back_done h = back-first (λ k a b c. first.earlier some k a b (omega arith))
+      back_done h = back_first (λ k a b c. first.earlier some k a b (omega arith))
 
       module _ (over : from < end) (high : end ≤ found) (x : ℕ) (last : Last lefts n rows from (end - 1) x) where
-        pub last-is-end : IsEnd n rows lefts x
-        last-is-end = ⊎_elim (λ e. subst (λ (y : ℕ). IsEnd n rows lefts y) (sym e) (first.begins some)) (λ w. (w.0, w.1, w.2, w.3)) last.one
+        pub last-is_end : IsEnd n rows lefts x
+        last-is_end = ⊎_elim (λ e. subst (λ (y : ℕ). IsEnd n rows lefts y) (sym e) (first.begins some)) (λ w. (w.0, w.1, w.2, w.3)) last.one
 
-        pub last-lt : x < end
-        last-lt = ⊎_elim (λ e. omega arith) (λ w. omega (arith, w.4)) last.one
+        pub last_lt : x < end
+        last_lt = ⊎_elim (λ e. omega arith) (λ w. omega (arith, w.4)) last.one
 
         -- nor is the one before it in the stretch
-        pub back-stop : (r : ℕ) → Best noSet limit 0 free (needs rows lefts rights table order x) noSet r → noSet ≤ r
+        pub back_stop : (r : ℕ) → Best no_set limit 0 free (needs rows lefts rights table order x) no_set r → no_set ≤ r
             → FirstEnd n rows lefts rights table order limit free end set
-        back-stop r b h =
-            back-first (λ k a c d. stretch-fails from x (stretch-part from found (first.stretch some) x last.over (omega (arith, last-lt)))
-            (first.earlier some) (no-set small x r b h) k a c (omega (arith, last.most k a c (omega arith))))
+        back_stop r b h =
+            back_first (λ k a c d. stretch-fails from x (stretch_part from found (first.stretch some) x last.over (omega (arith, last_lt)))
+            (first.earlier some) (no_set_lem small x r b h) k a c (omega (arith, last.most k a c (omega arith))))
 
 -- no left end behind it belongs to the stretch: a right end would stand between
 pub stretch-last : (n rows : ℕ) (lefts rights : List ℕ) (x roof r : ℕ) → Next rights n rows x roof → Last lefts n rows x roof r
-    → ((k : ℕ) → get_or lefts k 0 ≤ noEnd) → (y : ℕ) → IsEnd n rows lefts y → Unbroken n rows rights x y → y ≤ r
+    → ((k : ℕ) → get_or lefts k 0 ≤ no_end) → (y : ℕ) → IsEnd n rows lefts y → Unbroken n rows rights x y → y ≤ r
 stretch-last n rows lefts rights x roof r next last fits y (k, a, b, e) u = omega (arith, last.most k a b (omega (arith, e, under next.one)))
   where
-    under : (roof ≡ noEnd) ⊎ ((j : ℕ) × (n ≤ j) × (j < rows) × (roof ≡ get_or rights j 0) × (x ≤ roof)) → y ≤ roof
+    under : (roof ≡ no_end) ⊎ ((j : ℕ) × (n ≤ j) × (j < rows) × (roof ≡ get_or rights j 0) × (x ≤ roof)) → y ≤ roof
     under (inl z) = omega (arith, fits k)
     under (inr w) = go (dec_lt roof y)
       where

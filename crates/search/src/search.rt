@@ -2,11 +2,11 @@
 // a term to the next unexplained predicate. It stops at the first set below `enough`; else it goes on to the least.
 ghost use Rattle.std.specs.Prelude.{◌≡◌, List, ◌∷◌, ◌&&◌, not, cond, ℕ, ◌+◌, ◌-◌, ◌*◌, ◌≤◌, ◌<◌, min, T, eqb, leb, ltb, length, get_or, take, drop};
 ghost use Rattle.std.specs.Int.Count.{ones};
-ghost use Rattle.names.specs.Sets.{subset, setUnion, minus};
+ghost use Rattle.names.specs.Sets.{subset, set_union, minus};
 ghost use Rattle.names.specs.code.Parts.{shared};
 ghost use Rattle.predicates.specs.Lists.{all};
-ghost use Rattle.predicates.specs.Predicates.{holds as Predicates·holds};
-ghost use Rattle.search.specs.code.Search.{Rows, rows_of, rowWidth, Best, RowsFit, rowTerms, Parted, predAt, preds, skipped, gather, alone};
+ghost use Rattle.predicates.specs.Predicates.{holds};
+ghost use Rattle.search.specs.code.Search.{Rows, rows_of, row_width, Best, RowsFit, row_terms, Parted, pred_at, preds, skipped, gather, alone};
 
 // The lesser of two masks.
 fn lesser(a: u32, b: u32) -> u32
@@ -28,9 +28,9 @@ pub(crate) struct Part {
 // Where the terms of the predicate at place j stand.
 pub(crate) fn terms_at(listed: &[u32], counts: &[u32], masks: &[u32], j: usize) -> Part
     requires { (let row : ℕ = get_or listed.now j 0 in
-        (j < length listed.now) × (row < length counts.now) × (row * rowWidth + get_or counts.now row 0 ≤ length masks.now)) }
+        (j < length listed.now) × (row < length counts.now) × (row * row_width + get_or counts.now row 0 ≤ length masks.now)) }
     ensures { (let row : ℕ = get_or listed.now j 0 in
-        (result.at ≡ row * rowWidth) × (result.end ≡ row * rowWidth + get_or counts.now row 0)) }
+        (result.at ≡ row * row_width) × (result.end ≡ row * row_width + get_or counts.now row 0)) }
 {
     let row = listed[j] as usize;
     let at = row * super::ROW_WIDTH;
@@ -41,8 +41,8 @@ pub(crate) fn terms_at(listed: &[u32], counts: &[u32], masks: &[u32], j: usize) 
 // Where the terms of several names of the row stand: they are the last of its terms.
 fn rest_at(counts: &[u32], masks: &[u32], several: &[u32], row: usize) -> Part
     requires { (row < length counts.now) × (row < length several.now) × (get_or several.now row 0 ≤ get_or counts.now row 0)
-        × (row * rowWidth + get_or counts.now row 0 ≤ length masks.now) }
-    ensures { (let end : ℕ = row * rowWidth + get_or counts.now row 0 in
+        × (row * row_width + get_or counts.now row 0 ≤ length masks.now) }
+    ensures { (let end : ℕ = row * row_width + get_or counts.now row 0 in
         (result.at ≡ end - get_or several.now row 0) × (result.end ≡ end)) }
 {
     let end = row * super::ROW_WIDTH + counts[row] as usize;
@@ -62,7 +62,7 @@ pub(crate) fn row_holds(
     requires { (let t : Rows = rows_of counts.now masks.now several.now singles.now in
         Parted t row) }
     ensures { (let t : Rows = rows_of counts.now masks.now several.now singles.now in
-        result ≡ Predicates·holds set (rowTerms t row)) }
+        result ≡ holds set (row_terms t row)) }
 {
     if 0 < names::shared(set, singles[row]) {
         return true;
@@ -86,7 +86,7 @@ fn holds_at(
     requires { (let t : Rows = rows_of counts.now masks.now several.now singles.now in
         (j < length listed.now) × Parted t (get_or listed.now j 0)) }
     ensures { (let t : Rows = rows_of counts.now masks.now several.now singles.now in
-        result ≡ Predicates·holds set (predAt listed.now t j)) }
+        result ≡ holds set (pred_at listed.now t j)) }
 {
     row_holds(counts, masks, several, singles, listed[j] as usize, set)
 }
@@ -121,7 +121,7 @@ fn next_unexplained(
 // Of the names those that are in `base` or alone, beside the set, make the terms' sum true; all of them where the set makes it true: where a term
 // adds no name to it.
 fn narrow_terms(p: &[u32], set: u32, base: u32, names: u32) -> u32
-    ensures { result ≡ cond (Predicates·holds set p.now) names (shared names (gather base (ones set + 1) set p.now)) }
+    ensures { result ≡ cond (holds set p.now) names (shared names (gather base (ones set + 1) set p.now)) }
 {
     let mut does = base;
     let mut i: usize = p.len();
@@ -153,8 +153,8 @@ fn narrow(
     requires { (let t : Rows = rows_of counts.now masks.now several.now singles.now in
         (j < length listed.now) × Parted t (get_or listed.now j 0)) }
     ensures { (let t : Rows = rows_of counts.now masks.now several.now singles.now in
-        let p : List ℕ = predAt listed.now t j in
-        result ≡ cond (Predicates·holds set p) names (shared names (alone (ones set + 1) set p))) }
+        let p : List ℕ = pred_at listed.now t j in
+        result ≡ cond (holds set p) names (shared names (alone (ones set + 1) set p))) }
 {
     let row = listed[j] as usize;
     let one = singles[row];
@@ -182,7 +182,7 @@ fn only_set(
     requires { (let t : Rows = rows_of counts.now masks.now several.now singles.now in
         RowsFit n listed.now t × (j ≤ n)) }
     ensures { (let t : Rows = rows_of counts.now masks.now several.now singles.now in
-        result ≡ cond (all (Predicates·holds set) (drop j (preds n listed.now t))) (min set best) best) }
+        result ≡ cond (all (holds set) (drop j (preds n listed.now t))) (min set best) best) }
 {
     if next_unexplained(listed, counts, masks, several, singles, n, j, set) < n {
         return best;
@@ -206,7 +206,7 @@ fn last_name(
     best: u32,
 ) -> u32
     requires { (let t : Rows = rows_of counts.now masks.now several.now singles.now in
-        RowsFit n listed.now t × (k < n) × (ones set + 1 ≡ limit) × T (not (Predicates·holds set (predAt listed.now t k)))) }
+        RowsFit n listed.now t × (k < n) × (ones set + 1 ≡ limit) × T (not (holds set (pred_at listed.now t k)))) }
     ensures { (let t : Rows = rows_of counts.now masks.now several.now singles.now in
         ((enough : ℕ) → Best enough limit set free (drop k (preds n listed.now t)) best result)) }
 {
@@ -244,7 +244,7 @@ fn last_name(
 
 // Whether a term may lead to a set below `best`: its names are in the set or free, and joined with the set they are within the limit.
 pub(crate) fn worth(t: u32, set: u32, free: u32, limit: u32, best: u32) -> bool
-    ensures { result ≡ subset t (setUnion set free) && (ltb (setUnion set t) best && leb (ones (setUnion set t)) limit) }
+    ensures { result ≡ subset t (set_union set free) && (ltb (set_union set t) best && leb (ones (set_union set t)) limit) }
 {
     let wider = names::union(set, t);
     if !names::subset(t, names::union(set, free)) {
@@ -258,7 +258,7 @@ pub(crate) fn worth(t: u32, set: u32, free: u32, limit: u32, best: u32) -> bool
 
 // What is free once a term was tried: where it adds one name to the set, that name no more.
 pub(crate) fn freed(t: u32, set: u32, free: u32) -> u32
-    ensures { result ≡ cond (eqb (ones (setUnion set t)) (ones set + 1)) (minus free t) free }
+    ensures { result ≡ cond (eqb (ones (set_union set t)) (ones set + 1)) (minus free t) free }
 {
     if names::count(names::minus(t, set)) == 1 {
         return names::minus(free, t);

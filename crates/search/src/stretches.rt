@@ -3,8 +3,8 @@
 ghost use Rattle.std.specs.Prelude.{◌≡◌, ◌⊎◌, List, ℕ, ◌+◌, ◌≤◌, ◌<◌, ltb, length, get_or, take};
 ghost use Rattle.numbers.specs.Numbers.{put};
 ghost use Rattle.predicates.specs.Lists.{keep};
-ghost use Rattle.names.specs.Sets.{noSet};
-ghost use Rattle.search.specs.code.Search.{rowsMost, Rows, rows_of, Parted};
+ghost use Rattle.names.specs.Sets.{no_set};
+ghost use Rattle.search.specs.code.Search.{rows_most, Rows, rows_of, Parted};
 ghost use Rattle.search.specs.code.LeftEnds.{outside, Next, Last, IsEnd, Unbroken, FirstStretch, Latest, Ready, FirstEnd};
 
 // An end and the set that explains it; 2^29, the mask of no set, where there is none.
@@ -76,7 +76,7 @@ pub(crate) fn list_outside(
     x: u64,
     listed: &mut [u32],
 ) -> usize
-    requires { (rows ≤ rowsMost) × (rows ≤ length order.now) × (rows ≤ length listed.old) × (rows ≤ length lefts.now)
+    requires { (rows ≤ rows_most) × (rows ≤ length order.now) × (rows ≤ length listed.old) × (rows ≤ length lefts.now)
         × (rows ≤ length rights.now) × ((j : ℕ) → j < rows → get_or order.now j 0 < rows) }
     ensures { (let kept : List ℕ = keep (outside lefts.now rights.now x) (take rows order.now) in
         (result ≡ length kept) × (result ≤ rows) × (listed.new ≡ put 0 kept listed.old)) }
@@ -96,7 +96,7 @@ pub(crate) fn list_outside(
 
 // Lists, in the order of the search, the first n rows: the entries. Answers how many.
 pub(crate) fn list_entries(order: &[u32], rows: usize, n: usize, listed: &mut [u32]) -> usize
-    requires { (rows ≤ rowsMost) × (rows ≤ length order.now) × (rows ≤ length listed.old)
+    requires { (rows ≤ rows_most) × (rows ≤ length order.now) × (rows ≤ length listed.old)
         × ((j : ℕ) → j < rows → get_or order.now j 0 < rows) }
     ensures { (let kept : List ℕ = keep (λ k. ltb k n) (take rows order.now) in
         (result ≡ length kept) × (result ≤ rows) × (listed.new ≡ put 0 kept listed.old)) }
@@ -131,7 +131,7 @@ fn first_stretch(
     free: u32,
 ) -> Stretch
     requires { (let t : Rows = rows_of counts.now masks.now several.now singles.now in
-        Ready n rows lefts.now rights.now t order.now × (rows ≤ length listed.old) × (free < noSet)) }
+        Ready n rows lefts.now rights.now t order.now × (rows ≤ length listed.old) × (free < no_set)) }
     ensures fact { (let t : Rows = rows_of counts.now masks.now several.now singles.now in
         FirstStretch n rows lefts.now rights.now t order.now limit free result.from result.end result.set) }
     ensures listed_len_unchanged { length listed.new ≡ length listed.old }
@@ -238,8 +238,8 @@ fn first_in_stretch(
     by: u32,
 ) -> Reached
     requires { (let t : Rows = rows_of counts.now masks.now several.now singles.now in
-        Ready n rows lefts.now rights.now t order.now × (rows ≤ length listed.old) × (free < noSet)
-        × FirstStretch n rows lefts.now rights.now t order.now limit free from found by × (by < noSet)) }
+        Ready n rows lefts.now rights.now t order.now × (rows ≤ length listed.old) × (free < no_set)
+        × FirstStretch n rows lefts.now rights.now t order.now limit free from found by × (by < no_set)) }
     ensures fact { (let t : Rows = rows_of counts.now masks.now several.now singles.now in
         FirstEnd n rows lefts.now rights.now t order.now limit free result.end result.set) }
     ensures listed_len_unchanged { length listed.new ≡ length listed.old }
@@ -299,7 +299,7 @@ pub fn first_end(
     free: u32,
 ) -> Reached
     requires { (let t : Rows = rows_of counts.now masks.now several.now singles.now in
-        Ready n rows lefts.now rights.now t order.now × (rows ≤ length listed.old) × (free < noSet)) }
+        Ready n rows lefts.now rights.now t order.now × (rows ≤ length listed.old) × (free < no_set)) }
     ensures fact { (let t : Rows = rows_of counts.now masks.now several.now singles.now in
         FirstEnd n rows lefts.now rights.now t order.now limit free result.end result.set) }
     ensures listed_len_unchanged { length listed.new ≡ length listed.old }

@@ -5,14 +5,14 @@ ghost use Rattle.std.proofs.lemmas.List.Edits.{sets};
 ghost use Rattle.numbers.specs.Numbers.{tab};
 ghost use Rattle.predicates.specs.Predicates.{implies};
 ghost use Rattle.ends.specs.Ends.{BothSplit};
-ghost use Rattle.ends.specs.code.Columns.{withEnd};
-ghost use Rattle.state.specs.Layout.{stateSize, datumTerms, entriesMost, entryTerms, entryCount, store_of};
-ghost use Rattle.state.specs.code.Tables.{rowsMost};
-ghost use Rattle.state.specs.Form.{inForm};
-ghost use Rattle.state.specs.code.Tables.{Columns, Table, tableFrom, columns, TableFits, ColumnsFit, EntriesStand};
-ghost use Rattle.state.specs.code.Tables.{entriesIn, datumOf, datumIn, dataIn, storeIn};
+ghost use Rattle.ends.specs.code.Columns.{with_end};
+ghost use Rattle.state.specs.Layout.{state_size, datum_terms, entries_most, entry_terms, entry_count, store_of};
+ghost use Rattle.state.specs.code.Tables.{rows_most};
+ghost use Rattle.state.specs.Form.{in_form};
+ghost use Rattle.state.specs.code.Tables.{Columns, Table, table_from, columns, TableFits, ColumnsFit, EntriesStand};
+ghost use Rattle.state.specs.code.Tables.{entries_in, datum_of, datum_in, data_in, store_in};
 ghost use Rattle.entries.specs.code.Marks.{Marked, Left};
-ghost use Rattle.settling.specs.code.Rows.{DataLeft, liveBelow, withTerm};
+ghost use Rattle.settling.specs.code.Rows.{DataLeft, live_below, with_term};
 ghost use Rattle.steps.specs.Steps.{learnt, met, without, stored, settled};
 
 use ends::Ends;
@@ -28,11 +28,11 @@ pub fn add_datum(
     new: Ends,
     p: &[u32],
 )
-    requires { ColumnsFit (h + 1) (columns lefts.old rights.old held.old terms.old) × (length p.now ≤ datumTerms) }
-    ensures lefts_after { lefts.new ≡ withEnd lefts.old h new.left }
-    ensures rights_after { rights.new ≡ withEnd rights.old h new.right }
+    requires { ColumnsFit (h + 1) (columns lefts.old rights.old held.old terms.old) × (length p.now ≤ datum_terms) }
+    ensures lefts_after { lefts.new ≡ with_end lefts.old h new.left }
+    ensures rights_after { rights.new ≡ with_end rights.old h new.right }
     ensures held_after { held.new ≡ set held.old h (length p.now) }
-    ensures terms_after { terms.new ≡ sets terms.old (h * datumTerms) p.now }
+    ensures terms_after { terms.new ≡ sets terms.old (h * datum_terms) p.now }
 {
     entries::tables::add_row(held, terms, h, state::DATUM_TERMS, p);
     ends::column::put(lefts, h, new.left);
@@ -51,13 +51,13 @@ fn place(
     p: &[u32],
 ) -> usize
     requires columns_fit { ColumnsFit (h + 1) (columns lefts.old rights.old held.old terms.old) }
-    requires p_nonzero { (0 < length p.now) × (length p.now ≤ datumTerms) × (h ≤ rowsMost) × BothSplit new }
+    requires p_nonzero { (0 < length p.now) × (length p.now ≤ datum_terms) × (h ≤ rows_most) × BothSplit new }
     ensures fact { (let c : Columns = columns lefts.new rights.new held.new terms.new in
         (result ≤ h + 1) × ColumnsFit result c
         × DataLeft h (columns lefts.old rights.old held.old terms.old) c) }
     ensures terms_after { (let old : Columns = columns lefts.old rights.old held.old terms.old in
-        dataIn result (columns lefts.new rights.new held.new terms.new)
-        ≡ stored (met (datumOf new p.now) (dataIn h old)) (without p.now (dataIn h old))) }
+        data_in result (columns lefts.new rights.new held.new terms.new)
+        ≡ stored (met (datum_of new p.now) (data_in h old)) (without p.now (data_in h old))) }
 {
     let ends = steps::steps::meet(lefts, rights, held, terms, h, new, p);
     if steps::steps::bettered(lefts, rights, held, terms, h, ends, p) {
@@ -85,18 +85,18 @@ fn learn(
     blame: u32,
 ) -> usize
     requires columns_fit { ColumnsFit rows.held (columns lefts.now rights.now held.now terms.now) }
-    requires state_size_in_bounds { (stateSize ≤ length s.now) × (rows.known ≤ entriesMost) }
-    requires table_fits { TableFits entryTerms (rows.known + max 1 rows.held) (tableFrom rows.known s.now counts.old masks.old) }
-    requires p_nonzero { (0 < length p.now) × (length p.now ≤ datumTerms) × (rows.known + max 1 rows.held ≤ length marks.old) × BothSplit new }
-    requires marked { Marked rows.known (tableFrom rows.known s.now counts.old masks.old) marks.old }
+    requires state_size_in_bounds { (state_size ≤ length s.now) × (rows.known ≤ entries_most) }
+    requires table_fits { TableFits entry_terms (rows.known + max 1 rows.held) (table_from rows.known s.now counts.old masks.old) }
+    requires p_nonzero { (0 < length p.now) × (length p.now ≤ datum_terms) × (rows.known + max 1 rows.held ≤ length marks.old) × BothSplit new }
+    requires marked { Marked rows.known (table_from rows.known s.now counts.old masks.old) marks.old }
     requires t { (blame ≡ 0 → ⊥) → T (implies (blame ∷ []) p.now) }
-    ensures fact { (let t : Table = tableFrom rows.known s.now counts.new masks.new in
-        (result ≤ rows.known + max 1 rows.held) × TableFits entryTerms result t × Marked result t marks.new
+    ensures fact { (let t : Table = table_from rows.known s.now counts.new masks.new in
+        (result ≤ rows.known + max 1 rows.held) × TableFits entry_terms result t × Marked result t marks.new
         × Left rows.known counts.old counts.new) }
     ensures masks_after { (let c : Columns = columns lefts.now rights.now held.now terms.now in
-        let old : Table = tableFrom rows.known s.now counts.old masks.old in
-        entriesIn result (tableFrom rows.known s.now counts.new masks.new)
-        ≡ learnt (datumOf new p.now) (tab rows.held (datumIn c)) (withTerm blame (entriesIn rows.known old))) }
+        let old : Table = table_from rows.known s.now counts.old masks.old in
+        entries_in result (table_from rows.known s.now counts.new masks.new)
+        ≡ learnt (datum_of new p.now) (tab rows.held (datum_in c)) (with_term blame (entries_in rows.known old))) }
 {
     if blame != 0 {
         return entries::tables::learn_term(s, rows.known, counts, masks, marks, rows.known, blame);
@@ -124,12 +124,12 @@ pub fn settle(
     blame: u32,
 ) -> Rows
     requires columns_fit { ColumnsFit (rows.held + 1) (columns lefts.old rights.old held.old terms.old) }
-    requires state_size_in_bounds { (stateSize ≤ length s.now) × T (inForm s.now) × (rows.known ≡ entryCount s.now) }
-    requires table_fits { TableFits entryTerms (rows.known + max 1 rows.held) (tableFrom rows.known s.now counts.old masks.old) }
-    requires p_nonzero { (0 < length p.now) × (length p.now ≤ datumTerms) × (rows.known + max 1 rows.held ≤ rowsMost) × BothSplit new }
+    requires state_size_in_bounds { (state_size ≤ length s.now) × T (in_form s.now) × (rows.known ≡ entry_count s.now) }
+    requires table_fits { TableFits entry_terms (rows.known + max 1 rows.held) (table_from rows.known s.now counts.old masks.old) }
+    requires p_nonzero { (0 < length p.now) × (length p.now ≤ datum_terms) × (rows.known + max 1 rows.held ≤ rows_most) × BothSplit new }
     requires t { (blame ≡ 0 → ⊥) → T (implies (blame ∷ []) p.now) }
     requires c_value { (let c : Columns = columns lefts.old rights.old held.old terms.old in
-        tab rows.held (datumIn c) ≡ dataIn rows.held c) }
+        tab rows.held (datum_in c) ≡ data_in rows.held c) }
     ensures held_bound { (result.held ≤ rows.held + 1) × (result.known ≤ rows.known + max 1 rows.held)
         × (length lefts.new ≡ length lefts.old) × (length rights.new ≡ length rights.old)
         × (length held.new ≡ length held.old) × (length terms.new ≡ length terms.old)
@@ -137,13 +137,13 @@ pub fn settle(
     ensures fact { (let c : Columns = columns lefts.new rights.new held.new terms.new in
         ColumnsFit result.held c
         × DataLeft rows.held (columns lefts.old rights.old held.old terms.old) c) }
-    ensures table_fits_2 { TableFits entryTerms result.known (tableFrom rows.known s.now counts.new masks.new)
+    ensures table_fits_2 { TableFits entry_terms result.known (table_from rows.known s.now counts.new masks.new)
         × EntriesStand s.now counts.new }
     ensures masks_after { (let c : Columns = columns lefts.new rights.new held.exit.now terms.new in
         let old : Columns = columns lefts.old rights.old held.entry.now terms.old in
-        storeIn result.held c result.known (tableFrom rows.known s.now counts.new masks.new)
-        ≡ settled (datumOf new p.now)
-        (record { held = dataIn rows.held old; entries = withTerm blame (store_of s.now).entries })) }
+        store_in result.held c result.known (table_from rows.known s.now counts.new masks.new)
+        ≡ settled (datum_of new p.now)
+        (record { held = data_in rows.held old; entries = with_term blame (store_of s.now).entries })) }
 {
     let h = rows.held;
     let first = rows.known;
@@ -166,7 +166,7 @@ pub fn settle(
 // How many of the first n rows have terms.
 fn live(counts: &[u32], n: usize) -> usize
     requires { n ≤ length counts.now }
-    ensures { (result ≡ liveBelow n counts.now) × (result ≤ n) }
+    ensures { (result ≡ live_below n counts.now) × (result ≤ n) }
 {
     let mut rows: usize = 0;
     let mut i: usize = 0;
@@ -182,7 +182,7 @@ fn live(counts: &[u32], n: usize) -> usize
 // How many rows of data and of entries have terms: what a receipt leaves, before a byte of it is written.
 pub fn count(held: &[u32], counts: &[u32], rows: Rows) -> Rows
     requires { (rows.held ≤ length held.now) × (rows.known ≤ length counts.now) }
-    ensures { (result.held ≡ liveBelow rows.held held.now) × (result.known ≡ liveBelow rows.known counts.now) }
+    ensures { (result.held ≡ live_below rows.held held.now) × (result.known ≡ live_below rows.known counts.now) }
 {
     Rows {
         held: live(held, rows.held),

@@ -10,8 +10,8 @@ use lib.Dec.{T, ltb, eqb}
 use lib.ListN.{length}
 use Rattle.numbers.specs.Numbers.{put}
 use Rattle.numbers.proofs.NumberLaws.{length-put}
-use Rattle.state.specs.Layout.{stateSize}
-use Rattle.state.specs.Form.{inForm}
+use Rattle.state.specs.Layout.{state_size}
+use Rattle.state.specs.Form.{in_form}
 use Rattle.state.specs.Refusal.{refuse, lent, after}
 
 -- a refusal that did not come: its test fails, and what comes next has let pass too
@@ -20,31 +20,31 @@ refuse-none true number next h e = absurd (omega arith)
 refuse-none false number next h e = (tt, e)
 
 module _ (s : List ℕ) where
-  pub lent-passed : (next : ℕ) → lent s next ≡ 0 → (stateSize ≤ length s) × T (inForm s) × (next ≡ 0)
+  pub lent_passed : (next : ℕ) → lent s next ≡ 0 → (state_size ≤ length s) × T (in_form s) × (next ≡ 0)
   unfolding lent
-  lent-passed next e =
-      let long = refuse-none (ltb (length s) stateSize) 24 _ (omega arith) e in
-      let form = refuse-none (not (inForm s)) 25 next (omega arith) long.1 in
-      (short (ltb (length s) stateSize) refl long.0, twice (inForm s) form.0, form.1)
+  lent_passed next e =
+      let long = refuse-none (ltb (length s) state_size) 24 _ (omega arith) e in
+      let form = refuse-none (not (in_form s)) 25 next (omega arith) long.1 in
+      (short (ltb (length s) state_size) refl long.0, twice (in_form s) form.0, form.1)
     where
-      short : (b : Bool) → ltb (length s) stateSize ≡ b → T (not b) → stateSize ≤ length s
+      short : (b : Bool) → ltb (length s) state_size ≡ b → T (not b) → state_size ≤ length s
       short true p t = absurd t
-      short false p t = ltb-false (length s) stateSize p
+      short false p t = ltb-false (length s) state_size p
 
       twice : (b : Bool) → T (not (not b)) → T b
       twice true t = tt
       twice false t = absurd t
 
-  pub lent-next : (next : ℕ) → stateSize ≤ length s → T (inForm s) → lent s next ≡ next
+  pub lent_next : (next : ℕ) → state_size ≤ length s → T (in_form s) → lent s next ≡ next
   unfolding lent
-  lent-next next h t = rw (le-ltb (length s) stateSize h) (go (inForm s) t)
+  lent_next next h t = rw (le-ltb (length s) state_size h) (go (in_form s) t)
     where
       go : (b : Bool) → T b → ◌≡◌ {A = ℕ} (cond (not b) 25 next) next
       go true t = refl
 
   pub lent-refused : (r next : ℕ) → r ≡ lent s 0 → (r ≡ 0 → ⊥) → r ≡ lent s next
   unfolding lent
-  lent-refused r next e f = e ∙ go (ltb (length s) stateSize) (inForm s) (λ z. f (e ∙ z))
+  lent-refused r next e f = e ∙ go (ltb (length s) state_size) (in_form s) (λ z. f (e ∙ z))
     where
       go : (a b : Bool) → (◌≡◌ {A = ℕ} (cond a 24 (cond (not b) 25 0)) 0 → ⊥) → ◌≡◌ {A = ℕ} (cond a 24 (cond (not b) 25 0)) (cond a 24 (cond (not b) 25 next))
       go true b f = refl
@@ -65,11 +65,11 @@ length-after number bytes s = go (eqb number 0)
     go false = refl
 
 -- what a call answers that its first tests refuse, and what it leaves of a lent buffer
-pub lent-stays : (s out bytes : List ℕ) (r next : ℕ) → r ≡ lent s 0 → (r ≡ 0 → ⊥) → (r ≡ lent s next) × (out ≡ after (lent s next) bytes out)
-lent-stays s out bytes r next e f =
+pub lent_stays : (s out bytes : List ℕ) (r next : ℕ) → r ≡ lent s 0 → (r ≡ 0 → ⊥) → (r ≡ lent s next) × (out ≡ after (lent s next) bytes out)
+lent_stays s out bytes r next e f =
     let same = lent-refused s r next e f in
     (same, rw (← same) (after-refused r bytes out f))
 
 -- what they tell of a lent state that passes them
-pub lent-taken : (s : List ℕ) (r : ℕ) → r ≡ lent s 0 → r ≡ 0 → (stateSize ≤ length s) × T (inForm s)
-lent-taken s r e z = let p = lent-passed s 0 (sym e ∙ z) in (p.0, p.1)
+pub lent-taken : (s : List ℕ) (r : ℕ) → r ≡ lent s 0 → r ≡ 0 → (state_size ≤ length s) × T (in_form s)
+lent-taken s r e z = let p = lent_passed s 0 (sym e ∙ z) in (p.0, p.1)

@@ -1,7 +1,7 @@
 -- Parts that stand one behind the other, as those of a state do, and the one law for storing a part: in bytes that begin with parts, storing other
 -- bytes of the same length at the place of part k gives the bytes with that part exchanged.
 -- The idea: `Begins ps s₀ s` says that s is s₀ with the parts ps stored in front, each of its size. A call begins with the parts of the state that
--- it is lent (`proofs.StateLaws`), or with whatever stands there (`begins-any`), and stores part after part (`part-stored`).
+-- it is lent (`proofs.StateLaws`), or with whatever stands there (`begins-any`), and stores part after part (`part_stored`).
 -- No contract cites this file. Assumes nothing.
 use Prim.Native.Nat.{ℕ, zero, suc, ◌+◌, ◌*◌, ◌≤◌, ◌<◌}
 use mathlib.Core.Path.{◌≡◌, refl, sym, ap, ◌∙◌}
@@ -12,11 +12,11 @@ use lib.ListN.{length, get_or, set}
 use lib.Seq.{set-set}
 use Rattle.numbers.specs.Numbers.{put}
 use Rattle.numbers.proofs.NumberLaws.{put-append, set-put}
-use Rattle.epochs.specs.Epochs.{epochsMost}
-use Rattle.clocks.specs.Places.{placeSize}
-use Rattle.state.specs.Layout.{joined, dataMost, datumSize, entriesMost, entrySize, clocksMost, stateSize}
-use Rattle.state.proofs.LayoutLaws.{part, length_part, part-add, At, at_first, at-then}
-use Rattle.state.proofs.PutLaws.{put-swap, part-stands, put-stands}
+use Rattle.epochs.specs.Epochs.{epochs_most}
+use Rattle.clocks.specs.Places.{place_size}
+use Rattle.state.specs.Layout.{joined, data_most, datum_size, entries_most, entry_size, clocks_most, state_size}
+use Rattle.state.proofs.LayoutLaws.{part, length_part, part_add, At, at_first_lem, at_then}
+use Rattle.state.proofs.PutLaws.{put_swap, part_stands, put_stands}
 
 -- ---- parts of given sizes
 
@@ -38,42 +38,42 @@ abbrev pub together : List (List ℕ) → List ℕ
 together ps = joined (λ p. p) ps
 
 -- the parts of these sizes that stand in s from index at on
-unfoldable pub cutFrom : ℕ → List ℕ → List ℕ → List (List ℕ)
-cutFrom at [] s = []
-cutFrom at (n ∷ ns) s = part at n s ∷ cutFrom (at + n) ns s
+unfoldable pub cut_from : ℕ → List ℕ → List ℕ → List (List ℕ)
+cut_from at [] s = []
+cut_from at (n ∷ ns) s = part at n s ∷ cut_from (at + n) ns s
 
 -- all sizes together
 abbrev total : List ℕ → ℕ
 total [] = 0
 total (n ∷ ns) = n + total ns
 
-cut-sized : (at : ℕ) (ns s : List ℕ) → at + total ns ≤ length s → Sized ns (cutFrom at ns s)
-unfolding cutFrom
-cut-sized at [] s h = tt
-cut-sized at (n ∷ ns) s h = (length_part at n s (omega arith), cut-sized (at + n) ns s (omega arith))
+cut_sized : (at : ℕ) (ns s : List ℕ) → at + total ns ≤ length s → Sized ns (cut_from at ns s)
+unfolding cut_from
+cut_sized at [] s h = tt
+cut_sized at (n ∷ ns) s h = (length_part at n s (omega arith), cut_sized (at + n) ns s (omega arith))
 
-pub cut-together : (at : ℕ) (ns s : List ℕ) → together (cutFrom at ns s) ≡ part at (total ns) s
-unfolding cutFrom joined
-cut-together at [] s = refl
-cut-together at (n ∷ ns) s = rw (cut-together (at + n) ns s) (sym (part-add at n (total ns) s))
+pub cut_together : (at : ℕ) (ns s : List ℕ) → together (cut_from at ns s) ≡ part at (total ns) s
+unfolding cut_from joined
+cut_together at [] s = refl
+cut_together at (n ∷ ns) s = rw (cut_together (at + n) ns s) (sym (part_add at n (total ns) s))
 
-pub length-together : (ns : List ℕ) (ps : List (List ℕ)) → Sized ns ps → length (together ps) ≡ total ns
+pub length_together : (ns : List ℕ) (ps : List (List ℕ)) → Sized ns ps → length (together ps) ≡ total ns
 unfolding joined
-length-together [] [] z = refl
-length-together [] (p ∷ ps) z = absurd z
-length-together (n ∷ ns) [] z = absurd z
-length-together (n ∷ ns) (p ∷ ps) z = rw (lib.ListN.length-append, z.0, length-together ns ps z.1)
+length_together [] [] z = refl
+length_together [] (p ∷ ps) z = absurd z
+length_together (n ∷ ns) [] z = absurd z
+length_together (n ∷ ns) (p ∷ ps) z = rw (lib.ListN.length-append, z.0, length_together ns ps z.1)
 
 -- part k stands at its place
-pub at-part-in : (ns : List ℕ) (ps : List (List ℕ)) (k at : ℕ) (s : List ℕ) → Sized ns ps → k < length ps → At at (together ps) s
+pub at_part_in : (ns : List ℕ) (ps : List (List ℕ)) (k at : ℕ) (s : List ℕ) → Sized ns ps → k < length ps → At at (together ps) s
     → At (at + place_in ns k) (get_or ps k []) s
 unfolding joined
-at-part-in [] [] k at s z l h = absurd (omega arith)
-at-part-in [] (p ∷ ps) k at s z l h = absurd z
-at-part-in (n ∷ ns) [] k at s z l h = absurd z
-at-part-in (n ∷ ns) (p ∷ ps) zero at s z l h = rw add-zero (at_first at p (together ps) s h)
-at-part-in (n ∷ ns) (p ∷ ps) (suc k) at s z l h =
-    rw (← (add_assoc at n (place_in ns k))) (at-part-in ns ps k (at + n) s z.1 (omega arith) (at-then n at p (together ps) s z.0 h))
+at_part_in [] [] k at s z l h = absurd (omega arith)
+at_part_in [] (p ∷ ps) k at s z l h = absurd z
+at_part_in (n ∷ ns) [] k at s z l h = absurd z
+at_part_in (n ∷ ns) (p ∷ ps) zero at s z l h = rw add-zero (at_first_lem at p (together ps) s h)
+at_part_in (n ∷ ns) (p ∷ ps) (suc k) at s z l h =
+    rw (← (add_assoc at n (place_in ns k))) (at_part_in ns ps k (at + n) s z.1 (omega arith) (at_then n at p (together ps) s z.0 h))
 
 -- ---- one part exchanged
 
@@ -93,43 +93,43 @@ sized_set (n ∷ ns) [] k v z e = absurd z
 sized_set (n ∷ ns) (p ∷ ps) zero v z e = (e, z.1)
 sized_set (n ∷ ns) (p ∷ ps) (suc k) v z e = (z.0, sized_set ns ps k v z.1 e)
 
-part-put : (ns : List ℕ) (ps : List (List ℕ)) (k at : ℕ) (v s : List ℕ) → Sized ns ps → k < length ps → length v ≡ get_or ns k 0
+part_put : (ns : List ℕ) (ps : List (List ℕ)) (k at : ℕ) (v s : List ℕ) → Sized ns ps → k < length ps → length v ≡ get_or ns k 0
     → put (at + place_in ns k) v (put at (together ps) s) ≡ put at (together (set ps k v)) s
 unfolding joined
-part-put [] [] k at v s z l e = absurd (omega arith)
-part-put [] (p ∷ ps) k at v s z l e = absurd z
-part-put (n ∷ ns) [] k at v s z l e = absurd z
-part-put (n ∷ ns) (p ∷ ps) zero at v s z l e =
+part_put [] [] k at v s z l e = absurd (omega arith)
+part_put [] (p ∷ ps) k at v s z l e = absurd z
+part_put (n ∷ ns) [] k at v s z l e = absurd z
+part_put (n ∷ ns) (p ∷ ps) zero at v s z l e =
     rw (add-zero, put-append n at p (together ps) s z.0, put-append n at v (together ps) s e)
-    (put-swap at (at + n) v (together ps) (put at p s) (omega arith) ∙ ap (λ (t : List ℕ). put (at + n) (together ps) t) (put-over at v p s (omega (arith, z.0))))
-part-put (n ∷ ns) (p ∷ ps) (suc k) at v s z l e =
+    (put_swap at (at + n) v (together ps) (put at p s) (omega arith) ∙ ap (λ (t : List ℕ). put (at + n) (together ps) t) (put-over at v p s (omega (arith, z.0))))
+part_put (n ∷ ns) (p ∷ ps) (suc k) at v s z l e =
     rw (← (add_assoc at n (place_in ns k)), put-append n at p (together ps) s z.0, put-append n at p (together (set ps k v)) s z.0)
-    (part-put ns ps k (at + n) v (put at p s) z.1 (omega arith) e)
+    (part_put ns ps k (at + n) v (put at p s) z.1 (omega arith) e)
 
 -- ---- a state's parts
 
 -- their sizes
-abbrev pub partSizes : List ℕ
-partSizes = 4 ∷ 4 ∷ 8 ∷ 4 ∷ 4 ∷ dataMost * datumSize ∷ entriesMost * entrySize ∷ clocksMost * placeSize ∷ epochsMost ∷ []
+abbrev pub part_sizes : List ℕ
+part_sizes = 4 ∷ 4 ∷ 8 ∷ 4 ∷ 4 ∷ data_most * datum_size ∷ entries_most * entry_size ∷ clocks_most * place_size ∷ epochs_most ∷ []
 
 -- s is s₀ with the parts stored in front
 pub record Begins (ps : List (List ℕ)) (s₀ s : List ℕ) : Type 0 where
-  pub sized : Sized partSizes ps
+  pub sized : Sized part_sizes ps
   pub stored : s ≡ put 0 (together ps) s₀
 
 -- whatever stands there
-pub begins-any : (s : List ℕ) → stateSize ≤ length s → Begins (cutFrom 0 partSizes s) s s
+pub begins-any : (s : List ℕ) → state_size ≤ length s → Begins (cut_from 0 part_sizes s) s s
 begins-any s h =
     record {
-      sized = cut-sized 0 partSizes s h;
-      stored = rw (cut-together 0 partSizes s) (sym (put-stands 0 (part 0 (total partSizes) s) s (part-stands 0 (total partSizes) s)));
+      sized = cut_sized 0 part_sizes s h;
+      stored = rw (cut_together 0 part_sizes s) (sym (put_stands 0 (part 0 (total part_sizes) s) s (part_stands 0 (total part_sizes) s)));
     }
 
 -- THE law: a part is stored, and is exchanged
-pub part-stored : (k : ℕ) (v : List ℕ) (ps : List (List ℕ)) (s₀ s t : List ℕ) → k < length ps → length v ≡ get_or partSizes k 0
-    → t ≡ put (place_in partSizes k) v s → Begins ps s₀ s → Begins (set ps k v) s₀ t
-part-stored k v ps s₀ s t l e p b =
+pub part_stored : (k : ℕ) (v : List ℕ) (ps : List (List ℕ)) (s₀ s t : List ℕ) → k < length ps → length v ≡ get_or part_sizes k 0
+    → t ≡ put (place_in part_sizes k) v s → Begins ps s₀ s → Begins (set ps k v) s₀ t
+part_stored k v ps s₀ s t l e p b =
     record {
-      sized = sized_set partSizes ps k v b.sized e;
-      stored = p ∙ rw (b.stored, ← (zero-add (place_in partSizes k))) (part-put partSizes ps k 0 v s₀ b.sized l e);
+      sized = sized_set part_sizes ps k v b.sized e;
+      stored = p ∙ rw (b.stored, ← (zero-add (place_in part_sizes k))) (part_put part_sizes ps k 0 v s₀ b.sized l e);
     }

@@ -10,46 +10,46 @@ use lib.ListN.{length, get_or, take, drop, drop_of_length-le, get_or-append}
 use lib.Seq.{drop_at}
 use Rattle.numbers.specs.Numbers.{num, tab}
 use Rattle.predicates.specs.Lists.{all, padded}
-use Rattle.predicates.specs.Predicates.{isNormal, isTrue}
-use Rattle.predicates.proofs.ListLaws.{both_l, both_r, any_out, all-out, T_false}
-use Rattle.predicates.proofs.PredicateLaws.{true-first}
+use Rattle.predicates.specs.Predicates.{is_normal, is_true}
+use Rattle.predicates.proofs.ListLaws.{both_l, both_r, any_out, all_out, T_false}
+use Rattle.predicates.proofs.PredicateLaws.{true_first}
 use Rattle.predicates.proofs.PlaceLaws.{padded-zeros}
 use Rattle.epochs.specs.Epochs.{withdraw}
-use Rattle.epochs.proofs.WithdrawLaws.{withdraw-normal, withdraw-length, withdraw-some, withdraw-zero}
+use Rattle.epochs.proofs.WithdrawLaws.{withdraw-normal, withdraw-length, withdraw-some, withdraw_zero}
 use Rattle.state.specs.Layout.{zeros, masks_at, row_at}
-use Rattle.state.specs.Form.{termFits, rowFits}
-use Rattle.state.proofs.FormLaws.{row-le, length-row-at, row-padded}
+use Rattle.state.specs.Form.{term_fits, row_fits}
+use Rattle.state.proofs.FormLaws.{row_le, length-row_at, row-padded}
 use Rattle.state.proofs.StoreLaws.{length-masks}
 
 -- terms that fit leave a predicate open
-pub fits-untrue : (own : ℕ) (p : List ℕ) → T (all (termFits own) p) → isTrue p ≡ false
-unfolding termFits isTrue
-fits-untrue own p t =
-    T_false (isTrue p) (not_T (isTrue p) (λ h.
+pub fits_untrue : (own : ℕ) (p : List ℕ) → T (all (term_fits own) p) → is_true p ≡ false
+unfolding term_fits is_true
+fits_untrue own p t =
+    T_false (is_true p) (not_T (is_true p) (λ h.
     let m = any_out (λ u. eqb u 0) p h in
-    omega (arith, eqb→eq m.0 0 m.2, ltb→lt 0 m.0 (both_l (ltb 0 m.0) _ (all-out (termFits own) p t m.0 m.1)))))
+    omega (arith, eqb→eq m.0 0 m.2, ltb→lt 0 m.0 (both_l (ltb 0 m.0) _ (all_out (term_fits own) p t m.0 m.1)))))
 
 -- a row in form
-module _ (own width at : ℕ) (s : List ℕ) (t : T (rowFits own width at s)) where
-  pub row-normal : T (isNormal (row_at width at s))
-  unfolding rowFits
+module _ (own width at : ℕ) (s : List ℕ) (t : T (row_fits own width at s)) where
+  pub row-normal : T (is_normal (row_at width at s))
+  unfolding row_fits
   row-normal = search (both_l, both_r) depth 9
 
   pub row-some : 0 < length (row_at width at s)
-  unfolding rowFits
-  row-some = omega (arith, leb→le 1 (num at 4 s) (search (both_l, both_r) depth 9), length-row-at own width at s t)
+  unfolding row_fits
+  row-some = omega (arith, leb→le 1 (num at 4 s) (search (both_l, both_r) depth 9), length-row_at own width at s t)
 
-  row-untrue : isTrue (row_at width at s) ≡ false
-  unfolding rowFits
-  row-untrue = fits-untrue own (row_at width at s) (search (both_l, both_r) depth 9)
+  row_untrue : is_true (row_at width at s) ≡ false
+  unfolding row_fits
+  row_untrue = fits_untrue own (row_at width at s) (search (both_l, both_r) depth 9)
 
   -- with names counted as failed it is true where its first mask is empty
-  pub row-true : (r : ℕ) → isTrue (withdraw r (row_at width at s)) ≡ eqb (get_or (padded width (withdraw r (row_at width at s))) 0 0) 0
+  pub row_true : (r : ℕ) → is_true (withdraw r (row_at width at s)) ≡ eqb (get_or (padded width (withdraw r (row_at width at s))) 0 0) 0
   unfolding padded
-  row-true r =
+  row_true r =
       let w = withdraw r (row_at width at s) in
       let some : 0 < length w = withdraw-some r (row_at width at s) row-some in
-      true-first w (withdraw-normal r (row_at width at s)) some ∙ ap (λ (x : ℕ). eqb x 0) (sym (get_or-append w (zeros (width - length w)) 0 0 some))
+      true_first w (withdraw-normal r (row_at width at s)) some ∙ ap (λ (x : ℕ). eqb x 0) (sym (get_or-append w (zeros (width - length w)) 0 0 some))
 
   -- its masks have been read, and are withdrawn or left
   module _ (row₀ row : List ℕ) (e : length row₀ ≡ width) (q : row ≡ tab width (λ k. num (at + 4 + k * 4) 4 s) ++ drop width row₀) where
@@ -60,8 +60,8 @@ module _ (own width at : ℕ) (s : List ℕ) (t : T (rowFits own width at s)) wh
     pub seen_read : (r n : ℕ) → r ≡ 0 → n ≡ num at 4 s
         → ((n ≡ length (withdraw r (row_at width at s))) × (n ≤ width)) × (row ≡ padded width (withdraw r (row_at width at s)))
     seen_read r n z p =
-        let same = withdraw-zero (row_at width at s) row-normal in
-        rw (z, same) ((p ∙ sym (length-row-at own width at s t), omega (arith, row-le own width at s t)), row_read ∙ sym (row-padded own width at s t))
+        let same = withdraw_zero (row_at width at s) row-normal in
+        rw (z, same) ((p ∙ sym (length-row_at own width at s t), omega (arith, row_le own width at s t)), row_read ∙ sym (row-padded own width at s t))
 
     module _ (n : ℕ) (p : n ≡ num at 4 s) where
       pub taken-read : take n row ≡ row_at width at s
@@ -69,15 +69,15 @@ module _ (own width at : ℕ) (s : List ℕ) (t : T (rowFits own width at s)) wh
       taken-read = rw (p, row_read)
 
       pub length-read : n ≤ length row
-      length-read = omega (arith, ap length row_read, length-masks width at s, row-le own width at s t)
+      length-read = omega (arith, ap length row_read, length-masks width at s, row_le own width at s t)
 
-      pub seen-withdrawn : (r : ℕ) (u : List ℕ) → u ≡ padded n (withdraw r (take n row)) ++ drop n row → u ≡ padded width (withdraw r (row_at width at s))
+      pub seen_withdrawn : (r : ℕ) (u : List ℕ) → u ≡ padded n (withdraw r (take n row)) ++ drop n row → u ≡ padded width (withdraw r (row_at width at s))
       unfolding padded
-      seen-withdrawn r u f =
+      seen_withdrawn r u f =
           let terms = row_at width at s in
           let w = withdraw r terms in
-          let used : length terms ≡ n = length-row-at own width at s t ∙ sym p in
-          let full : n + (width - n) ≡ width = omega (arith, row-le own width at s t) in
+          let used : length terms ≡ n = length-row_at own width at s t ∙ sym p in
+          let full : n + (width - n) ≡ width = omega (arith, row_le own width at s t) in
           let few : length w ≤ n = omega (arith, withdraw-length r terms) in
           let rest : drop n row ≡ zeros (width - n) ++ [] =
           ap (λ (l : List ℕ). drop n l) (row_read ∙ sym (row-padded own width at s t)) ∙ drop_at terms (zeros (width - length terms)) n used

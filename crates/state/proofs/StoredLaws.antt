@@ -11,10 +11,10 @@ use native.Mathlib.Omega.{arith}
 use Rattle.numbers.specs.Numbers.{Bytes, put}
 use Rattle.numbers.proofs.NumberLaws.{put_front, length-put}
 use Rattle.state.specs.Model.{State}
-use Rattle.state.specs.Layout.{stateSize, joined, parts, stateBytes, state_of}
-use Rattle.state.specs.Form.{inForm, stateOk}
-use Rattle.state.proofs.PartLaws.{Sized, place_in, together, partSizes}
-use Rattle.state.proofs.StateLaws.{parts-sized, length-state, form-ok, form-split}
+use Rattle.state.specs.Layout.{state_size, joined, parts, state_bytes, state_of}
+use Rattle.state.specs.Form.{in_form, state_ok}
+use Rattle.state.proofs.PartLaws.{Sized, place_in, together, part_sizes}
+use Rattle.state.proofs.StateLaws.{parts_sized, length-state, form_ok, form_split}
 
 drop_past : (p r : List ℕ) (k : ℕ) → drop (length p + k) (p ++ r) ≡ drop k r
 drop_past [] r k = rw (zero-add k)
@@ -48,41 +48,41 @@ take-parts (suc k) (n ∷ ns) (p ∷ ps) r z =
 
 -- ---- a state stored where another stood
 
-module _ (s : List ℕ) (b : Bytes s) (t : T (inForm s)) (h : stateSize ≤ length s) (st : State) (ok : T (stateOk st)) where
+module _ (s : List ℕ) (b : Bytes s) (t : T (in_form s)) (h : state_size ≤ length s) (st : State) (ok : T (state_ok st)) where
   -- both, as parts and what lies beyond
-  old : s ≡ together (parts (state_of s)) ++ drop stateSize s
-  unfolding stateBytes
-  old = form-split s t b h
+  old : s ≡ together (parts (state_of s)) ++ drop state_size s
+  unfolding state_bytes
+  old = form_split s t b h
 
-  new : put 0 (stateBytes st) s ≡ together (parts st) ++ drop stateSize s
-  unfolding stateBytes
-  new = put_front stateSize (stateBytes st) s (length-state st ok) h
+  new : put 0 (state_bytes st) s ≡ together (parts st) ++ drop state_size s
+  unfolding state_bytes
+  new = put_front state_size (state_bytes st) s (length-state st ok) h
 
   pub behind-same : (k : ℕ) → drop k (parts st) ≡ drop k (parts (state_of s))
-      → drop (place_in partSizes k) (put 0 (stateBytes st) s) ≡ drop (place_in partSizes k) s
+      → drop (place_in part_sizes k) (put 0 (state_bytes st) s) ≡ drop (place_in part_sizes k) s
   behind-same k e =
-      let r = drop stateSize s in
-      ap (λ (l : List ℕ). drop (place_in partSizes k) l) new ∙ drop-parts k partSizes (parts st) r (parts-sized st ok)
+      let r = drop state_size s in
+      ap (λ (l : List ℕ). drop (place_in part_sizes k) l) new ∙ drop-parts k part_sizes (parts st) r (parts_sized st ok)
       ∙ ap (λ (ps : List (List ℕ)). together ps ++ r) e
-      ∙ sym (drop-parts k partSizes (parts (state_of s)) r (parts-sized (state_of s) (form-ok s t)))
-      ∙ ap (λ (l : List ℕ). drop (place_in partSizes k) l) (sym old)
+      ∙ sym (drop-parts k part_sizes (parts (state_of s)) r (parts_sized (state_of s) (form_ok s t)))
+      ∙ ap (λ (l : List ℕ). drop (place_in part_sizes k) l) (sym old)
 
   pub before_same : (k : ℕ) → take k (parts st) ≡ take k (parts (state_of s))
-      → take (place_in partSizes k) (put 0 (stateBytes st) s) ≡ take (place_in partSizes k) s
+      → take (place_in part_sizes k) (put 0 (state_bytes st) s) ≡ take (place_in part_sizes k) s
   before_same k e =
-      let r = drop stateSize s in
-      ap (λ (l : List ℕ). take (place_in partSizes k) l) new ∙ take-parts k partSizes (parts st) r (parts-sized st ok)
+      let r = drop state_size s in
+      ap (λ (l : List ℕ). take (place_in part_sizes k) l) new ∙ take-parts k part_sizes (parts st) r (parts_sized st ok)
       ∙ ap together e
-      ∙ sym (take-parts k partSizes (parts (state_of s)) r (parts-sized (state_of s) (form-ok s t)))
-      ∙ ap (λ (l : List ℕ). take (place_in partSizes k) l) (sym old)
+      ∙ sym (take-parts k part_sizes (parts (state_of s)) r (parts_sized (state_of s) (form_ok s t)))
+      ∙ ap (λ (l : List ℕ). take (place_in part_sizes k) l) (sym old)
 
 -- bytes of the front put back: the parts behind them were the same all along
-module _ (s : List ℕ) (b : Bytes s) (t : T (inForm s)) (h : stateSize ≤ length s) (st : State) (ok : T (stateOk st)) where
-  pub front-back : (u : List ℕ) (k n : ℕ) → n ≡ place_in partSizes k → n ≤ length s → drop k (parts st) ≡ drop k (parts (state_of s)) → u ≡ put 0 (stateBytes st) s
+module _ (s : List ℕ) (b : Bytes s) (t : T (in_form s)) (h : state_size ≤ length s) (st : State) (ok : T (state_ok st)) where
+  pub front_back : (u : List ℕ) (k n : ℕ) → n ≡ place_in part_sizes k → n ≤ length s → drop k (parts st) ≡ drop k (parts (state_of s)) → u ≡ put 0 (state_bytes st) s
       → put 0 (take n s) u ≡ s
-  front-back u k n p l e q =
+  front_back u k n p l e q =
       let long : length (take n s) ≡ n = length-take-le n s l in
-      let same : length u ≡ length s = ap length q ∙ length-put 0 (stateBytes st) s in
+      let same : length u ≡ length s = ap length q ∙ length-put 0 (state_bytes st) s in
       put_front n (take n s) u long (omega arith)
       ∙ ap (λ (x : List ℕ). take n s ++ x) (rw (q, p) (behind-same s b t h st ok k e))
       ∙ take-append-drop n s

@@ -4,27 +4,27 @@
 use Rattle.std.specs.Prelude.{ℕ, ◌+◌, Bool, ◌&&◌, not, List, length, drop, leb, ltb, eqb}
 use Rattle.std.proofs.Math.Seq.{slice}
 use Rattle.numbers.specs.Numbers.{num}
-use Rattle.names.specs.Sets.{noSet, has}
+use Rattle.names.specs.Sets.{no_set, has}
 use Rattle.predicates.specs.Lists.{all, all_below}
-use Rattle.predicates.specs.Predicates.{isNormal}
+use Rattle.predicates.specs.Predicates.{is_normal}
 use Rattle.ends.specs.Ends.{million}
-use Rattle.epochs.specs.Epochs.{epochMost, epochsMost, epochsIn}
-use Rattle.clocks.specs.Clocks.{savedOk}
-use Rattle.clocks.specs.Places.{placeFits}
-use Rattle.state.specs.Model.{Datum, Head, Store, State, nameMost, endLimit, readingLimit}
-use Rattle.clocks.specs.Clocks.{driftMost}
-use Rattle.state.specs.Layout.{own_at, driftAt, readingAt, row_in, leftMillionthsIn, rightMillionthsIn, dataMost, datumTerms, entriesMost, entryTerms}
-use Rattle.state.specs.Layout.{datumPlace, entryPlace, masks_at, row_at, datumAt, heldCount, entryCount, clocksMost, clockPlace, epochsAt}
+use Rattle.epochs.specs.Epochs.{epoch_most, epochs_most, epochs_in}
+use Rattle.clocks.specs.Clocks.{saved_ok}
+use Rattle.clocks.specs.Places.{place_fits}
+use Rattle.state.specs.Model.{Datum, Head, Store, State, name_most, end_limit, reading_limit}
+use Rattle.clocks.specs.Clocks.{drift_most}
+use Rattle.state.specs.Layout.{own_at, drift_at, reading_at, row_in, left_millionths_in, right_millionths_in, data_most, datum_terms, entries_most, entry_terms}
+use Rattle.state.specs.Layout.{datum_place, entry_place, masks_at, row_at, datum_at, held_count, entry_count, clocks_most, clock_place, epochs_at}
 
 -- ---- terms and predicates
 
 -- a term of a state: "no empty term", names 0 to 28, "no own name"
-unfoldable pub termFits : ℕ → ℕ → Bool
-termFits own t = ltb 0 t && (ltb t noSet && not (has own t))
+unfoldable pub term_fits : ℕ → ℕ → Bool
+term_fits own t = ltb 0 t && (ltb t no_set && not (has own t))
 
 -- a predicate of 1 to `width` terms: "a datum has 1 to 8 terms, an entry 1 to 16"
-unfoldable pub termsFit : ℕ → ℕ → List ℕ → Bool
-termsFit own width p = leb 1 (length p) && (leb (length p) width && (isNormal p && all (termFits own) p))
+unfoldable pub terms_fit : ℕ → ℕ → List ℕ → Bool
+terms_fit own width p = leb 1 (length p) && (leb (length p) width && (is_normal p && all (term_fits own) p))
 
 -- ---- the bytes
 
@@ -33,66 +33,66 @@ unfoldable pub is_zero : ℕ → ℕ → List ℕ → Bool
 is_zero from to s = all (λ b. eqb b 0) (slice from to s)
 
 -- the row at `at`: its count, the terms in use, and zeros in the masks that are not
-unfoldable pub rowFits : ℕ → ℕ → ℕ → List ℕ → Bool
-rowFits own width at s =
+unfoldable pub row_fits : ℕ → ℕ → ℕ → List ℕ → Bool
+row_fits own width at s =
     leb 1 (num at 4 s) && (leb (num at 4 s) width
-    && (isNormal (row_at width at s) && (all (termFits own) (row_at width at s) && all (λ t. eqb t 0) (drop (num at 4 s) (masks_at width at s)))))
+    && (is_normal (row_at width at s) && (all (term_fits own) (row_at width at s) && all (λ t. eqb t 0) (drop (num at 4 s) (masks_at width at s)))))
 
 -- millionths "0 to 999,999" (document 02, W-205), "left at most right", both with their millionths, and none above 2^58 − 1
-unfoldable pub datumFits : ℕ → List ℕ → ℕ → Bool
-datumFits own s i =
-    ltb (num (datumPlace i + leftMillionthsIn) 4 s) million
-    && (ltb (num (datumPlace i + rightMillionthsIn) 4 s) million
-    && (leb (datumAt s i).left (datumAt s i).right
-    && (ltb (datumAt s i).right endLimit && rowFits own datumTerms (datumPlace i + row_in) s)))
+unfoldable pub datum_fits : ℕ → List ℕ → ℕ → Bool
+datum_fits own s i =
+    ltb (num (datum_place i + left_millionths_in) 4 s) million
+    && (ltb (num (datum_place i + right_millionths_in) 4 s) million
+    && (leb (datum_at s i).left (datum_at s i).right
+    && (ltb (datum_at s i).right end_limit && row_fits own datum_terms (datum_place i + row_in) s)))
 
-unfoldable pub entryFits : ℕ → List ℕ → ℕ → Bool
-entryFits own s i = rowFits own entryTerms (entryPlace i) s
+unfoldable pub entry_fits : ℕ → List ℕ → ℕ → Bool
+entry_fits own s i = row_fits own entry_terms (entry_place i) s
 
 -- own name at most 28, drift at most 1,000, reading below 2^58, "At most 16 data and 32 entries"
-unfoldable pub headFits : List ℕ → Bool
-headFits s =
-    leb (num own_at 4 s) nameMost
-    && (leb (num driftAt 4 s) driftMost
-    && (ltb (num readingAt 8 s) readingLimit && (leb (heldCount s) dataMost && leb (entryCount s) entriesMost)))
+unfoldable pub head_fits : List ℕ → Bool
+head_fits s =
+    leb (num own_at 4 s) name_most
+    && (leb (num drift_at 4 s) drift_most
+    && (ltb (num reading_at 8 s) reading_limit && (leb (held_count s) data_most && leb (entry_count s) entries_most)))
 
 -- the places in use fit, and the others are zero
-unfoldable pub dataFit : List ℕ → Bool
-dataFit s = all_below (heldCount s) (datumFits (num own_at 4 s) s) && is_zero (datumPlace (heldCount s)) (datumPlace dataMost) s
+unfoldable pub data_fit : List ℕ → Bool
+data_fit s = all_below (held_count s) (datum_fits (num own_at 4 s) s) && is_zero (datum_place (held_count s)) (datum_place data_most) s
 
-unfoldable pub entriesFit : List ℕ → Bool
-entriesFit s = all_below (entryCount s) (entryFits (num own_at 4 s) s) && is_zero (entryPlace (entryCount s)) (entryPlace entriesMost) s
+unfoldable pub entries_fit : List ℕ → Bool
+entries_fit s = all_below (entry_count s) (entry_fits (num own_at 4 s) s) && is_zero (entry_place (entry_count s)) (entry_place entries_most) s
 
 -- each name's place, saved or not, the own one's too
-unfoldable pub clocksFit : List ℕ → Bool
-clocksFit s = all_below clocksMost (λ i. placeFits (clockPlace i) s)
+unfoldable pub clocks_fit : List ℕ → Bool
+clocks_fit s = all_below clocks_most (λ i. place_fits (clock_place i) s)
 
 -- each epoch is one, "0 to 15", the own one too
-unfoldable pub epochsFit : List ℕ → Bool
-epochsFit s = all (λ e. leb e epochMost) (epochsIn epochsAt s)
+unfoldable pub epochs_fit : List ℕ → Bool
+epochs_fit s = all (λ e. leb e epoch_most) (epochs_in epochs_at s)
 
 -- "In form", of a buffer of at least a state's size
-unfoldable pub inForm : List ℕ → Bool
-inForm s = headFits s && (dataFit s && (entriesFit s && (clocksFit s && epochsFit s)))
+unfoldable pub in_form : List ℕ → Bool
+in_form s = head_fits s && (data_fit s && (entries_fit s && (clocks_fit s && epochs_fit s)))
 
 -- ---- the state: what being in form means of it. The head, the store and the counts stand apart, since later parts join them one by one
 
-unfoldable pub headOk : Head → Bool
-headOk h =
-    leb h.own nameMost
-    && (leb h.drift driftMost
-    && (ltb h.reading readingLimit
-    && (eqb (length h.clocks) clocksMost
-    && (all savedOk h.clocks && (eqb (length h.epochs) epochsMost && all (λ e. leb e epochMost) h.epochs)))))
+unfoldable pub head_ok : Head → Bool
+head_ok h =
+    leb h.own name_most
+    && (leb h.drift drift_most
+    && (ltb h.reading reading_limit
+    && (eqb (length h.clocks) clocks_most
+    && (all saved_ok h.clocks && (eqb (length h.epochs) epochs_most && all (λ e. leb e epoch_most) h.epochs)))))
 
-unfoldable pub datumOk : ℕ → Datum → Bool
-datumOk own d = leb d.left d.right && (ltb d.right endLimit && termsFit own datumTerms d.terms)
+unfoldable pub datum_ok : ℕ → Datum → Bool
+datum_ok own d = leb d.left d.right && (ltb d.right end_limit && terms_fit own datum_terms d.terms)
 
-unfoldable pub storeOk : ℕ → Store → Bool
-storeOk own k = all (datumOk own) k.held && all (termsFit own entryTerms) k.entries
+unfoldable pub store_ok : ℕ → Store → Bool
+store_ok own k = all (datum_ok own) k.held && all (terms_fit own entry_terms) k.entries
 
-unfoldable pub countsOk : Store → Bool
-countsOk k = leb (length k.held) dataMost && leb (length k.entries) entriesMost
+unfoldable pub counts_ok : Store → Bool
+counts_ok k = leb (length k.held) data_most && leb (length k.entries) entries_most
 
-unfoldable pub stateOk : State → Bool
-stateOk st = headOk st.head && (storeOk st.head.own st.store && countsOk st.store)
+unfoldable pub state_ok : State → Bool
+state_ok st = head_ok st.head && (store_ok st.head.own st.store && counts_ok st.store)

@@ -25,8 +25,8 @@ pub record Head : Type 0 where
   pub epochs : List ℕ
 
 -- the head with other clocks
-abbrev pub withClocks : Head → List Saved → Head
-withClocks h cs = record { own = h.own; drift = h.drift; reading = h.reading; clocks = cs; epochs = h.epochs }
+abbrev pub with_clocks : Head → List Saved → Head
+with_clocks h cs = record { own = h.own; drift = h.drift; reading = h.reading; clocks = cs; epochs = h.epochs }
 
 -- the held data and the failure knowledge, a list of predicates
 pub record Store : Type 0 where
@@ -38,17 +38,17 @@ pub record State : Type 0 where
   pub store : Store
 
 -- "A name is 0 to 28."
-abbrev pub nameMost : ℕ
-nameMost = 28
+abbrev pub name_most : ℕ
+name_most = 28
 
 -- the last whole microsecond that can be stored: "Stored ends lie from 0 to 2^58 − 1"
-abbrev pub lastWhole : ℕ
-lastWhole = 2 ^ 58 - 1
+abbrev pub last_whole : ℕ
+last_whole = 2 ^ 58 - 1
 
 -- the first end, in millionths, that cannot be stored: "an end of 2^58 − 1 with a fraction above 0" (document 02, W-205)
-abbrev pub endLimit : ℕ
-endLimit = lastWhole * million + 1
+abbrev pub end_limit : ℕ
+end_limit = last_whole * million + 1
 
 -- the first reading that cannot be stored: "reading below 2^58"
-abbrev pub readingLimit : ℕ
-readingLimit = 2 ^ 58
+abbrev pub reading_limit : ℕ
+reading_limit = 2 ^ 58

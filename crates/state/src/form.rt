@@ -1,10 +1,10 @@
 // In form (document 01, "State bytes"), tested on the bytes: each call makes this test before it reads anything else.
 ghost use Rattle.std.specs.Prelude.{◌≡◌, ◌&&◌, ◌+◌, ◌*◌, ◌≤◌, ◌<◌, length, eqb};
 ghost use Rattle.predicates.specs.Lists.{all, all_below};
-ghost use Rattle.predicates.specs.Predicates.{isNormal};
-ghost use Rattle.state.specs.Layout.{stateSize, dataMost, entriesMost, entryTerms, datumPlace, entryPlace};
+ghost use Rattle.predicates.specs.Predicates.{is_normal};
+ghost use Rattle.state.specs.Layout.{state_size, data_most, entries_most, entry_terms, datum_place, entry_place};
 ghost use Rattle.state.specs.Refusal.{lent};
-ghost use Rattle.state.specs.Form.{termFits, is_zero, rowFits, datumFits, entryFits, headFits, clocksFit, inForm};
+ghost use Rattle.state.specs.Form.{term_fits, is_zero, row_fits, datum_fits, entry_fits, head_fits, clocks_fit, in_form};
 
 // The most data and entries, as the head counts them.
 const HELD_MOST: u32 = super::DATA_MOST as u32;
@@ -83,7 +83,7 @@ fn all_zero(p: &[u32]) -> bool
 // behind it (`all`) lies in none of them, which nearly always decides.
 fn terms_fit(p: &[u32], own: u32) -> bool
     requires { own < 32 }
-    ensures { result ≡ (isNormal p.now && all (termFits own) p.now) }
+    ensures { result ≡ (is_normal p.now && all (term_fits own) p.now) }
 {
     let mut next: u32 = names::NO_SET;
     let mut all: u32 = 0;
@@ -107,8 +107,8 @@ fn terms_fit(p: &[u32], own: u32) -> bool
 
 // Whether the row at `at` fits: its count, the terms in use, and zeros behind them.
 fn row_fits(s: &[u8], at: usize, width: usize, own: u32) -> bool
-    requires { (width ≤ entryTerms) × (at + 4 + width * 4 ≤ length s.now) × (own < 32) }
-    ensures { result ≡ rowFits own width at s.now }
+    requires { (width ≤ entry_terms) × (at + 4 + width * 4 ≤ length s.now) × (own < 32) }
+    ensures { result ≡ row_fits own width at s.now }
 {
     let count = numbers::get32(s, at);
     let n = count as usize;
@@ -125,8 +125,8 @@ fn row_fits(s: &[u8], at: usize, width: usize, own: u32) -> bool
 
 // Whether the datum in place i fits.
 fn datum_fits(s: &[u8], i: usize, own: u32) -> bool
-    requires { (i < dataMost) × (own < 32) × (stateSize ≤ length s.now) }
-    ensures { result ≡ datumFits own s.now i }
+    requires { (i < data_most) × (own < 32) × (state_size ≤ length s.now) }
+    ensures { result ≡ datum_fits own s.now i }
 {
     let ends = super::intervals::get(s, i);
     if ends::MILLION <= ends.left.millionths {
@@ -141,8 +141,8 @@ fn datum_fits(s: &[u8], i: usize, own: u32) -> bool
 
 // Whether the entry in place i fits.
 fn entry_fits(s: &[u8], i: usize, own: u32) -> bool
-    requires { (i < entriesMost) × (own < 32) × (stateSize ≤ length s.now) }
-    ensures { result ≡ entryFits own s.now i }
+    requires { (i < entries_most) × (own < 32) × (state_size ≤ length s.now) }
+    ensures { result ≡ entry_fits own s.now i }
 {
     row_fits(
         s,
@@ -154,8 +154,8 @@ fn entry_fits(s: &[u8], i: usize, own: u32) -> bool
 
 // Whether own name, drift, reading and the two counts are in their ranges.
 fn head_fits(s: &[u8]) -> bool
-    requires { stateSize ≤ length s.now }
-    ensures { result ≡ headFits s.now }
+    requires { state_size ≤ length s.now }
+    ensures { result ≡ head_fits s.now }
 {
     let own = numbers::get32(s, super::OWN_AT);
     let drift = numbers::get32(s, super::DRIFT_AT);
@@ -169,8 +169,8 @@ fn head_fits(s: &[u8]) -> bool
 
 // Whether the first n data fit, and the places behind them are zero.
 fn data_fit(s: &[u8], own: u32, n: usize) -> bool
-    requires { (n ≤ dataMost) × (own < 32) × (stateSize ≤ length s.now) }
-    ensures { result ≡ all_below n (datumFits own s.now) && is_zero (datumPlace n) (datumPlace dataMost) s.now }
+    requires { (n ≤ data_most) × (own < 32) × (state_size ≤ length s.now) }
+    ensures { result ≡ all_below n (datum_fits own s.now) && is_zero (datum_place n) (datum_place data_most) s.now }
 {
     let mut ok = true;
     let mut i: usize = 0;
@@ -187,8 +187,8 @@ fn data_fit(s: &[u8], own: u32, n: usize) -> bool
 
 // Whether the first n entries fit, and the places behind them are zero.
 fn entries_fit(s: &[u8], own: u32, n: usize) -> bool
-    requires { (n ≤ entriesMost) × (own < 32) × (stateSize ≤ length s.now) }
-    ensures { result ≡ all_below n (entryFits own s.now) && is_zero (entryPlace n) (entryPlace entriesMost) s.now }
+    requires { (n ≤ entries_most) × (own < 32) × (state_size ≤ length s.now) }
+    ensures { result ≡ all_below n (entry_fits own s.now) && is_zero (entry_place n) (entry_place entries_most) s.now }
 {
     let mut ok = true;
     let mut i: usize = 0;
@@ -205,8 +205,8 @@ fn entries_fit(s: &[u8], own: u32, n: usize) -> bool
 
 // Whether the place of each name's clock fits.
 fn clocks_fit(s: &[u8]) -> bool
-    requires { stateSize ≤ length s.now }
-    ensures { result ≡ clocksFit s.now }
+    requires { state_size ≤ length s.now }
+    ensures { result ≡ clocks_fit s.now }
 {
     let mut i: usize = 0;
     while i < super::CLOCKS_MOST {
@@ -220,8 +220,8 @@ fn clocks_fit(s: &[u8]) -> bool
 
 // Whether the state at the front of s is in form.
 fn in_form(s: &[u8]) -> bool
-    requires { stateSize ≤ length s.now }
-    ensures { result ≡ inForm s.now }
+    requires { state_size ≤ length s.now }
+    ensures { result ≡ in_form s.now }
 {
     if !head_fits(s) {
         return false;

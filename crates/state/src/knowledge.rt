@@ -1,6 +1,6 @@
 // The failure knowledge by value: counts and masks in flat arrays (document 01, "Which language form to use").
 ghost use Rattle.std.specs.Prelude.{◌≡◌};
-ghost use Rattle.state.specs.code.Known.{nothingKnown};
+ghost use Rattle.state.specs.code.Known.{nothing_known};
 
 // Oldest entry first: entry i has its terms from 16 * i on.
 #[derive(Drop)]
@@ -12,7 +12,7 @@ pub struct Knowledge {
 
 // The knowledge of a fresh state: no entry, and all masks zero.
 pub fn fresh() -> Knowledge
-    ensures { result ≡ nothingKnown }
+    ensures { result ≡ nothing_known }
 {
     Knowledge {
         count: 0,

@@ -2,9 +2,9 @@
 ghost use Rattle.std.specs.Prelude.{◌≡◌, ◌+◌, ◌*◌, ◌-◌, ◌≤◌, ◌<◌, length};
 ghost use Rattle.numbers.specs.Numbers.{put};
 ghost use Rattle.ends.specs.Ends.{BothSplit};
-ghost use Rattle.state.specs.Layout.{stateSize, dataMost, datumTerms, entriesMost, entryTerms, datumPlace, entryPlace};
-ghost use Rattle.state.specs.Layout.{zeros, rowBytes, datumBytes, entryBytes};
-ghost use Rattle.state.specs.code.Tables.{datumOf};
+ghost use Rattle.state.specs.Layout.{state_size, data_most, datum_terms, entries_most, entry_terms, datum_place, entry_place};
+ghost use Rattle.state.specs.Layout.{zeros, row_bytes, datum_bytes, entry_bytes};
+ghost use Rattle.state.specs.code.Tables.{datum_of};
 
 use ends::Ends;
 
@@ -22,8 +22,8 @@ pub fn clear(s: &mut [u8], from: usize, to: usize)
 
 // Puts a predicate into the row at `at`: the count, the terms, and zeros up to the width.
 fn put_row(s: &mut [u8], at: usize, width: usize, terms: &[u32])
-    requires { (length terms.now ≤ width) × (width ≤ entryTerms) × (at + 4 + width * 4 ≤ length s.old) }
-    ensures { s.new ≡ put at (rowBytes width terms.now) s.old }
+    requires { (length terms.now ≤ width) × (width ≤ entry_terms) × (at + 4 + width * 4 ≤ length s.old) }
+    ensures { s.new ≡ put at (row_bytes width terms.now) s.old }
 {
     let n = terms.len();
     numbers::put32(s, at, n as u32);
@@ -33,8 +33,8 @@ fn put_row(s: &mut [u8], at: usize, width: usize, terms: &[u32])
 
 // Puts a datum into place i.
 pub(crate) fn put_datum(s: &mut [u8], i: usize, ends: Ends, terms: &[u32])
-    requires { (i < dataMost) × (length terms.now ≤ datumTerms) × (stateSize ≤ length s.old) × BothSplit ends }
-    ensures { s.new ≡ put (datumPlace i) (datumBytes (datumOf ends terms.now)) s.old }
+    requires { (i < data_most) × (length terms.now ≤ datum_terms) × (state_size ≤ length s.old) × BothSplit ends }
+    ensures { s.new ≡ put (datum_place i) (datum_bytes (datum_of ends terms.now)) s.old }
 {
     let at = super::DATA_AT + i * super::DATUM_SIZE;
     numbers::put64(s, at, ends.left.whole);
@@ -46,8 +46,8 @@ pub(crate) fn put_datum(s: &mut [u8], i: usize, ends: Ends, terms: &[u32])
 
 // Puts an entry into place i.
 pub(crate) fn put_entry(s: &mut [u8], i: usize, terms: &[u32])
-    requires { (i < entriesMost) × (length terms.now ≤ entryTerms) × (stateSize ≤ length s.old) }
-    ensures { s.new ≡ put (entryPlace i) (entryBytes terms.now) s.old }
+    requires { (i < entries_most) × (length terms.now ≤ entry_terms) × (state_size ≤ length s.old) }
+    ensures { s.new ≡ put (entry_place i) (entry_bytes terms.now) s.old }
 {
     put_row(
         s,

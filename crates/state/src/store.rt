@@ -3,16 +3,16 @@
 ghost use Rattle.std.specs.Prelude.{◌≡◌, List, ◌++◌, ℕ, ◌+◌, ◌*◌, ◌≤◌, ◌<◌, T, length, get_or, take, drop};
 ghost use Rattle.numbers.specs.Numbers.{num, bytes, put, tab};
 ghost use Rattle.predicates.specs.Lists.{padded};
-ghost use Rattle.ends.specs.code.Columns.{endNumbers};
+ghost use Rattle.ends.specs.code.Columns.{end_numbers};
 ghost use Rattle.epochs.specs.Epochs.{withdraw};
-ghost use Rattle.state.specs.Layout.{stateSize, own_at, held_at, known_at, dataAt, dataMost, datumSize, datumTerms, row_in};
-ghost use Rattle.state.specs.Layout.{entries_at, entriesMost, entrySize, entryTerms};
-ghost use Rattle.state.specs.code.Tables.{rowsMost};
-ghost use Rattle.state.specs.Layout.{datumPlace, entryPlace, entryCount, row_at, masks_at, head_of};
-ghost use Rattle.state.specs.Layout.{datumBytes, entryBytes, dataBytes, entriesBytes, joined, stateBytes};
-ghost use Rattle.state.specs.Form.{is_zero, rowFits, inForm};
-ghost use Rattle.state.specs.code.Tables.{Columns, Table, table, columns, tableFrom, ColumnsFit, TableFits, DataStand, EntriesStand};
-ghost use Rattle.state.specs.code.Tables.{row_of, entriesIn, datumIn, dataIn, storeIn, ends_at};
+ghost use Rattle.state.specs.Layout.{state_size, own_at, held_at, known_at, data_at, data_most, datum_size, datum_terms, row_in};
+ghost use Rattle.state.specs.Layout.{entries_at, entries_most, entry_size, entry_terms};
+ghost use Rattle.state.specs.code.Tables.{rows_most};
+ghost use Rattle.state.specs.Layout.{datum_place, entry_place, entry_count, row_at, masks_at, head_of};
+ghost use Rattle.state.specs.Layout.{datum_bytes, entry_bytes, data_bytes, entries_bytes, joined, state_bytes};
+ghost use Rattle.state.specs.Form.{is_zero, row_fits, in_form};
+ghost use Rattle.state.specs.code.Tables.{Columns, Table, table, columns, table_from, ColumnsFit, TableFits, DataStand, EntriesStand};
+ghost use Rattle.state.specs.code.Tables.{row_of, entries_in, datum_in, data_in, store_in, ends_at};
 
 // Reads the masks of the row at `at`, used or not, into the places from `from` on.
 pub fn get_masks(s: &[u8], at: usize, width: usize, masks: &mut [u32], from: usize)
@@ -35,13 +35,13 @@ pub fn get_data(
     counts: &mut [u32],
     masks: &mut [u32],
 )
-    requires state_size_in_bounds { (stateSize ≤ length s.now) × (n ≤ dataMost) × (n * 2 ≤ length lefts.old) × (n * 2 ≤ length rights.old) }
-    requires n_in_bounds { (n ≤ length counts.old) × (n * datumTerms ≤ length masks.old) }
-    ensures lefts_after { lefts.new ≡ joined endNumbers (tab n (λ i. (ends_at s.now i).left)) ++ drop (n * 2) lefts.old }
-    ensures rights_after { rights.new ≡ joined endNumbers (tab n (λ i. (ends_at s.now i).right)) ++ drop (n * 2) rights.old }
-    ensures counts_after { counts.new ≡ tab n (λ i. num (datumPlace i + row_in) 4 s.now) ++ drop n counts.old }
+    requires state_size_in_bounds { (state_size ≤ length s.now) × (n ≤ data_most) × (n * 2 ≤ length lefts.old) × (n * 2 ≤ length rights.old) }
+    requires n_in_bounds { (n ≤ length counts.old) × (n * datum_terms ≤ length masks.old) }
+    ensures lefts_after { lefts.new ≡ joined end_numbers (tab n (λ i. (ends_at s.now i).left)) ++ drop (n * 2) lefts.old }
+    ensures rights_after { rights.new ≡ joined end_numbers (tab n (λ i. (ends_at s.now i).right)) ++ drop (n * 2) rights.old }
+    ensures counts_after { counts.new ≡ tab n (λ i. num (datum_place i + row_in) 4 s.now) ++ drop n counts.old }
     ensures masks_after { masks.new ≡
-        joined (λ p. p) (tab n (λ i. masks_at datumTerms (datumPlace i + row_in) s.now)) ++ drop (n * datumTerms) masks.old }
+        joined (λ p. p) (tab n (λ i. masks_at datum_terms (datum_place i + row_in) s.now)) ++ drop (n * datum_terms) masks.old }
 {
     let mut i: usize = 0;
     while i < n {
@@ -73,14 +73,14 @@ fn put_data(
     standing: usize,
 ) -> usize
     requires columns_fit { ColumnsFit n (columns lefts.now rights.now counts.now masks.now) }
-    requires masks_len_bound { length (dataIn n (columns lefts.now rights.now counts.now masks.now)) ≤ dataMost }
-    requires n_bound { (n ≤ dataMost + 1) × (stateSize ≤ length s.old) }
+    requires masks_len_bound { length (data_in n (columns lefts.now rights.now counts.now masks.now)) ≤ data_most }
+    requires n_bound { (n ≤ data_most + 1) × (state_size ≤ length s.old) }
     requires by_index { (i : ℕ) → i < standing → (get_or counts.now i 0 ≡ 0 → ⊥)
-        → put (datumPlace i) (datumBytes (datumIn (columns lefts.now rights.now counts.now masks.now) i)) s.old ≡ s.old }
+        → put (datum_place i) (datum_bytes (datum_in (columns lefts.now rights.now counts.now masks.now) i)) s.old ≡ s.old }
     ensures fact { (let c : Columns = columns lefts.now rights.now counts.now masks.now in
-        (result ≡ length (dataIn n c)) × (length (joined datumBytes (dataIn n c)) ≡ result * datumSize)) }
+        (result ≡ length (data_in n c)) × (length (joined datum_bytes (data_in n c)) ≡ result * datum_size)) }
     ensures s_after { (let c : Columns = columns lefts.now rights.now counts.now masks.now in
-        s.new ≡ put dataAt (joined datumBytes (dataIn n c)) s.old) }
+        s.new ≡ put data_at (joined datum_bytes (data_in n c)) s.old) }
 {
     let mut r: usize = 0;
     let mut i: usize = 0;
@@ -103,8 +103,8 @@ fn put_data(
 // Reads the row at `at`, which is in form, where the names of `risen` count as failed: its masks, with zeros behind those in use. Answers how many
 // are.
 pub fn get_seen(s: &[u8], at: usize, width: usize, risen: u32, row: &mut [u32]) -> usize
-    requires width_in_bounds { (at + 4 + width * 4 ≤ length s.now) × (length row.old ≡ width) × (width ≤ entryTerms) }
-    requires t { T (rowFits (num own_at 4 s.now) width at s.now) }
+    requires width_in_bounds { (at + 4 + width * 4 ≤ length s.now) × (length row.old ≡ width) × (width ≤ entry_terms) }
+    requires t { T (row_fits (num own_at 4 s.now) width at s.now) }
     ensures value { (result ≡ length (withdraw risen (row_at width at s.now))) × (result ≤ width) }
     ensures row_after { row.new ≡ padded width (withdraw risen (row_at width at s.now)) }
 {
@@ -118,9 +118,9 @@ pub fn get_seen(s: &[u8], at: usize, width: usize, risen: u32, row: &mut [u32]) 
 
 // Writes the entry in place i, of `count` terms, into place r.
 fn move_entry(s: &mut [u8], i: usize, count: usize, r: usize)
-    requires { (i < entriesMost) × (r < entriesMost) × (count ≤ entryTerms) × (stateSize ≤ length s.old) }
-    ensures { (let e : List ℕ = take count (masks_at entryTerms (entryPlace i) s.old) in
-        s.new ≡ put (entryPlace r) (entryBytes e) s.old) }
+    requires { (i < entries_most) × (r < entries_most) × (count ≤ entry_terms) × (state_size ≤ length s.old) }
+    ensures { (let e : List ℕ = take count (masks_at entry_terms (entry_place i) s.old) in
+        s.new ≡ put (entry_place r) (entry_bytes e) s.old) }
 {
     let mut row = [0u32; super::ENTRY_TERMS];
     get_masks(
@@ -136,15 +136,15 @@ fn move_entry(s: &mut [u8], i: usize, count: usize, r: usize)
 // Writes the entries that have terms into the places from the front, in order. Answers how many there are. The rows below `first` have their terms in
 // these very places; what still stands in its own is not written again.
 fn put_entries(s: &mut [u8], first: usize, counts: &[u32], masks: &[u32], n: usize) -> usize
-    requires table_fits { TableFits entryTerms n (tableFrom first s.old counts.now masks.now) }
-    requires masks_len_bound { length (entriesIn n (tableFrom first s.old counts.now masks.now)) ≤ entriesMost }
-    requires n_le_rows_most { (n ≤ rowsMost) × (first ≤ entriesMost) × (stateSize ≤ length s.old) }
+    requires table_fits { TableFits entry_terms n (table_from first s.old counts.now masks.now) }
+    requires masks_len_bound { length (entries_in n (table_from first s.old counts.now masks.now)) ≤ entries_most }
+    requires n_le_rows_most { (n ≤ rows_most) × (first ≤ entries_most) × (state_size ≤ length s.old) }
     requires by_index { (i : ℕ) → i < first → (get_or counts.now i 0 ≡ 0 → ⊥)
-        → put (entryPlace i) (entryBytes (row_of entryTerms (tableFrom first s.old counts.now masks.now) i)) s.old ≡ s.old }
-    ensures fact { (let t : Table = tableFrom first s.old counts.now masks.now in
-        (result ≡ length (entriesIn n t)) × (length (joined entryBytes (entriesIn n t)) ≡ result * entrySize)) }
-    ensures s_after { (let t : Table = tableFrom first s.old counts.now masks.now in
-        s.new ≡ put entries_at (joined entryBytes (entriesIn n t)) s.old) }
+        → put (entry_place i) (entry_bytes (row_of entry_terms (table_from first s.old counts.now masks.now) i)) s.old ≡ s.old }
+    ensures fact { (let t : Table = table_from first s.old counts.now masks.now in
+        (result ≡ length (entries_in n t)) × (length (joined entry_bytes (entries_in n t)) ≡ result * entry_size)) }
+    ensures s_after { (let t : Table = table_from first s.old counts.now masks.now in
+        s.new ≡ put entries_at (joined entry_bytes (entries_in n t)) s.old) }
 {
     let mut r: usize = 0;
     let mut i: usize = 0;
@@ -178,13 +178,13 @@ pub fn put_held(
     used: usize,
 )
     requires columns_fit { ColumnsFit n (columns lefts.now rights.now counts.now masks.now) }
-    requires masks_len_bound { length (dataIn n (columns lefts.now rights.now counts.now masks.now)) ≤ dataMost }
-    requires n_bound { (n ≤ dataMost + 1) × (stateSize ≤ length s.old) }
-    requires used_le_data_most { (used ≤ dataMost) × T (is_zero (datumPlace used) (datumPlace dataMost) s.old) }
+    requires masks_len_bound { length (data_in n (columns lefts.now rights.now counts.now masks.now)) ≤ data_most }
+    requires n_bound { (n ≤ data_most + 1) × (state_size ≤ length s.old) }
+    requires used_le_data_most { (used ≤ data_most) × T (is_zero (datum_place used) (datum_place data_most) s.old) }
     requires by_index { (i : ℕ) → i < standing → (get_or counts.now i 0 ≡ 0 → ⊥)
-        → put (datumPlace i) (datumBytes (datumIn (columns lefts.now rights.now counts.now masks.now) i)) s.old ≡ s.old }
+        → put (datum_place i) (datum_bytes (datum_in (columns lefts.now rights.now counts.now masks.now) i)) s.old ≡ s.old }
     ensures { (let c : Columns = columns lefts.now rights.now counts.now masks.now in
-        s.new ≡ put held_at (bytes 4 (length (dataIn n c))) (put dataAt (dataBytes (dataIn n c)) s.old)) }
+        s.new ≡ put held_at (bytes 4 (length (data_in n c))) (put data_at (data_bytes (data_in n c)) s.old)) }
 {
     let places = put_data(s, lefts, rights, counts, masks, n, standing);
     super::rows::clear(
@@ -198,14 +198,14 @@ pub fn put_held(
 // Writes the entries that have terms, zeros into the places left over, and the entry count. The rows below `first` have their terms in these very
 // places; the places from `used` on are zero already.
 pub fn put_known(s: &mut [u8], first: usize, counts: &[u32], masks: &[u32], n: usize, used: usize)
-    requires table_fits { TableFits entryTerms n (tableFrom first s.old counts.now masks.now) }
-    requires masks_len_bound { length (entriesIn n (tableFrom first s.old counts.now masks.now)) ≤ entriesMost }
-    requires n_le_rows_most { (n ≤ rowsMost) × (first ≤ entriesMost) × (stateSize ≤ length s.old) }
+    requires table_fits { TableFits entry_terms n (table_from first s.old counts.now masks.now) }
+    requires masks_len_bound { length (entries_in n (table_from first s.old counts.now masks.now)) ≤ entries_most }
+    requires n_le_rows_most { (n ≤ rows_most) × (first ≤ entries_most) × (state_size ≤ length s.old) }
     requires by_index { (i : ℕ) → i < first → (get_or counts.now i 0 ≡ 0 → ⊥)
-        → put (entryPlace i) (entryBytes (row_of entryTerms (tableFrom first s.old counts.now masks.now) i)) s.old ≡ s.old }
-    requires used_le_entries_most { (used ≤ entriesMost) × T (is_zero (entryPlace used) (entryPlace entriesMost) s.old) }
-    ensures { (let t : Table = tableFrom first s.old counts.now masks.now in
-        s.new ≡ put known_at (bytes 4 (length (entriesIn n t))) (put entries_at (entriesBytes (entriesIn n t)) s.old)) }
+        → put (entry_place i) (entry_bytes (row_of entry_terms (table_from first s.old counts.now masks.now) i)) s.old ≡ s.old }
+    requires used_le_entries_most { (used ≤ entries_most) × T (is_zero (entry_place used) (entry_place entries_most) s.old) }
+    ensures { (let t : Table = table_from first s.old counts.now masks.now in
+        s.new ≡ put known_at (bytes 4 (length (entries_in n t))) (put entries_at (entries_bytes (entries_in n t)) s.old)) }
 {
     let places = put_entries(s, first, counts, masks, n);
     super::rows::clear(
@@ -230,14 +230,14 @@ pub fn put_store(
     n: usize,
 )
     requires columns_fit { ColumnsFit h (columns lefts.now rights.now held.now terms.now) }
-    requires table_fits { TableFits entryTerms n (tableFrom (entryCount s.old) s.old counts.now masks.now) }
-    requires terms_len_bound { length (dataIn h (columns lefts.now rights.now held.now terms.now)) ≤ dataMost }
-    requires masks_len_bound { length (entriesIn n (tableFrom (entryCount s.old) s.old counts.now masks.now)) ≤ entriesMost }
-    requires h_bound { (h ≤ dataMost + 1) × (n ≤ rowsMost) × (stateSize ≤ length s.old) × T (inForm s.old) }
+    requires table_fits { TableFits entry_terms n (table_from (entry_count s.old) s.old counts.now masks.now) }
+    requires terms_len_bound { length (data_in h (columns lefts.now rights.now held.now terms.now)) ≤ data_most }
+    requires masks_len_bound { length (entries_in n (table_from (entry_count s.old) s.old counts.now masks.now)) ≤ entries_most }
+    requires h_bound { (h ≤ data_most + 1) × (n ≤ rows_most) × (state_size ≤ length s.old) × T (in_form s.old) }
     requires data_stand { DataStand s.old (columns lefts.now rights.now held.now terms.now) × EntriesStand s.old counts.now }
     ensures { (let c : Columns = columns lefts.now rights.now held.now terms.now in
-        let t : Table = tableFrom (entryCount s.old) s.old counts.now masks.now in
-        s.new ≡ put 0 (stateBytes (record { head = head_of s.old; store = storeIn h c n t })) s.old) }
+        let t : Table = table_from (entry_count s.old) s.old counts.now masks.now in
+        s.new ≡ put 0 (state_bytes (record { head = head_of s.old; store = store_in h c n t })) s.old) }
 {
     let data = numbers::get32(s, super::HELD_AT) as usize;
     put_held(s, lefts, rights, held, terms, h, data, data);
@@ -257,13 +257,13 @@ pub fn put_rows(
     masks: &[u32],
     n: usize,
 )
-    requires columns_fit { ColumnsFit h (columns lefts.now rights.now held.now terms.now) × TableFits entryTerms n (table counts.now masks.now) }
-    requires terms_len_bound { length (dataIn h (columns lefts.now rights.now held.now terms.now)) ≤ dataMost }
-    requires masks_len_bound { length (entriesIn n (table counts.now masks.now)) ≤ entriesMost }
-    requires h_bound { (h ≤ dataMost + 1) × (n ≤ rowsMost) × (stateSize ≤ length s.old) × T (inForm s.old) }
+    requires columns_fit { ColumnsFit h (columns lefts.now rights.now held.now terms.now) × TableFits entry_terms n (table counts.now masks.now) }
+    requires terms_len_bound { length (data_in h (columns lefts.now rights.now held.now terms.now)) ≤ data_most }
+    requires masks_len_bound { length (entries_in n (table counts.now masks.now)) ≤ entries_most }
+    requires h_bound { (h ≤ data_most + 1) × (n ≤ rows_most) × (state_size ≤ length s.old) × T (in_form s.old) }
     ensures { (let c : Columns = columns lefts.now rights.now held.now terms.now in
         let t : Table = table counts.now masks.now in
-        s.new ≡ put 0 (stateBytes (record { head = head_of s.old; store = storeIn h c n t })) s.old) }
+        s.new ≡ put 0 (state_bytes (record { head = head_of s.old; store = store_in h c n t })) s.old) }
 {
     let data = numbers::get32(s, super::HELD_AT) as usize;
     put_held(s, lefts, rights, held, terms, h, 0, data);

@@ -11,69 +11,69 @@ use native.Mathlib.Omega.{arith}
 use lib.Dec.{T, T_not, not_T, eqb, eqb→eq, ltb, lt→ltb, nltb→le}
 use lib.ListN.{length, length-append}
 use lib.Pow.{pow-lt}
-use Rattle.names.specs.Sets.{has, noSet}
-use Rattle.names.proofs.SetLaws.{digit-single-other, has-out}
+use Rattle.names.specs.Sets.{has, no_set}
+use Rattle.names.proofs.SetLaws.{digit-single_other, has_out}
 use Rattle.predicates.specs.Lists.{any, all, keep, In}
-use Rattle.predicates.specs.Predicates.{implies, isTrue, normal, formed}
+use Rattle.predicates.specs.Predicates.{implies, is_true, normal, formed}
 use Rattle.predicates.proofs.ListLaws.{both, both_l, both_r, neither, split, cond_ind}
-use Rattle.predicates.proofs.ListLaws.{in-l, in-r, in-cases, any-in, any_out, all-out, keep-in, keep_out, all_keep, length-keep}
-use Rattle.predicates.proofs.PredicateLaws.{implies-refl, implies-trans, normal-normal, normal-out, normal-some, formed-out, formed-some, formed-normal, sum_twice, not-true-full}
+use Rattle.predicates.proofs.ListLaws.{in_l, in_r, in_cases, any_in, any_out, all_out, keep_in, keep_out, all_keep, length-keep}
+use Rattle.predicates.proofs.PredicateLaws.{implies_refl, implies_trans, normal-normal, normal_out, normal-some, formed_out, formed-some, formed-normal, sum_twice, not_true_full}
 use Rattle.predicates.proofs.PlaceLaws.{length-normal}
-use Rattle.state.specs.Model.{Datum, Store, nameMost}
-use Rattle.state.specs.Form.{termFits, termsFit, datumOk, storeOk}
+use Rattle.state.specs.Model.{Datum, Store, name_most}
+use Rattle.state.specs.Form.{term_fits, terms_fit, datum_ok, store_ok}
 use Rattle.predicates.proofs.IndexLaws.{all_append}
-use Rattle.steps.specs.Steps.{disjoint, learnt, unexplained, same, meet, met, without, betters, stored, heldAfter, received, settled}
+use Rattle.steps.specs.Steps.{disjoint, learnt, unexplained, same, meet, met, without, betters, stored, held_after, received, settled}
 use Rattle.entries.specs.Entries.{explained, learn}
-use Rattle.state.proofs.OkLaws.{OkDatum, ok-datum-in, ok-datum-out, ok-terms-in, ok-terms-out}
-use Rattle.state.specs.Layout.{datumTerms, entryTerms}
+use Rattle.state.proofs.OkLaws.{OkDatum, ok_datum_in, ok_datum_out, ok_terms_in, ok_terms_out}
+use Rattle.state.specs.Layout.{datum_terms, entry_terms}
 
 -- ---- the new datum
 
 -- the sender's term is without the own name
-pub single-free : (own sender : ℕ) → (sender ≡ own → ⊥) → T (not (has own (2 ^ sender)))
-single-free own sender f =
-    not_T (has own (2 ^ sender)) (λ h. omega (arith, has-out own (2 ^ sender) h, digit-single-other sender own f))
+pub single_free : (own sender : ℕ) → (sender ≡ own → ⊥) → T (not (has own (2 ^ sender)))
+single_free own sender f =
+    not_T (has own (2 ^ sender)) (λ h. omega (arith, has_out own (2 ^ sender) h, digit-single_other sender own f))
 
-pub term_fits : (own t : ℕ) → 0 < t → t < noSet → T (not (has own t)) → T (termFits own t)
-unfolding termFits
-term_fits own t o l f =
-    both (ltb 0 t) (ltb t noSet && not (has own t)) (lt→ltb 0 t o) (both (ltb t noSet) (not (has own t)) (lt→ltb t noSet l) f)
+pub term_fits_lem : (own t : ℕ) → 0 < t → t < no_set → T (not (has own t)) → T (term_fits own t)
+unfolding term_fits
+term_fits_lem own t o l f =
+    both (ltb 0 t) (ltb t no_set && not (has own t)) (lt→ltb 0 t o) (both (ltb t no_set) (not (has own t)) (lt→ltb t no_set l) f)
 
 -- what is formed of terms below 2 ^ 29 fits, if it is not true
-pub formed-fit : (own sender : ℕ) (p : List ℕ) → sender ≤ nameMost → (sender ≡ own → ⊥) → ((t : ℕ) → In t p → t < noSet)
-    → T (not (isTrue (formed own sender p))) → T (termsFit own (length (formed own sender p)) (formed own sender p))
-formed-fit own sender p s f small n =
-    ok-terms-in own (length (formed own sender p)) (formed own sender p)
+pub formed_fit : (own sender : ℕ) (p : List ℕ) → sender ≤ name_most → (sender ≡ own → ⊥) → ((t : ℕ) → In t p → t < no_set)
+    → T (not (is_true (formed own sender p))) → T (terms_fit own (length (formed own sender p)) (formed own sender p))
+formed_fit own sender p s f small n =
+    ok_terms_in own (length (formed own sender p)) (formed own sender p)
     record {
       some = formed-some own sender p;
       few = omega arith;
       norm = formed-normal own sender p;
-      each = λ t m. fits t (not-true-full (formed own sender p) n t m) (formed-out own sender p t m);
+      each = λ t m. fits t (not_true_full (formed own sender p) n t m) (formed_out own sender p t m);
     }
   where
-    fits : (t : ℕ) → 0 < t → (t ≡ 2 ^ sender) ⊎ (In t p × T (not (has own t))) → T (termFits own t)
+    fits : (t : ℕ) → 0 < t → (t ≡ 2 ^ sender) ⊎ (In t p × T (not (has own t))) → T (term_fits own t)
     fits t o (inl e) =
-        term_fits own t o (rw e (pow-lt {i = sender} {j = 29} (omega arith))) (rw e (single-free own sender f))
-    fits t o (inr k) = term_fits own t o (small t k.0) k.1
+        term_fits_lem own t o (rw e (pow-lt {i = sender} {j = 29} (omega arith))) (rw e (single_free own sender f))
+    fits t o (inr k) = term_fits_lem own t o (small t k.0) k.1
 
 -- ---- step 1: entries
 
-sum-fit : (own : ℕ) (p q : List ℕ) → T (termsFit own datumTerms p) → T (termsFit own datumTerms q) → T (termsFit own entryTerms (normal (p ++ q)))
-sum-fit own p q h k =
-    let a = ok-terms-out own datumTerms p h in
-    let b = ok-terms-out own datumTerms q k in
+sum_fit : (own : ℕ) (p q : List ℕ) → T (terms_fit own datum_terms p) → T (terms_fit own datum_terms q) → T (terms_fit own entry_terms (normal (p ++ q)))
+sum_fit own p q h k =
+    let a = ok_terms_out own datum_terms p h in
+    let b = ok_terms_out own datum_terms q k in
     let l = length-append p q in
-    ok-terms-in own 16 (normal (p ++ q))
+    ok_terms_in own 16 (normal (p ++ q))
     record {
       some = normal-some (p ++ q) (omega arith);
       few = omega (arith, length-normal (p ++ q));
       norm = normal-normal (p ++ q);
-      each = λ t m. ⊎_elim (a.each t) (b.each t) (in-cases t p q (normal-out (p ++ q) t m));
+      each = λ t m. ⊎_elim (a.each t) (b.each t) (in_cases t p q (normal_out (p ++ q) t m));
     }
 
-pub learn-all : (f : List ℕ → Bool) (e : List ℕ) (es : List (List ℕ)) → T (f e) → T (all f es) → T (all f (learn e es))
+pub learn_all : (f : List ℕ → Bool) (e : List ℕ) (es : List (List ℕ)) → T (f e) → T (all f es) → T (all f (learn e es))
 unfolding learn
-learn-all f e es t h =
+learn_all f e es t h =
     cond_ind (λ fs. T (all f fs)) (explained es e) es (keep (λ g. not (implies e g)) es ++ (e ∷ [])) (λ _. h)
     (λ _. all_append f (keep (λ g. not (implies e g)) es) (e ∷ []) (all_keep f (λ g. not (implies e g)) es h) (both (f e) true t tt))
 
@@ -85,21 +85,21 @@ length-learn e es =
     (λ _. omega (arith, length-append rest (e ∷ []), length-keep (λ g. not (implies e g)) es))
 
 -- what each entry learnt keeps, step 1 keeps
-pub learnt-ind : (P : List (List ℕ) → Type 0) (n : Datum) (ds : List Datum) (es : List (List ℕ))
+pub learnt_ind : (P : List (List ℕ) → Type 0) (n : Datum) (ds : List Datum) (es : List (List ℕ))
     → ((d : Datum) (fs : List (List ℕ)) → In d ds → T (disjoint d n) → P fs → P (learn (normal (d.terms ++ n.terms)) fs))
     → P es → P (learnt n ds es)
 unfolding learnt
-learnt-ind P n [] es f h = h
-learnt-ind P n (d ∷ ds) es f h =
-    learnt-ind P n ds (cond (disjoint d n) (learn (normal (d.terms ++ n.terms)) es) es) (λ e fs m. f e fs (inr m))
+learnt_ind P n [] es f h = h
+learnt_ind P n (d ∷ ds) es f h =
+    learnt_ind P n ds (cond (disjoint d n) (learn (normal (d.terms ++ n.terms)) es) es) (λ e fs m. f e fs (inr m))
     (cond_ind P (disjoint d n) (learn (normal (d.terms ++ n.terms)) es) es (λ c. f d es (inl refl) c h) (λ _. h))
 
-pub learnt-fit : (own : ℕ) (n : Datum) (ds : List Datum) (es : List (List ℕ)) → T (datumOk own n) → T (all (datumOk own) ds)
-    → T (all (termsFit own entryTerms) es) → T (all (termsFit own entryTerms) (learnt n ds es))
-learnt-fit own n ds es o h k =
-    learnt-ind (λ fs. T (all (termsFit own entryTerms) fs)) n ds es
-    (λ d fs m c. learn-all (termsFit own entryTerms) (normal (d.terms ++ n.terms)) fs
-    (sum-fit own d.terms n.terms (ok-datum-out own d (all-out (datumOk own) ds h d m)).fit (ok-datum-out own n o).fit)) k
+pub learnt_fit : (own : ℕ) (n : Datum) (ds : List Datum) (es : List (List ℕ)) → T (datum_ok own n) → T (all (datum_ok own) ds)
+    → T (all (terms_fit own entry_terms) es) → T (all (terms_fit own entry_terms) (learnt n ds es))
+learnt_fit own n ds es o h k =
+    learnt_ind (λ fs. T (all (terms_fit own entry_terms) fs)) n ds es
+    (λ d fs m c. learn_all (terms_fit own entry_terms) (normal (d.terms ++ n.terms)) fs
+    (sum_fit own d.terms n.terms (ok_datum_out own d (all_out (datum_ok own) ds h d m)).fit (ok_datum_out own n o).fit)) k
 
 -- each held datum teaches at most one entry
 pub length-learnt : (n : Datum) (ds : List Datum) (es : List (List ℕ)) → length (learnt n ds es) ≤ length es + length ds
@@ -121,10 +121,10 @@ overlap d n h =
     (nltb→le d.right n.left k.0, nltb→le n.right d.left k.1)
 
 -- what an explained predicate implies is explained
-pub explained-mono : (es : List (List ℕ)) (p q : List ℕ) → T (implies p q) → T (explained es p) → T (explained es q)
+pub explained_mono : (es : List (List ℕ)) (p q : List ℕ) → T (implies p q) → T (explained es p) → T (explained es q)
 unfolding explained
-explained-mono es p q k h =
-    let r = any_out (λ e. implies e p) es h in any-in (λ e. implies e q) es r.0 r.1 (implies-trans r.0 p q r.2 k)
+explained_mono es p q k h =
+    let r = any_out (λ e. implies e p) es h in any_in (λ e. implies e q) es r.0 r.1 (implies_trans r.0 p q r.2 k)
 
 -- an entry is explained once it is learnt
 pub learn-has : (e : List ℕ) (es : List (List ℕ)) → T (explained (learn e es) e)
@@ -132,7 +132,7 @@ unfolding learn explained
 learn-has e es =
     let rest = keep (λ g. not (implies e g)) es in
     cond_ind (λ fs. T (explained fs e)) (explained es e) es (rest ++ (e ∷ [])) (λ h. h)
-    (λ _. any-in (λ g. implies g e) (rest ++ (e ∷ [])) e (in-r e rest (e ∷ []) (inl refl)) (implies-refl e))
+    (λ _. any_in (λ g. implies g e) (rest ++ (e ∷ [])) e (in_r e rest (e ∷ []) (inl refl)) (implies_refl e))
 
 -- what is explained stays so: an entry that goes is implied by the new one
 pub learn-keeps : (e : List ℕ) (es : List (List ℕ)) (p : List ℕ) → T (explained es p) → T (explained (learn e es) p)
@@ -145,8 +145,8 @@ learn-keeps e es p h =
     rest = keep (λ g. not (implies e g)) es
 
     go : (f : List ℕ) → In f es → T (implies f p) → T (implies e f) ⊎ T (not (implies e f)) → T (any (λ g. implies g p) (rest ++ (e ∷ [])))
-    go f m i (inl k) = any-in (λ g. implies g p) (rest ++ (e ∷ [])) e (in-r e rest (e ∷ []) (inl refl)) (implies-trans e f p k i)
-    go f m i (inr k) = any-in (λ g. implies g p) (rest ++ (e ∷ [])) f (in-l f rest (e ∷ []) (keep-in (λ g. not (implies e g)) es f m k)) i
+    go f m i (inl k) = any_in (λ g. implies g p) (rest ++ (e ∷ [])) e (in_r e rest (e ∷ []) (inl refl)) (implies_trans e f p k i)
+    go f m i (inr k) = any_in (λ g. implies g p) (rest ++ (e ∷ [])) f (in_l f rest (e ∷ []) (keep_in (λ g. not (implies e g)) es f m k)) i
 
 -- the sum with each datum that is disjoint is explained
 pub learnt-has : (n : Datum) (ds : List Datum) (es : List (List ℕ)) (d : Datum) → In d ds → T (disjoint d n)
@@ -154,7 +154,7 @@ pub learnt-has : (n : Datum) (ds : List Datum) (es : List (List ℕ)) (d : Datum
 unfolding learnt
 learnt-has n [] es d m h = absurd m
 learnt-has n (c ∷ ds) es d (inl e) h =
-    learnt-ind (λ fs. T (explained fs sum)) n ds (cond (disjoint c n) (learn (normal (c.terms ++ n.terms)) es) es)
+    learnt_ind (λ fs. T (explained fs sum)) n ds (cond (disjoint c n) (learn (normal (c.terms ++ n.terms)) es) es)
     (λ b fs m k. learn-keeps (normal (b.terms ++ n.terms)) fs sum)
     (cond_ind (λ fs. T (explained fs sum)) (disjoint c n) (learn (normal (c.terms ++ n.terms)) es) es
     (λ _. rw e (learn-has (normal (c.terms ++ n.terms)) es)) (λ k. absurd (T_not (disjoint c n) k (rw e at h))))
@@ -164,12 +164,12 @@ learnt-has n (c ∷ ds) es d (inl e) h =
 learnt-has n (c ∷ ds) es d (inr m) h = learnt-has n ds (cond (disjoint c n) (learn (normal (c.terms ++ n.terms)) es) es) d m h
 
 -- a held datum with n's predicate, where no entry explains that predicate, has an instant in common with n
-pub unexplained-overlap : (n : Datum) (ds : List Datum) (es : List (List ℕ)) (d : Datum) → In d ds → d.terms ≡ n.terms
+pub unexplained_overlap : (n : Datum) (ds : List Datum) (es : List (List ℕ)) (d : Datum) → In d ds → d.terms ≡ n.terms
     → T (not (explained (learnt n ds es) n.terms)) → (n.left ≤ d.right) × (d.left ≤ n.right)
-unexplained-overlap n ds es d m e h =
+unexplained_overlap n ds es d m e h =
     overlap d n (not_T (disjoint d n) (λ c.
     T_not (explained (learnt n ds es) n.terms) h
-    (explained-mono (learnt n ds es) (normal (n.terms ++ n.terms)) n.terms (sum_twice n.terms)
+    (explained_mono (learnt n ds es) (normal (n.terms ++ n.terms)) n.terms (sum_twice n.terms)
     (rw e at (learnt-has n ds es d m c)))))
 
 -- ---- steps 2 and 3
@@ -191,15 +191,15 @@ without_all f p (d ∷ ds) h =
     (λ _. both_r (f d) (all f ds) h) (λ _. both (f d) (all f (without p ds)) (both_l (f d) (all f ds) h) rest)
 
 -- n cut to a datum with its predicate is right, if the two have an instant in common
-met-ok : (own : ℕ) (n : Datum) (ds : List Datum) → OkDatum own n → T (all (datumOk own) ds)
+met_ok : (own : ℕ) (n : Datum) (ds : List Datum) → OkDatum own n → T (all (datum_ok own) ds)
     → ((d : Datum) → In d ds → d.terms ≡ n.terms → (n.left ≤ d.right) × (d.left ≤ n.right)) → OkDatum own (met n ds)
 unfolding met meet
-met-ok own n [] o h f = o
-met-ok own n (d ∷ ds) o h f =
-    let rest = met-ok own n ds o (both_r (datumOk own d) (all (datumOk own) ds) h) (λ e m. f e (inr m)) in
+met_ok own n [] o h f = o
+met_ok own n (d ∷ ds) o h f =
+    let rest = met_ok own n ds o (both_r (datum_ok own d) (all (datum_ok own) ds) h) (λ e m. f e (inr m)) in
     cond_ind (λ c. OkDatum own c) (same d.terms n.terms) (meet d n) (met n ds)
     (λ k.
-    let c = ok-datum-out own d (both_l (datumOk own d) (all (datumOk own) ds) h) in
+    let c = ok_datum_out own d (both_l (datum_ok own d) (all (datum_ok own) ds) h) in
     let v = f d (inl refl) (same_out d.terms n.terms k) in
     record { ends = omega arith; below = omega arith; fit = o.fit })
     (λ _. rest)
@@ -216,14 +216,14 @@ stored-all f n ds t h =
 -- ---- the receipt
 
 -- steps 2 to 4 leave right data
-pub held-after-ok : (own : ℕ) (n : Datum) (ds : List Datum) (es : List (List ℕ)) → T (datumOk own n) → T (all (datumOk own) ds)
-    → T (all (datumOk own) (heldAfter n ds (learnt n ds es)))
-unfolding heldAfter unexplained
-held-after-ok own n ds es o h =
-    cond_ind (λ cs. T (all (datumOk own) cs)) (explained fs n.terms) us (stored (met n us) (without n.terms us)) (λ _. right)
-    (λ k. stored-all (datumOk own) (met n us) (without n.terms us)
-    (ok-datum-in own (met n us) (met-ok own n us (ok-datum-out own n o) right (λ d m e. unexplained-overlap n ds es d (old d m) e k)))
-    (without_all (datumOk own) n.terms us right))
+pub held_after_ok : (own : ℕ) (n : Datum) (ds : List Datum) (es : List (List ℕ)) → T (datum_ok own n) → T (all (datum_ok own) ds)
+    → T (all (datum_ok own) (held_after n ds (learnt n ds es)))
+unfolding held_after unexplained
+held_after_ok own n ds es o h =
+    cond_ind (λ cs. T (all (datum_ok own) cs)) (explained fs n.terms) us (stored (met n us) (without n.terms us)) (λ _. right)
+    (λ k. stored-all (datum_ok own) (met n us) (without n.terms us)
+    (ok_datum_in own (met n us) (met_ok own n us (ok_datum_out own n o) right (λ d m e. unexplained_overlap n ds es d (old d m) e k)))
+    (without_all (datum_ok own) n.terms us right))
   where
     fs : List (List ℕ)
     fs = learnt n ds es
@@ -231,26 +231,26 @@ held-after-ok own n ds es o h =
     us : List Datum
     us = keep (λ d. not (explained fs d.terms)) ds
 
-    right : T (all (datumOk own) us)
-    right = all_keep (datumOk own) (λ d. not (explained fs d.terms)) ds h
+    right : T (all (datum_ok own) us)
+    right = all_keep (datum_ok own) (λ d. not (explained fs d.terms)) ds h
 
     old : (d : Datum) → In d us → In d ds
     old d m = (keep_out (λ e. not (explained fs e.terms)) ds d m).0
 
 -- a right store stays right: rule 15 stores no empty interval
-settled-ok : (own : ℕ) (n : Datum) (k : Store) → T (storeOk own k) → T (datumOk own n) → T (storeOk own (settled n k))
-unfolding storeOk settled
-settled-ok own n k h t =
+settled_ok : (own : ℕ) (n : Datum) (k : Store) → T (store_ok own k) → T (datum_ok own n) → T (store_ok own (settled n k))
+unfolding store_ok settled
+settled_ok own n k h t =
     let ds = k.held in
     let es = k.entries in
-    let held : T (all (datumOk own) ds) = both_l (all (datumOk own) ds) (all (termsFit own entryTerms) es) h in
-    let entries : T (all (termsFit own entryTerms) es) = both_r (all (datumOk own) ds) (all (termsFit own entryTerms) es) h in
-    both (all (datumOk own) (settled n k).held) (all (termsFit own entryTerms) (settled n k).entries)
-    (held-after-ok own n ds es t held) (learnt-fit own n ds es t held entries)
+    let held : T (all (datum_ok own) ds) = both_l (all (datum_ok own) ds) (all (terms_fit own entry_terms) es) h in
+    let entries : T (all (terms_fit own entry_terms) es) = both_r (all (datum_ok own) ds) (all (terms_fit own entry_terms) es) h in
+    both (all (datum_ok own) (settled n k).held) (all (terms_fit own entry_terms) (settled n k).entries)
+    (held_after_ok own n ds es t held) (learnt_fit own n ds es t held entries)
 
 -- a new datum that is true is not looked at
-pub received-ok : (own : ℕ) (n : Datum) (k : Store) → T (storeOk own k) → (T (not (isTrue n.terms)) → T (datumOk own n))
-    → T (storeOk own (received n k))
+pub received_ok : (own : ℕ) (n : Datum) (k : Store) → T (store_ok own k) → (T (not (is_true n.terms)) → T (datum_ok own n))
+    → T (store_ok own (received n k))
 unfolding received
-received-ok own n k h f =
-    cond_ind (λ j. T (storeOk own j)) (isTrue n.terms) k (settled n k) (λ _. h) (λ t. settled-ok own n k h (f t))
+received_ok own n k h f =
+    cond_ind (λ j. T (store_ok own j)) (is_true n.terms) k (settled n k) (λ _. h) (λ t. settled_ok own n k h (f t))

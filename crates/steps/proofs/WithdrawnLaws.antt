@@ -9,90 +9,90 @@ use native.Mathlib.Omega.{arith}
 use lib.Bits.{bit_and, and_zero_r}
 use lib.Dec.{T, T_not, not_T, eqb, eqb→eq, ltb, ltb→lt, lt→ltb}
 use lib.ListN.{length, length-map}
-use Rattle.names.specs.Sets.{noSet, has, minus}
+use Rattle.names.specs.Sets.{no_set, has, minus}
 use Rattle.names.specs.code.Parts.{shared}
-use Rattle.names.proofs.SetLaws.{subset-le, has-mono}
+use Rattle.names.proofs.SetLaws.{subset_le, has_mono}
 use Rattle.names.proofs.PartLaws.{minus-subset}
 use Rattle.predicates.specs.Lists.{any, all, keep, In}
-use Rattle.predicates.specs.Predicates.{isTrue}
-use Rattle.predicates.proofs.ListLaws.{both, both_l, both_r, T_true, any_out, all_in, all-out, keep_out, map-out, length-keep}
-use Rattle.predicates.proofs.PredicateLaws.{not-true-full}
+use Rattle.predicates.specs.Predicates.{is_true}
+use Rattle.predicates.proofs.ListLaws.{both, both_l, both_r, T_true, any_out, all_in, all_out, keep_out, map_out, length-keep}
+use Rattle.predicates.proofs.PredicateLaws.{not_true_full}
 use Rattle.epochs.specs.Epochs.{withdraw}
-use Rattle.epochs.proofs.WithdrawLaws.{withdraw-normal, withdraw-length, withdraw-some, withdraw-out, withdraw-none}
+use Rattle.epochs.proofs.WithdrawLaws.{withdraw-normal, withdraw-length, withdraw-some, withdraw_out, withdraw-none}
 use Rattle.state.specs.Model.{Datum, datum, Store}
-use Rattle.state.specs.Form.{termFits, termsFit, datumOk, storeOk}
-use Rattle.state.specs.Layout.{datumTerms, entryTerms}
-use Rattle.state.proofs.OkLaws.{ok-terms-out, ok-terms-in, ok-datum-out, ok-datum-in}
-use Rattle.entries.specs.Entries.{withdrawnEntries}
-use Rattle.steps.specs.Withdrawn.{withdrawnDatum, withdrawnData, withdrawn}
+use Rattle.state.specs.Form.{term_fits, terms_fit, datum_ok, store_ok}
+use Rattle.state.specs.Layout.{datum_terms, entry_terms}
+use Rattle.state.proofs.OkLaws.{ok_terms_out, ok_terms_in, ok_datum_out, ok_datum_in}
+use Rattle.entries.specs.Entries.{withdrawn_entries}
+use Rattle.steps.specs.Withdrawn.{withdrawn_datum, withdrawn_data, withdrawn}
 
 -- ---- what is left is right
 
 -- no more terms than before
-fewer : (own width r : ℕ) (p : List ℕ) → T (termsFit own width p) → length (withdraw r p) ≤ width
-fewer own width r p h = omega (arith, withdraw-length r p, (ok-terms-out own width p h).few)
+fewer : (own width r : ℕ) (p : List ℕ) → T (terms_fit own width p) → length (withdraw r p) ≤ width
+fewer own width r p h = omega (arith, withdraw-length r p, (ok_terms_out own width p h).few)
 
 -- a term without some of its names
-term-less : (own u r : ℕ) → T (termFits own u) → 0 < minus u r → T (termFits own (minus u r))
-unfolding termFits
-term-less own u r h some =
-    let small = ltb→lt u noSet (both_l (ltb u noSet) (not (has own u)) (both_r (ltb 0 u) _ h)) in
-    let free = both_r (ltb u noSet) (not (has own u)) (both_r (ltb 0 u) _ h) in
+term_less : (own u r : ℕ) → T (term_fits own u) → 0 < minus u r → T (term_fits own (minus u r))
+unfolding term_fits
+term_less own u r h some =
+    let small = ltb→lt u no_set (both_l (ltb u no_set) (not (has own u)) (both_r (ltb 0 u) _ h)) in
+    let free = both_r (ltb u no_set) (not (has own u)) (both_r (ltb 0 u) _ h) in
     let inside = minus-subset u r in
     both (ltb 0 (minus u r)) _ (lt→ltb 0 (minus u r) some)
-    (both (ltb (minus u r) noSet) (not (has own (minus u r)))
-    (lt→ltb (minus u r) noSet (omega (arith, subset-le (minus u r) u inside)))
-    (not_T (has own (minus u r)) (λ k. T_not (has own u) free (has-mono own (minus u r) u inside k))))
+    (both (ltb (minus u r) no_set) (not (has own (minus u r)))
+    (lt→ltb (minus u r) no_set (omega (arith, subset_le (minus u r) u inside)))
+    (not_T (has own (minus u r)) (λ k. T_not (has own u) free (has_mono own (minus u r) u inside k))))
 
-pub withdraw-fit : (own wide width r : ℕ) (p : List ℕ) → T (termsFit own wide p) → T (not (isTrue (withdraw r p))) → length (withdraw r p) ≤ width
-    → T (termsFit own width (withdraw r p))
-withdraw-fit own wide width r p h n few =
-    let o = ok-terms-out own wide p h in
-    ok-terms-in own width (withdraw r p)
+pub withdraw_fit : (own wide width r : ℕ) (p : List ℕ) → T (terms_fit own wide p) → T (not (is_true (withdraw r p))) → length (withdraw r p) ≤ width
+    → T (terms_fit own width (withdraw r p))
+withdraw_fit own wide width r p h n few =
+    let o = ok_terms_out own wide p h in
+    ok_terms_in own width (withdraw r p)
     record {
       some = withdraw-some r p o.some;
       few = few;
       norm = withdraw-normal r p;
       each = λ t m.
-          let u = withdraw-out r p t m in
-          subst (λ (x : ℕ). T (termFits own x)) (sym u.2)
-          (term-less own u.0 r (o.each u.0 u.1) (subst (λ (x : ℕ). 0 < x) u.2 (not-true-full (withdraw r p) n t m)));
+          let u = withdraw_out r p t m in
+          subst (λ (x : ℕ). T (term_fits own x)) (sym u.2)
+          (term_less own u.0 r (o.each u.0 u.1) (subst (λ (x : ℕ). 0 < x) u.2 (not_true_full (withdraw r p) n t m)));
     }
 
-pub withdrawnDatum-ok : (own r : ℕ) (d : Datum) → T (datumOk own d) → T (not (isTrue (withdrawnDatum r d).terms)) → T (datumOk own (withdrawnDatum r d))
-withdrawnDatum-ok own r d h n =
-    let o = ok-datum-out own d h in
-    ok-datum-in own (withdrawnDatum r d) record { ends = o.ends; below = o.below; fit = withdraw-fit own datumTerms datumTerms r d.terms o.fit n (fewer own datumTerms r d.terms o.fit) }
+pub withdrawn_datum_ok : (own r : ℕ) (d : Datum) → T (datum_ok own d) → T (not (is_true (withdrawn_datum r d).terms)) → T (datum_ok own (withdrawn_datum r d))
+withdrawn_datum_ok own r d h n =
+    let o = ok_datum_out own d h in
+    ok_datum_in own (withdrawn_datum r d) record { ends = o.ends; below = o.below; fit = withdraw_fit own datum_terms datum_terms r d.terms o.fit n (fewer own datum_terms r d.terms o.fit) }
 
-pub withdrawn-ok : (own r : ℕ) (k : Store) → T (storeOk own k) → T (storeOk own (withdrawn r k))
-unfolding storeOk withdrawn withdrawnData withdrawnEntries
-withdrawn-ok own r k h =
-    let ds = both_l (all (datumOk own) k.held) _ h in
-    let es = both_r (all (datumOk own) k.held) (all (termsFit own entryTerms) k.entries) h in
-    both (all (datumOk own) (keep (λ d. not (isTrue d.terms)) (map (withdrawnDatum r) k.held))) _
-    (all_in (datumOk own) (keep (λ d. not (isTrue d.terms)) (map (withdrawnDatum r) k.held)) (λ d m.
-    let q = keep_out (λ d. not (isTrue d.terms)) (map (withdrawnDatum r) k.held) d m in
-    let u = map-out (withdrawnDatum r) k.held d q.0 in
-    subst (λ (x : Datum). T (datumOk own x)) (sym u.2)
-    (withdrawnDatum-ok own r u.0 (all-out (datumOk own) k.held ds u.0 u.1) (subst (λ (x : Datum). T (not (isTrue x.terms))) u.2 q.1))))
-    (all_in (termsFit own entryTerms) (keep (λ e. not (isTrue e)) (map (withdraw r) k.entries)) (λ e m.
-    let q = keep_out (λ e. not (isTrue e)) (map (withdraw r) k.entries) e m in
-    let u = map-out (withdraw r) k.entries e q.0 in
-    subst (λ (x : List ℕ). T (termsFit own entryTerms x)) (sym u.2)
-    (let old = all-out (termsFit own entryTerms) k.entries es u.0 u.1 in
-    withdraw-fit own entryTerms entryTerms r u.0 old (subst (λ (x : List ℕ). T (not (isTrue x))) u.2 q.1) (fewer own entryTerms r u.0 old))))
+pub withdrawn_ok : (own r : ℕ) (k : Store) → T (store_ok own k) → T (store_ok own (withdrawn r k))
+unfolding store_ok withdrawn withdrawn_data withdrawn_entries
+withdrawn_ok own r k h =
+    let ds = both_l (all (datum_ok own) k.held) _ h in
+    let es = both_r (all (datum_ok own) k.held) (all (terms_fit own entry_terms) k.entries) h in
+    both (all (datum_ok own) (keep (λ d. not (is_true d.terms)) (map (withdrawn_datum r) k.held))) _
+    (all_in (datum_ok own) (keep (λ d. not (is_true d.terms)) (map (withdrawn_datum r) k.held)) (λ d m.
+    let q = keep_out (λ d. not (is_true d.terms)) (map (withdrawn_datum r) k.held) d m in
+    let u = map_out (withdrawn_datum r) k.held d q.0 in
+    subst (λ (x : Datum). T (datum_ok own x)) (sym u.2)
+    (withdrawn_datum_ok own r u.0 (all_out (datum_ok own) k.held ds u.0 u.1) (subst (λ (x : Datum). T (not (is_true x.terms))) u.2 q.1))))
+    (all_in (terms_fit own entry_terms) (keep (λ e. not (is_true e)) (map (withdraw r) k.entries)) (λ e m.
+    let q = keep_out (λ e. not (is_true e)) (map (withdraw r) k.entries) e m in
+    let u = map_out (withdraw r) k.entries e q.0 in
+    subst (λ (x : List ℕ). T (terms_fit own entry_terms x)) (sym u.2)
+    (let old = all_out (terms_fit own entry_terms) k.entries es u.0 u.1 in
+    withdraw_fit own entry_terms entry_terms r u.0 old (subst (λ (x : List ℕ). T (not (is_true x))) u.2 q.1) (fewer own entry_terms r u.0 old))))
 
 -- ---- no more than there were
 
-pub withdrawn-held-le : (r : ℕ) (k : Store) → length (withdrawn r k).held ≤ length k.held
-unfolding withdrawn withdrawnData
-withdrawn-held-le r k =
-    omega (arith, length-keep (λ (d : Datum). not (isTrue d.terms)) (map (withdrawnDatum r) k.held), length-map k.held (withdrawnDatum r))
+pub withdrawn-held_le : (r : ℕ) (k : Store) → length (withdrawn r k).held ≤ length k.held
+unfolding withdrawn withdrawn_data
+withdrawn-held_le r k =
+    omega (arith, length-keep (λ (d : Datum). not (is_true d.terms)) (map (withdrawn_datum r) k.held), length-map k.held (withdrawn_datum r))
 
-pub withdrawn-entries-le : (r : ℕ) (k : Store) → length (withdrawn r k).entries ≤ length k.entries
-unfolding withdrawn withdrawnEntries
-withdrawn-entries-le r k =
-    omega (arith, length-keep (λ (e : List ℕ). not (isTrue e)) (map (withdraw r) k.entries), length-map k.entries (withdraw r))
+pub withdrawn_entries_le : (r : ℕ) (k : Store) → length (withdrawn r k).entries ≤ length k.entries
+unfolding withdrawn withdrawn_entries
+withdrawn_entries_le r k =
+    omega (arith, length-keep (λ (e : List ℕ). not (is_true e)) (map (withdraw r) k.entries), length-map k.entries (withdraw r))
 
 -- ---- where nobody is withdrawn
 
@@ -102,10 +102,10 @@ untouched [] = tt
 untouched (t ∷ p) = both (eqb (bit_and t 0) 0) _ (subst (λ (x : ℕ). T (eqb x 0)) (sym (and_zero_r t)) tt) (untouched p)
 
 -- a right predicate stays, and is not true
-fit_stays : (own width : ℕ) (p : List ℕ) → T (termsFit own width p) → (withdraw 0 p ≡ p) × T (not (isTrue p))
-unfolding isTrue termFits
+fit_stays : (own width : ℕ) (p : List ℕ) → T (terms_fit own width p) → (withdraw 0 p ≡ p) × T (not (is_true p))
+unfolding is_true term_fits
 fit_stays own width p h =
-    let o = ok-terms-out own width p h in (
+    let o = ok_terms_out own width p h in (
       withdraw-none 0 p o.norm (untouched p),
       not_T (any (λ t. eqb t 0) p) (λ k.
           let u = any_out (λ t. eqb t 0) p k in
@@ -120,18 +120,18 @@ keep-map f p (x ∷ l) h =
     let a = h x (inl refl) in
     rw (a.0, T_true (p x) a.1, keep-map f p l (λ y m. h y (inr m)))
 
-pub withdrawn-data-none : (own : ℕ) (ds : List Datum) → T (all (datumOk own) ds) → withdrawnData 0 ds ≡ ds
-unfolding withdrawnData
-withdrawn-data-none own ds h =
-    keep-map (withdrawnDatum 0) (λ d. not (isTrue d.terms)) ds (λ d m.
-    let a = fit_stays own datumTerms d.terms (ok-datum-out own d (all-out (datumOk own) ds h d m)).fit in
+pub withdrawn_data-none : (own : ℕ) (ds : List Datum) → T (all (datum_ok own) ds) → withdrawn_data 0 ds ≡ ds
+unfolding withdrawn_data
+withdrawn_data-none own ds h =
+    keep-map (withdrawn_datum 0) (λ d. not (is_true d.terms)) ds (λ d m.
+    let a = fit_stays own datum_terms d.terms (ok_datum_out own d (all_out (datum_ok own) ds h d m)).fit in
     (ap (λ (p : List ℕ). datum d.left d.right p) a.0, a.1))
 
-pub withdrawn-none : (own : ℕ) (k : Store) → T (storeOk own k) → withdrawn 0 k ≡ k
-unfolding storeOk withdrawn withdrawnEntries
+pub withdrawn-none : (own : ℕ) (k : Store) → T (store_ok own k) → withdrawn 0 k ≡ k
+unfolding store_ok withdrawn withdrawn_entries
 withdrawn-none own k h =
-    let ds = both_l (all (datumOk own) k.held) _ h in
-    let es = both_r (all (datumOk own) k.held) (all (termsFit own entryTerms) k.entries) h in
+    let ds = both_l (all (datum_ok own) k.held) _ h in
+    let es = both_r (all (datum_ok own) k.held) (all (terms_fit own entry_terms) k.entries) h in
     ap₂ (λ (x : List Datum) (y : List (List ℕ)). record { held = x; entries = y })
-    (withdrawn-data-none own k.held ds)
-    (keep-map (withdraw 0) (λ e. not (isTrue e)) k.entries (λ e m. fit_stays own entryTerms e (all-out (termsFit own entryTerms) k.entries es e m)))
+    (withdrawn_data-none own k.held ds)
+    (keep-map (withdraw 0) (λ e. not (is_true e)) k.entries (λ e m. fit_stays own entry_terms e (all_out (terms_fit own entry_terms) k.entries es e m)))

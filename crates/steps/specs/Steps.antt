@@ -2,10 +2,10 @@
 -- Assumes nothing: these are definitions.
 use Rattle.std.specs.Prelude.{ℕ, ◌^◌, min, max, Bool, true, false, ◌&&◌, ◌||◌, not, cond, List, [], ◌∷◌, ◌++◌, eqb, leb, ltb, length}
 use Rattle.predicates.specs.Lists.{any, keep}
-use Rattle.predicates.specs.Predicates.{implies, isTrue, normal}
+use Rattle.predicates.specs.Predicates.{implies, is_true, normal}
 use Rattle.state.specs.Model.{Datum, Store}
 use Rattle.entries.specs.Entries.{explained, learn}
-use Rattle.state.specs.Layout.{dataMost, entriesMost}
+use Rattle.state.specs.Layout.{data_most, entries_most}
 
 -- ---- step 1: "where the intervals are disjoint, the sum of both predicates, in normal form, is an entry for the failure knowledge"
 
@@ -55,18 +55,18 @@ stored n ds = cond (any (λ d. betters d n) ds) ds (keep (λ d. not (betters n d
 -- ---- the receipt
 
 -- steps 2 to 4, with the entries that step 1 leaves: "the new datum too, and then the receipt ends"
-unfoldable pub heldAfter : Datum → List Datum → List (List ℕ) → List Datum
-heldAfter n ds es =
+unfoldable pub held_after : Datum → List Datum → List (List ℕ) → List Datum
+held_after n ds es =
     cond (explained es n.terms) (unexplained es ds)
     (stored (met n (unexplained es ds)) (without n.terms (unexplained es ds)))
 
 -- the four steps
 unfoldable pub settled : Datum → Store → Store
-settled n k = record { held = heldAfter n k.held (learnt n k.held k.entries); entries = learnt n k.held k.entries }
+settled n k = record { held = held_after n k.held (learnt n k.held k.entries); entries = learnt n k.held k.entries }
 
 -- "If it is true, the receipt is taken and changes nothing."
 unfoldable pub received : Datum → Store → Store
-received n k = cond (isTrue n.terms) k (settled n k)
+received n k = cond (is_true n.terms) k (settled n k)
 
 -- ---- a violation (document 02, W-201): the sender's clock has jumped
 
@@ -82,8 +82,8 @@ swept k = record { held = unexplained k.entries k.held; entries = k.entries }
 -- violation"
 unfoldable pub judged : Bool → ℕ → Datum → Store → Store
 judged violation sender n k =
-    cond violation (cond (isTrue n.terms) (swept (blamed sender k)) (settled n (blamed sender k))) (received n k)
+    cond violation (cond (is_true n.terms) (swept (blamed sender k)) (settled n (blamed sender k))) (received n k)
 
 -- "32 too many data or entries": "At most 16 data and 32 entries, counted at the end"
-unfoldable pub tooMany : Store → Bool
-tooMany k = ltb dataMost (length k.held) || ltb entriesMost (length k.entries)
+unfoldable pub too_many : Store → Bool
+too_many k = ltb data_most (length k.held) || ltb entries_most (length k.entries)

@@ -7,14 +7,14 @@ ghost use Rattle.predicates.specs.Predicates.{normal};
 ghost use Rattle.ends.specs.Ends.{count_of, BothSplit};
 ghost use Rattle.ends.specs.code.Columns.{AllSplit};
 ghost use Rattle.state.specs.Model.{Datum};
-ghost use Rattle.state.specs.Layout.{stateSize, entriesMost, datumTerms, entryTerms};
-ghost use Rattle.state.specs.code.Tables.{Table, Columns, table, tableFrom, columns, table_of, TableFits, ColumnsFit};
-ghost use Rattle.state.specs.code.Tables.{row_of, hasTerms, entriesIn, datumOf, datumIn, dataIn};
-ghost use Rattle.entries.specs.code.Marks.{Marked, Left, givenUp};
-ghost use Rattle.steps.specs.code.Rows.{FirstRow, isFirst};
-ghost use Rattle.steps.specs.Steps.{disjoint as Steps·disjoint, learnt};
+ghost use Rattle.state.specs.Layout.{state_size, entries_most, datum_terms, entry_terms};
+ghost use Rattle.state.specs.code.Tables.{Table, Columns, table, table_from, columns, table_of, TableFits, ColumnsFit};
+ghost use Rattle.state.specs.code.Tables.{row_of, has_terms, entries_in, datum_of, datum_in, data_in};
+ghost use Rattle.entries.specs.code.Marks.{Marked, Left, given_up};
+ghost use Rattle.steps.specs.code.Rows.{FirstRow, is_first};
+ghost use Rattle.steps.specs.Steps.{disjoint, learnt};
 ghost use Rattle.entries.specs.Entries.{explained, learn};
-ghost use Rattle.steps.specs.Steps.{same as Steps·same, met, without, betters as Steps·betters};
+ghost use Rattle.steps.specs.Steps.{same, met, without, betters};
 
 use super::Rows;
 use ends::Ends;
@@ -43,17 +43,17 @@ fn learn_from(
     marks: &mut [u32],
     n: usize,
 ) -> usize
-    requires state_size_in_bounds { (stateSize ≤ length s.now) × (first ≤ entriesMost) × (first ≤ n) }
-    requires table_fits { TableFits entryTerms (n + 1) (tableFrom first s.now counts.old masks.old) }
-    requires q_len_bound { (length q.now ≤ datumTerms) × (0 < length p.now) × (length p.now ≤ datumTerms) × (n < length marks.old) }
-    requires marked { Marked n (tableFrom first s.now counts.old masks.old) marks.old × BothSplit old × BothSplit new }
-    ensures fact { (let t : Table = tableFrom first s.now counts.new masks.new in
-        (n ≤ result) × (result ≤ n + 1) × TableFits entryTerms result t × Marked result t marks.new × Left n counts.old counts.new) }
-    ensures masks_after { (let d : Datum = datumOf old q.now in
-        let new : Datum = datumOf new p.now in
-        let es : List (List ℕ) = entriesIn n (tableFrom first s.now counts.old masks.old) in
-        entriesIn result (tableFrom first s.now counts.new masks.new)
-        ≡ cond (Steps·disjoint d new) (learn (normal (d.terms ++ new.terms)) es) es) }
+    requires state_size_in_bounds { (state_size ≤ length s.now) × (first ≤ entries_most) × (first ≤ n) }
+    requires table_fits { TableFits entry_terms (n + 1) (table_from first s.now counts.old masks.old) }
+    requires q_len_bound { (length q.now ≤ datum_terms) × (0 < length p.now) × (length p.now ≤ datum_terms) × (n < length marks.old) }
+    requires marked { Marked n (table_from first s.now counts.old masks.old) marks.old × BothSplit old × BothSplit new }
+    ensures fact { (let t : Table = table_from first s.now counts.new masks.new in
+        (n ≤ result) × (result ≤ n + 1) × TableFits entry_terms result t × Marked result t marks.new × Left n counts.old counts.new) }
+    ensures masks_after { (let d : Datum = datum_of old q.now in
+        let new : Datum = datum_of new p.now in
+        let es : List (List ℕ) = entries_in n (table_from first s.now counts.old masks.old) in
+        entries_in result (table_from first s.now counts.new masks.new)
+        ≡ cond (disjoint d new) (learn (normal (d.terms ++ new.terms)) es) es) }
 {
     if !disjoint(old, new) {
         return n;
@@ -77,19 +77,19 @@ pub fn learn_all(
     rows: Rows,
 ) -> usize
     requires columns_fit { ColumnsFit rows.held (columns lefts.now rights.now held.now terms.now) }
-    requires state_size_in_bounds { (stateSize ≤ length s.now) × (rows.known ≤ entriesMost) }
-    requires table_fits { TableFits entryTerms (rows.known + rows.held) (tableFrom rows.known s.now counts.old masks.old) }
-    requires p_nonzero { (0 < length p.now) × (length p.now ≤ datumTerms) × (rows.known + rows.held ≤ length marks.old) }
-    requires marked { Marked rows.known (tableFrom rows.known s.now counts.old masks.old) marks.old × BothSplit new }
-    ensures fact { (let t : Table = tableFrom rows.known s.now counts.new masks.new in
-        (result ≤ rows.known + rows.held) × TableFits entryTerms result t × Marked result t marks.new
+    requires state_size_in_bounds { (state_size ≤ length s.now) × (rows.known ≤ entries_most) }
+    requires table_fits { TableFits entry_terms (rows.known + rows.held) (table_from rows.known s.now counts.old masks.old) }
+    requires p_nonzero { (0 < length p.now) × (length p.now ≤ datum_terms) × (rows.known + rows.held ≤ length marks.old) }
+    requires marked { Marked rows.known (table_from rows.known s.now counts.old masks.old) marks.old × BothSplit new }
+    ensures fact { (let t : Table = table_from rows.known s.now counts.new masks.new in
+        (result ≤ rows.known + rows.held) × TableFits entry_terms result t × Marked result t marks.new
         × Left rows.known counts.old counts.new
         × (length counts.new ≡ length counts.old) × (length masks.new ≡ length masks.old)
         × (length marks.new ≡ length marks.old)) }
     ensures masks_after { (let c : Columns = columns lefts.now rights.now held.now terms.now in
-        let old : Table = tableFrom rows.known s.now counts.old masks.old in
-        entriesIn result (tableFrom rows.known s.now counts.new masks.new)
-        ≡ learnt (datumOf new p.now) (tab rows.held (datumIn c)) (entriesIn rows.known old)) }
+        let old : Table = table_from rows.known s.now counts.old masks.old in
+        entries_in result (table_from rows.known s.now counts.new masks.new)
+        ≡ learnt (datum_of new p.now) (tab rows.held (datum_in c)) (entries_in rows.known old)) }
 {
     let h = rows.held;
     let first = rows.known;
@@ -128,12 +128,12 @@ fn explained_row(
     marks: &[u32],
     n: usize,
 ) -> bool
-    requires i_in_bounds { (i < length held.now) × (i * datumTerms + get_or held.now i 0 ≤ length terms.now) }
-    requires state_size_in_bounds { (stateSize ≤ length s.now) × (first ≤ entriesMost) }
-    requires fact { (let t : Table = tableFrom first s.now counts.now masks.now in TableFits entryTerms n t × Marked n t marks.now) }
+    requires i_in_bounds { (i < length held.now) × (i * datum_terms + get_or held.now i 0 ≤ length terms.now) }
+    requires state_size_in_bounds { (state_size ≤ length s.now) × (first ≤ entries_most) }
+    requires fact { (let t : Table = table_from first s.now counts.now masks.now in TableFits entry_terms n t × Marked n t marks.now) }
     ensures { result ≡
-        explained (entriesIn n (tableFrom first s.now counts.now masks.now))
-        (row_of datumTerms (table held.now terms.now) i) }
+        explained (entries_in n (table_from first s.now counts.now masks.now))
+        (row_of datum_terms (table held.now terms.now) i) }
 {
     let from = i * state::DATUM_TERMS;
     let to = from + held[i] as usize;
@@ -152,12 +152,12 @@ pub fn drop_explained(
     marks: &[u32],
     n: usize,
 )
-    requires table_fits { TableFits datumTerms h (table held.old terms.now) }
-    requires state_size_in_bounds { (stateSize ≤ length s.now) × (first ≤ entriesMost) }
-    requires fact { (let t : Table = tableFrom first s.now counts.now masks.now in TableFits entryTerms n t × Marked n t marks.now) }
-    ensures { (let es : List (List ℕ) = entriesIn n (tableFrom first s.now counts.now masks.now) in
+    requires table_fits { TableFits datum_terms h (table held.old terms.now) }
+    requires state_size_in_bounds { (state_size ≤ length s.now) × (first ≤ entries_most) }
+    requires fact { (let t : Table = table_from first s.now counts.now masks.now in TableFits entry_terms n t × Marked n t marks.now) }
+    ensures { (let es : List (List ℕ) = entries_in n (table_from first s.now counts.now masks.now) in
         let t : Table = table held.old terms.now in
-        held.new ≡ givenUp h (λ i. explained es (row_of datumTerms t i)) held.old) }
+        held.new ≡ given_up h (λ i. explained es (row_of datum_terms t i)) held.old) }
 {
     let mut i: usize = 0;
     while i < h {
@@ -170,7 +170,7 @@ pub fn drop_explained(
 
 // Whether p and q are the same list of terms.
 fn same(p: &[u32], q: &[u32]) -> bool
-    ensures { result ≡ Steps·same p.now q.now }
+    ensures { result ≡ same p.now q.now }
 {
     if p.len() != q.len() {
         return false;
@@ -187,8 +187,8 @@ fn same(p: &[u32], q: &[u32]) -> bool
 
 // Whether row i of the held data has the predicate p.
 fn same_row(held: &[u32], terms: &[u32], i: usize, p: &[u32]) -> bool
-    requires { (i < length held.now) × (i * datumTerms + get_or held.now i 0 ≤ length terms.now) }
-    ensures { result ≡ Steps·same (row_of datumTerms (table held.now terms.now) i) p.now }
+    requires { (i < length held.now) × (i * datum_terms + get_or held.now i 0 ≤ length terms.now) }
+    ensures { result ≡ same (row_of datum_terms (table held.now terms.now) i) p.now }
 {
     let from = i * state::DATUM_TERMS;
     let to = from + held[i] as usize;
@@ -197,8 +197,8 @@ fn same_row(held: &[u32], terms: &[u32], i: usize, p: &[u32]) -> bool
 
 // The first row of the held data with the predicate p; h where there is none.
 fn find_same(held: &[u32], terms: &[u32], h: usize, p: &[u32]) -> usize
-    requires { TableFits datumTerms h (table held.now terms.now) }
-    ensures { FirstRow h (λ i. Steps·same (row_of datumTerms (table held.now terms.now) i) p.now) result }
+    requires { TableFits datum_terms h (table held.now terms.now) }
+    ensures { FirstRow h (λ i. same (row_of datum_terms (table held.now terms.now) i) p.now) result }
 {
     let mut i: usize = 0;
     while i < h {
@@ -223,12 +223,12 @@ pub fn meet(
     requires columns_fit { ColumnsFit h (columns lefts.now rights.now held.old terms.now) × BothSplit new }
     requires p_nonzero { 0 < length p.now }
     ensures fact { (let old : Columns = columns lefts.now rights.now held.old terms.now in
-        (datumOf result p.now ≡ met (datumOf new p.now) (dataIn h old)) × BothSplit result) }
+        (datum_of result p.now ≡ met (datum_of new p.now) (data_in h old)) × BothSplit result) }
     ensures terms_after { (let old : Columns = columns lefts.now rights.now held.old terms.now in
-        dataIn h (columns lefts.now rights.now held.new terms.now)
-        ≡ without p.now (dataIn h old)) }
+        data_in h (columns lefts.now rights.now held.new terms.now)
+        ≡ without p.now (data_in h old)) }
     ensures held_after { (let t : Table = table held.old terms.now in
-        held.new ≡ givenUp h (isFirst (λ i. Steps·same (row_of datumTerms t i) p.now)) held.old) }
+        held.new ≡ given_up h (is_first (λ i. same (row_of datum_terms t i) p.now)) held.old) }
 {
     let i = find_same(held, terms, h, p);
     if i == h {
@@ -246,7 +246,7 @@ pub fn meet(
 // nearly always tell.
 fn betters(a: Ends, q: &[u32], b: Ends, p: &[u32]) -> bool
     requires { BothSplit a × BothSplit b }
-    ensures { result ≡ Steps·betters (datumOf a q.now) (datumOf b p.now) }
+    ensures { result ≡ betters (datum_of a q.now) (datum_of b p.now) }
 {
     if (a.left.whole < b.left.whole) | (b.right.whole < a.right.whole) {
         return false;
@@ -267,11 +267,11 @@ fn row_betters(
     new: Ends,
     p: &[u32],
 ) -> bool
-    requires i_in_bounds { (i < length held.now) × (i * datumTerms + get_or held.now i 0 ≤ length terms.now) }
+    requires i_in_bounds { (i < length held.now) × (i * datum_terms + get_or held.now i 0 ≤ length terms.now) }
     requires i_in_bounds_2 { (i * 2 + 1 < length lefts.now) × AllSplit lefts.now
         × (i * 2 + 1 < length rights.now) × AllSplit rights.now × BothSplit new }
     ensures { (let c : Columns = columns lefts.now rights.now held.now terms.now in
-        result ≡ hasTerms (row_of datumTerms (table_of c) i) && Steps·betters (datumIn c i) (datumOf new p.now)) }
+        result ≡ has_terms (row_of datum_terms (table_of c) i) && betters (datum_in c i) (datum_of new p.now)) }
 {
     let count = held[i] as usize;
     if count == 0 {
@@ -295,7 +295,7 @@ pub fn bettered(
 ) -> bool
     requires { ColumnsFit h (columns lefts.now rights.now held.now terms.now) × BothSplit new }
     ensures { (let c : Columns = columns lefts.now rights.now held.now terms.now in
-        result ≡ any (λ d. Steps·betters d (datumOf new p.now)) (dataIn h c)) }
+        result ≡ any (λ d. betters d (datum_of new p.now)) (data_in h c)) }
 {
     let mut i: usize = 0;
     while i < h {
@@ -317,11 +317,11 @@ fn betters_row(
     new: Ends,
     p: &[u32],
 ) -> bool
-    requires i_in_bounds { (i < length held.now) × (i * datumTerms + get_or held.now i 0 ≤ length terms.now) }
+    requires i_in_bounds { (i < length held.now) × (i * datum_terms + get_or held.now i 0 ≤ length terms.now) }
     requires i_in_bounds_2 { (i * 2 + 1 < length lefts.now) × AllSplit lefts.now
         × (i * 2 + 1 < length rights.now) × AllSplit rights.now × BothSplit new }
     ensures { (let c : Columns = columns lefts.now rights.now held.now terms.now in
-        result ≡ Steps·betters (datumOf new p.now) (datumIn c i)) }
+        result ≡ betters (datum_of new p.now) (datum_in c i)) }
 {
     let from = i * state::DATUM_TERMS;
     let to = from + held[i] as usize;
@@ -341,7 +341,7 @@ pub fn drop_bettered(
 )
     requires { ColumnsFit h (columns lefts.now rights.now held.old terms.now) × BothSplit new }
     ensures { (let c : Columns = columns lefts.now rights.now held.old terms.now in
-        held.new ≡ givenUp h (λ i. Steps·betters (datumOf new p.now) (datumIn c i)) held.old) }
+        held.new ≡ given_up h (λ i. betters (datum_of new p.now) (datum_in c i)) held.old) }
 {
     let mut i: usize = 0;
     while i < h {

@@ -4,29 +4,29 @@ use Prim.Native.String.{String}
 use Rattle.std.specs.Prelude.{◌≡◌, List, [], ◌∷◌}
 use Rattle.predicates.specs.Lists.{In}
 use Rattle.lines.specs.Cases.{ascii}
-use Rattle.stream.specs.Listing.{listingOf}
+use Rattle.stream.specs.Listing.{listing_of}
 
 -- an input, and all that it must print
 pub record InputCase : Type 0 where
   pub input : String
   pub prints : String
 
-abbrev pub inputCase : String → String → InputCase
-inputCase input prints = record { input = input; prints = prints }
+abbrev pub input_case : String → String → InputCase
+input_case input prints = record { input = input; prints = prints }
 
 abbrev pub InputComes : InputCase → Type 0
-InputComes c = listingOf (ascii c.input) ≡ ascii c.prints
+InputComes c = listing_of (ascii c.input) ≡ ascii c.prints
 
 -- no line; empty lines; last lines with and without a line feed. No `set` is taken here: behind one each line would be computed on the 5,393 bytes of a
 -- state, which takes too long; what the lines of document 01's listing answer is a table of `runs`, computed on the states that the bytes hold
 unfoldable pub inputs : List InputCase
 inputs =
-    inputCase "" ""
-    ∷ inputCase "\n" "bad line\n"
-    ∷ inputCase "x" "bad line\n"
-    ∷ inputCase "x\n" "bad line\n"
-    ∷ inputCase "\n\nx" "bad line\nbad line\nbad line\n"
-    ∷ inputCase "ask 0\nfewest" "bad line\nbad line\n"
+    input_case "" ""
+    ∷ input_case "\n" "bad line\n"
+    ∷ input_case "x" "bad line\n"
+    ∷ input_case "x\n" "bad line\n"
+    ∷ input_case "\n\nx" "bad line\nbad line\nbad line\n"
+    ∷ input_case "ask 0\nfewest" "bad line\nbad line\n"
     ∷ []
 
 -- each input prints its text

@@ -3,10 +3,10 @@
 // nothing of its own.
 ghost use Rattle.std.specs.Prelude.{◌≡◌, List, ℕ, ◌+◌, ◌*◌, ◌≤◌, length, take};
 ghost use Rattle.numbers.specs.Numbers.{put};
-ghost use Rattle.lines.specs.code.Sizes.{answerMost};
-ghost use Rattle.lines.specs.Lines.{lineMost, LineResult, lineResult};
-ghost use Rattle.stream.specs.Kept.{Kept, kept, nothingKept, keptNext, textNext, keptAfter, textAfter, lastText};
-ghost use Rattle.stream.specs.code.Sessions.{Standing, keptBy};
+ghost use Rattle.lines.specs.code.Sizes.{answer_most};
+ghost use Rattle.lines.specs.Lines.{line_most, LineResult, line_result};
+ghost use Rattle.stream.specs.Kept.{Kept, kept, nothing_kept, kept_next, text_next, kept_after, text_after, last_text};
+ghost use Rattle.stream.specs.code.Sessions.{Standing, kept_by};
 
 use lines::{ANSWER_MOST, LINE_MOST};
 
@@ -21,7 +21,7 @@ pub struct Session {
 
 // Before the first byte.
 pub fn begin() -> Session
-    ensures { (keptBy result ≡ nothingKept) × Standing result }
+    ensures { (kept_by result ≡ nothing_kept) × Standing result }
 {
     Session {
         begun: false,
@@ -41,9 +41,9 @@ struct Place {
 
 // Ends a line: its answer goes behind the output that waits.
 fn end_line(line: &[u8], state: &mut [u8], begun: bool, out: &mut [u8], filled: usize) -> Place
-    requires { filled + answerMost ≤ length out.old }
-    ensures* { λ r. ⌜ (let result : LineResult = lineResult line.now begun state.old in
-        (r.begun ≡ result.begun) × (r.size ≡ 0) × (r.filled ≡ filled + length result.text) × (r.filled ≤ filled + answerMost)
+    requires { filled + answer_most ≤ length out.old }
+    ensures* { λ r. ⌜ (let result : LineResult = line_result line.now begun state.old in
+        (r.begun ≡ result.begun) × (r.size ≡ 0) × (r.filled ≡ filled + length result.text) × (r.filled ≤ filled + answer_most)
         × (state.new ≡ result.state) × (out.new ≡ put filled result.text out.old)) ⌝ }
 {
     let mut answer = [0u8; ANSWER_MOST];
@@ -59,12 +59,12 @@ fn end_line(line: &[u8], state: &mut [u8], begun: bool, out: &mut [u8], filled: 
 
 // One byte of input: a line feed ends the line.
 fn take_byte(b: u8, line: &mut [u8], state: &mut [u8], out: &mut [u8], place: Place) -> Place
-    requires { (place.size ≤ lineMost + 1) × (lineMost + 1 ≤ length line.old) × (place.filled + answerMost ≤ length out.old) }
-    ensures size_bound { (result.size ≤ lineMost + 1) × (result.filled ≤ place.filled + answerMost) }
+    requires { (place.size ≤ line_most + 1) × (line_most + 1 ≤ length line.old) × (place.filled + answer_most ≤ length out.old) }
+    ensures size_bound { (result.size ≤ line_most + 1) × (result.filled ≤ place.filled + answer_most) }
     ensures fact { (let old : Kept = kept place.begun state.old (take place.size line.old) in
         let new : Kept = kept result.begun state.new (take result.size line.new) in
-        (new ≡ keptNext old b) × (result.filled ≡ place.filled + length (textNext old b))
-        × (out.new ≡ put place.filled (textNext old b) out.old)) }
+        (new ≡ kept_next old b) × (result.filled ≡ place.filled + length (text_next old b))
+        × (out.new ≡ put place.filled (text_next old b) out.old)) }
 {
     let size = place.size;
     let filled = place.filled;
@@ -91,12 +91,12 @@ fn feed(
     begun: bool,
     size: usize,
 ) -> Place
-    requires { (size ≤ lineMost + 1) × (lineMost + 1 ≤ length line.old) × (answerMost * length piece.now ≤ length out.old) }
-    ensures size_bound { (result.size ≤ lineMost + 1) × (result.filled ≤ answerMost * length piece.now) }
+    requires { (size ≤ line_most + 1) × (line_most + 1 ≤ length line.old) × (answer_most * length piece.now ≤ length out.old) }
+    ensures size_bound { (result.size ≤ line_most + 1) × (result.filled ≤ answer_most * length piece.now) }
     ensures fact { (let old : Kept = kept begun state.old (take size line.old) in
         let new : Kept = kept result.begun state.new (take result.size line.new) in
-        (new ≡ keptAfter old piece.now) × (result.filled ≡ length (textAfter old piece.now))
-        × (out.new ≡ put 0 (textAfter old piece.now) out.old)) }
+        (new ≡ kept_after old piece.now) × (result.filled ≡ length (text_after old piece.now))
+        × (out.new ≡ put 0 (text_after old piece.now) out.old)) }
 {
     let mut place = Place {
         begun,
@@ -120,10 +120,10 @@ pub struct Fed {
 
 // Takes a piece of the input and stores all that it prints at the front of `out`, which has room for an answer to each byte.
 pub fn take_piece(from: Session, piece: &[u8], out: &mut [u8]) -> Fed
-    requires { Standing from × (answerMost * length piece.now ≤ length out.old) }
-    ensures standing { Standing result.session × (result.filled ≤ answerMost * length piece.now) }
-    ensures fact { (let text : List ℕ = textAfter (keptBy from) piece.now in
-        (keptBy result.session ≡ keptAfter (keptBy from) piece.now) × (result.filled ≡ length text)
+    requires { Standing from × (answer_most * length piece.now ≤ length out.old) }
+    ensures standing { Standing result.session × (result.filled ≤ answer_most * length piece.now) }
+    ensures fact { (let text : List ℕ = text_after (kept_by from) piece.now in
+        (kept_by result.session ≡ kept_after (kept_by from) piece.now) × (result.filled ≡ length text)
         × (out.new ≡ put 0 text out.old)) }
 {
     let mut line = from.line;
@@ -143,9 +143,9 @@ pub fn take_piece(from: Session, piece: &[u8], out: &mut [u8]) -> Fed
 
 // Ends the input: a last line without a line feed counts if it has bytes. Stores what it prints at the front of `out`.
 pub fn last_line(from: Session, out: &mut [u8]) -> usize
-    requires { Standing from × (answerMost ≤ length out.old) }
-    ensures value { (result ≡ length (lastText (keptBy from))) × (result ≤ answerMost) }
-    ensures out_after { out.new ≡ put 0 (lastText (keptBy from)) out.old }
+    requires { Standing from × (answer_most ≤ length out.old) }
+    ensures value { (result ≡ length (last_text (kept_by from))) × (result ≤ answer_most) }
+    ensures out_after { out.new ≡ put 0 (last_text (kept_by from)) out.old }
 {
     let size = from.size;
     if size == 0 {

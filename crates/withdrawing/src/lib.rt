@@ -3,12 +3,12 @@
 // Every function here is proved, and the crate assumes nothing of its own.
 ghost use Rattle.std.specs.Prelude.{◌≡◌, [], ◌∷◌, ◌++◌, ℕ, ◌+◌, ◌≤◌, ◌<◌, T, length};
 ghost use Rattle.numbers.specs.Numbers.{num, put, tab};
-ghost use Rattle.state.specs.Layout.{stateSize, own_at, dataMost, entriesMost, datumTerms, entryTerms, heldCount, entryCount, datumAt, entry_at};
-ghost use Rattle.state.specs.Layout.{head_of, store_of, stateBytes};
-ghost use Rattle.state.specs.Form.{datumFits, entryFits, inForm};
-ghost use Rattle.state.specs.code.Tables.{Columns, Table, table, columns, TableFits, ColumnsFit, row_of, entriesIn, datumIn, dataIn};
-ghost use Rattle.entries.specs.Entries.{withdrawnEntries};
-ghost use Rattle.steps.specs.Withdrawn.{withdrawnData, withdrawn};
+ghost use Rattle.state.specs.Layout.{state_size, own_at, data_most, entries_most, datum_terms, entry_terms, held_count, entry_count, datum_at, entry_at};
+ghost use Rattle.state.specs.Layout.{head_of, store_of, state_bytes};
+ghost use Rattle.state.specs.Form.{datum_fits, entry_fits, in_form};
+ghost use Rattle.state.specs.code.Tables.{Columns, Table, table, columns, TableFits, ColumnsFit, row_of, entries_in, datum_in, data_in};
+ghost use Rattle.entries.specs.Entries.{withdrawn_entries};
+ghost use Rattle.steps.specs.Withdrawn.{withdrawn_data, withdrawn};
 
 // A row more than there are places for data, two numbers for each of its ends, and the masks of these rows and of the entries.
 const DATA_ROWS: usize = state::DATA_MOST + 1;
@@ -30,12 +30,12 @@ fn get_datum(
     masks: &mut [u32],
     r: usize,
 ) -> usize
-    requires state_size_in_bounds { (stateSize ≤ length s.now) × (i < dataMost) × T (datumFits (num own_at 4 s.now) s.now i) × (r ≤ dataMost) }
+    requires state_size_in_bounds { (state_size ≤ length s.now) × (i < data_most) × T (datum_fits (num own_at 4 s.now) s.now i) × (r ≤ data_most) }
     requires columns_fit { ColumnsFit (r + 1) (columns lefts.old rights.old counts.old masks.old) }
     ensures upper_bound { (result ≤ r + 1) × ColumnsFit (r + 1) (columns lefts.new rights.new counts.new masks.new) }
     ensures masks_after { (let was : Columns = columns lefts.old rights.old counts.old masks.old in
-        tab result (datumIn (columns lefts.new rights.new counts.new masks.new))
-        ≡ tab r (datumIn was) ++ withdrawnData risen (datumAt s.now i ∷ [])) }
+        tab result (datum_in (columns lefts.new rights.new counts.new masks.new))
+        ≡ tab r (datum_in was) ++ withdrawn_data risen (datum_at s.now i ∷ [])) }
 {
     let at = state::DATA_AT + i * state::DATUM_SIZE;
     let mut row = [0u32; state::DATUM_TERMS];
@@ -59,11 +59,11 @@ fn get_withdrawn(
     counts: &mut [u32],
     masks: &mut [u32],
 ) -> usize
-    requires state_size_in_bounds { (stateSize ≤ length s.now) × T (inForm s.now) × (n ≡ heldCount s.now) }
+    requires state_size_in_bounds { (state_size ≤ length s.now) × T (in_form s.now) × (n ≡ held_count s.now) }
     requires columns_fit { ColumnsFit (n + 1) (columns lefts.old rights.old counts.old masks.old) }
     ensures upper_bound { (result ≤ n) × ColumnsFit (n + 1) (columns lefts.new rights.new counts.new masks.new) }
     ensures fact { (let c : Columns = columns lefts.new rights.new counts.new masks.new in
-        (tab result (datumIn c) ≡ withdrawnData risen (store_of s.now).held) × (dataIn result c ≡ tab result (datumIn c))) }
+        (tab result (datum_in c) ≡ withdrawn_data risen (store_of s.now).held) × (data_in result c ≡ tab result (datum_in c))) }
 {
     let mut r: usize = 0;
     let mut i: usize = 0;
@@ -76,11 +76,11 @@ fn get_withdrawn(
 
 // Reads entry i into row r where the names of `risen` count as failed, unless it has become true. Answers how many rows there are then.
 fn get_row(s: &[u8], i: usize, risen: u32, counts: &mut [u32], masks: &mut [u32], r: usize) -> usize
-    requires state_size_in_bounds { (stateSize ≤ length s.now) × (i < entriesMost) × T (entryFits (num own_at 4 s.now) s.now i) × (r < entriesMost) }
-    requires table_fits { TableFits entryTerms (r + 1) (table counts.old masks.old) }
-    ensures upper_bound { (result ≤ r + 1) × TableFits entryTerms (r + 1) (table counts.new masks.new) }
-    ensures masks_after { tab result (row_of entryTerms (table counts.new masks.new))
-        ≡ tab r (row_of entryTerms (table counts.old masks.old)) ++ withdrawnEntries risen (entry_at s.now i ∷ []) }
+    requires state_size_in_bounds { (state_size ≤ length s.now) × (i < entries_most) × T (entry_fits (num own_at 4 s.now) s.now i) × (r < entries_most) }
+    requires table_fits { TableFits entry_terms (r + 1) (table counts.old masks.old) }
+    ensures upper_bound { (result ≤ r + 1) × TableFits entry_terms (r + 1) (table counts.new masks.new) }
+    ensures masks_after { tab result (row_of entry_terms (table counts.new masks.new))
+        ≡ tab r (row_of entry_terms (table counts.old masks.old)) ++ withdrawn_entries risen (entry_at s.now i ∷ []) }
 {
     let at = state::ENTRIES_AT + i * state::ENTRY_SIZE;
     let mut row = [0u32; state::ENTRY_TERMS];
@@ -95,11 +95,11 @@ fn get_row(s: &[u8], i: usize, risen: u32, counts: &mut [u32], masks: &mut [u32]
 // Reads the n entries of a state in form into the front of the table, oldest first, where the names of `risen` count as failed; those that have
 // become true are left out. Answers how many rows there are. What stands behind them is free.
 fn get_entries(s: &[u8], n: usize, risen: u32, counts: &mut [u32], masks: &mut [u32]) -> usize
-    requires state_size_in_bounds { (stateSize ≤ length s.now) × T (inForm s.now) × (n ≡ entryCount s.now) }
-    requires table_fits { TableFits entryTerms n (table counts.old masks.old) }
-    ensures upper_bound { (result ≤ n) × TableFits entryTerms n (table counts.new masks.new) }
+    requires state_size_in_bounds { (state_size ≤ length s.now) × T (in_form s.now) × (n ≡ entry_count s.now) }
+    requires table_fits { TableFits entry_terms n (table counts.old masks.old) }
+    ensures upper_bound { (result ≤ n) × TableFits entry_terms n (table counts.new masks.new) }
     ensures fact { (let t : Table = table counts.new masks.new in
-        (tab result (row_of entryTerms t) ≡ withdrawnEntries risen (store_of s.now).entries) × (entriesIn result t ≡ tab result (row_of entryTerms t))) }
+        (tab result (row_of entry_terms t) ≡ withdrawn_entries risen (store_of s.now).entries) × (entries_in result t ≡ tab result (row_of entry_terms t))) }
 {
     let mut r: usize = 0;
     let mut i: usize = 0;
@@ -112,9 +112,9 @@ fn get_entries(s: &[u8], n: usize, risen: u32, counts: &mut [u32], masks: &mut [
 
 // Withdraws the names of `risen` from all that a state in form holds and knows; its head stays.
 pub fn withdraw(s: &mut [u8], risen: u32)
-    requires { (stateSize ≤ length s.old) × T (inForm s.old) }
+    requires { (state_size ≤ length s.old) × T (in_form s.old) }
     ensures { s.new
-        ≡ put 0 (stateBytes (record { head = head_of s.old; store = withdrawn risen (store_of s.old) })) s.old }
+        ≡ put 0 (state_bytes (record { head = head_of s.old; store = withdrawn risen (store_of s.old) })) s.old }
 {
     let mut lefts = [0u64; DATA_ENDS];
     let mut rights = [0u64; DATA_ENDS];

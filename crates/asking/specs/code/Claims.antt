@@ -5,23 +5,23 @@ use Rattle.std.specs.Prelude.{ℕ, Bool, ◌&&◌, not, List, ◌++◌, map, T, 
 use Rattle.predicates.specs.Lists.{all, all_below, keep}
 use Rattle.predicates.specs.Predicates.{holds}
 use Rattle.state.specs.Model.{Datum, Store, State}
-use Rattle.claims.specs.code.Degrees.{degreeWithin}
+use Rattle.claims.specs.code.Degrees.{degree_within}
 use Rattle.asking.specs.Instants.{Allowed}
 
 -- the instant x is in the datum's interval
 unfoldable pub inside : ℕ → Datum → Bool
 inside x d = leb d.left x && leb x d.right
 
-abbrev pub termsOf : List Datum → List (List ℕ)
-termsOf ds = map (λ (d : Datum). d.terms) ds
+abbrev pub terms_of : List Datum → List (List ℕ)
+terms_of ds = map (λ (d : Datum). d.terms) ds
 
 -- the predicates to be made true for the instant x
 unfoldable pub needed_at : ℕ → Store → List (List ℕ)
-needed_at x k = k.entries ++ termsOf (keep (λ d. not (inside x d)) k.held)
+needed_at x k = k.entries ++ terms_of (keep (λ d. not (inside x d)) k.held)
 
 -- the predicates to be made true for every instant
 unfoldable pub everything : Store → List (List ℕ)
-everything k = k.entries ++ termsOf k.held
+everything k = k.entries ++ terms_of k.held
 
 -- some set within the limit, without the own name, makes the predicates true
 abbrev pub Explained : ℕ → State → List (List ℕ) → Type 0
@@ -31,4 +31,4 @@ Explained limit st ps = (u : ℕ) × Allowed limit st.head.own u × T (all (hold
 
 -- what the entries tell by themselves: no set within the limit makes all of them true, since the degree of one is above the limit
 unfoldable pub hopeless : ℕ → State → Bool
-hopeless limit st = not (all_below (length st.store.entries) (degreeWithin st.store limit))
+hopeless limit st = not (all_below (length st.store.entries) (degree_within st.store limit))

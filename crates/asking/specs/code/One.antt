@@ -2,14 +2,14 @@
 -- One failed name at most: alone it makes a predicate true where it is one of its terms. Assumes nothing: these are definitions.
 use Rattle.std.specs.Prelude.{ℕ, ◌≤◌, ◌<◌, ◌≡◌, ◌⊎◌, Bool, not, List, [], ◌∷◌, map, T, ℤ, pos, length, get_or}
 use Rattle.std.specs.Int.Count.{ones}
-use Rattle.names.specs.Sets.{noSet, subset, setUnion}
+use Rattle.names.specs.Sets.{no_set, subset, set_union}
 use Rattle.names.specs.code.Parts.{shared}
 use Rattle.predicates.specs.code.Marks.{singles}
 use Rattle.predicates.specs.Lists.{In}
 use Rattle.predicates.specs.Predicates.{holds}
 use Rattle.state.specs.Model.{Datum, State}
-use Rattle.search.specs.code.LeftEnds.{noEnd}
-use Rattle.claims.specs.code.Tables.{entryClaim}
+use Rattle.search.specs.code.LeftEnds.{no_end}
+use Rattle.claims.specs.code.Tables.{entry_claim}
 use Rattle.asking.specs.Instants.{Within, InAll}
 use Rattle.asking.specs.Asking.{active}
 use Rattle.asking.specs.Fewest.{Works}
@@ -17,28 +17,28 @@ use Rattle.asking.specs.Fewest.{Works}
 -- ---- masks
 
 -- of each datum the names that make its predicate true alone
-unfoldable pub masksOf : List Datum → List ℕ
-masksOf ds = map (λ (d : Datum). singles d.terms) ds
+unfoldable pub masks_of : List Datum → List ℕ
+masks_of ds = map (λ (d : Datum). singles d.terms) ds
 
 -- those of the names that all masks have
-unfoldable pub commonNames : ℕ → List ℕ → ℕ
-commonNames names [] = names
-commonNames names (m ∷ ms) = commonNames (shared names m) ms
+unfoldable pub common_names : ℕ → List ℕ → ℕ
+common_names names [] = names
+common_names names (m ∷ ms) = common_names (shared names m) ms
 
 -- the names and those that some mask has
-unfoldable pub allNames : ℕ → List ℕ → ℕ
-allNames names [] = names
-allNames names (m ∷ ms) = allNames (setUnion names m) ms
+unfoldable pub all_names : ℕ → List ℕ → ℕ
+all_names names [] = names
+all_names names (m ∷ ms) = all_names (set_union names m) ms
 
 -- ---- data in arrays
 
 -- these are the ends of the data and their masks; no predicate has the empty term, and every right end is one
 pub record InArrays (ds : List Datum) (lefts rights masks : List ℕ) : Type 0 where
-  pub masks-are : masks ≡ masksOf ds
-  pub left_is : (i : ℕ) → i < length masks → get_or lefts i 0 ≡ (get_or ds i (entryClaim [])).left
-  pub right_is : (i : ℕ) → i < length masks → get_or rights i 0 ≡ (get_or ds i (entryClaim [])).right
+  pub masks_are : masks ≡ masks_of ds
+  pub left_is : (i : ℕ) → i < length masks → get_or lefts i 0 ≡ (get_or ds i (entry_claim [])).left
+  pub right_is : (i : ℕ) → i < length masks → get_or rights i 0 ≡ (get_or ds i (entry_claim [])).right
   pub bare : (d : Datum) → In d ds → T (not (holds 0 d.terms))
-  pub below : (d : Datum) → In d ds → d.right < noEnd
+  pub below : (d : Datum) → In d ds → d.right < no_end
 
 -- ---- what a name leaves
 
@@ -59,14 +59,14 @@ pub record Hull (ds : List Datum) (U : ℕ → Type 0) (left right : ℕ) : Type
   pub within : (u : ℕ) → U u → (x : ℤ) → InAll u ds x → Within left right x
   pub first : left ≤ right → (u : ℕ) × U u × InAll u ds (pos left)
   pub last : left ≤ right → (u : ℕ) × U u × InAll u ds (pos right)
-  pub none : right < left → (left ≡ noEnd) × (right ≡ 0)
+  pub none : right < left → (left ≡ no_end) × (right ≡ 0)
 
 -- r is the least of the names that leaves an instant, or the mask of no set
 pub record LeastLeaving (ds : List Datum) (names r : ℕ) : Type 0 where
-  pub one : r < noSet → OneOf names r × ((x : ℤ) × InAll r ds x)
+  pub one : r < no_set → OneOf names r × ((x : ℤ) × InAll r ds x)
   pub least : (c : ℕ) → OneOf names c → (x : ℤ) → InAll c ds x → r ≤ c
 
 -- r is the least name that works alone, or the mask of no set
 pub record FewestOne (st : State) (r : ℕ) : Type 0 where
-  pub one : r < noSet → Works st r × (ones r ≡ 1)
+  pub one : r < no_set → Works st r × (ones r ≡ 1)
   pub least : (s : ℕ) → Works st s → ones s ≡ 1 → r ≤ s

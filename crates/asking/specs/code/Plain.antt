@@ -4,11 +4,11 @@ use Rattle.std.specs.Prelude.{ℕ, min, max, List, [], ◌∷◌}
 use Rattle.state.specs.Model.{Datum}
 
 -- the greatest of m and the left ends
-unfoldable pub greatestLeft : ℕ → List Datum → ℕ
-greatestLeft m [] = m
-greatestLeft m (d ∷ ds) = greatestLeft (max m d.left) ds
+unfoldable pub greatest_left : ℕ → List Datum → ℕ
+greatest_left m [] = m
+greatest_left m (d ∷ ds) = greatest_left (max m d.left) ds
 
 -- the least of m and the right ends
-unfoldable pub leastRight : ℕ → List Datum → ℕ
-leastRight m [] = m
-leastRight m (d ∷ ds) = leastRight (min m d.right) ds
+unfoldable pub least_right : ℕ → List Datum → ℕ
+least_right m [] = m
+least_right m (d ∷ ds) = least_right (min m d.right) ds

@@ -3,5 +3,5 @@
 use Rattle.std.specs.Prelude.{ℕ}
 
 -- so many rows are few: the arrays for them are quickly cleared
-abbrev pub fewRows : ℕ
-fewRows = 12
+abbrev pub few_rows : ℕ
+few_rows = 12

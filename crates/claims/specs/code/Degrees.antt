@@ -5,13 +5,13 @@ use Rattle.names.specs.code.Parts.{shared, others}
 use Rattle.predicates.specs.Predicates.{degree}
 use Rattle.predicates.specs.code.Marks.{singles}
 use Rattle.state.specs.Model.{Store}
-use Rattle.claims.specs.code.Tables.{claimAt}
+use Rattle.claims.specs.code.Tables.{claim_at}
 
 -- so many names are enough for claim i
-unfoldable pub degreeWithin : Store → ℕ → ℕ → Bool
-degreeWithin k most i = leb (degree (claimAt k i).terms) most
+unfoldable pub degree_within : Store → ℕ → ℕ → Bool
+degree_within k most i = leb (degree (claim_at k i).terms) most
 
 -- the names, without the own one, that each make the first n claims true alone
 unfoldable pub deciding : Store → ℕ → ℕ → ℕ
 deciding k own zero = others own
-deciding k own (suc n) = shared (deciding k own n) (singles (claimAt k n).terms)
+deciding k own (suc n) = shared (deciding k own n) (singles (claim_at k n).terms)

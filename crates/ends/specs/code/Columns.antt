@@ -5,16 +5,16 @@ use Rattle.ends.specs.declared.End.{End}
 use Rattle.ends.specs.Ends.{million, count}
 
 -- the two numbers of an end, as a column has them
-abbrev pub endNumbers : End → List ℕ
-endNumbers e = e.whole ∷ e.millionths ∷ []
+abbrev pub end_numbers : End → List ℕ
+end_numbers e = e.whole ∷ e.millionths ∷ []
 
 -- end i, as a count of millionths
 abbrev pub end_in : List ℕ → ℕ → ℕ
 end_in l i = count (get_or l (i * 2) 0) (get_or l (i * 2 + 1) 0)
 
 -- the column with e as its end i
-abbrev pub withEnd : List ℕ → ℕ → End → List ℕ
-withEnd l i e = set (set l (i * 2) e.whole) (i * 2 + 1) e.millionths
+abbrev pub with_end : List ℕ → ℕ → End → List ℕ
+with_end l i e = set (set l (i * 2) e.whole) (i * 2 + 1) e.millionths
 
 -- the millionths of each end are less than a microsecond
 abbrev pub AllSplit : List ℕ → Type 0

@@ -7,8 +7,8 @@ use Rattle.clocks.specs.Clocks.{Saved, nothing}
 use Rattle.state.specs.Model.{Head}
 use Rattle.engine.specs.Hearing.{cleared}
 
-unfoldable pub heardHead : ℕ → List ℕ → ℕ → Head → Head
-heardHead own names risen h =
+unfoldable pub heard_head : ℕ → List ℕ → ℕ → Head → Head
+heard_head own names risen h =
     record {
       own = h.own;
       drift = h.drift;
@@ -18,6 +18,6 @@ heardHead own names risen h =
     }
 
 -- the places, where those of the first n identifiers are cleared as far as r has them
-unfoldable pub clearedBelow : ℕ → ℕ → List Saved → List Saved
-clearedBelow zero r cs = cs
-clearedBelow (suc n) r cs = cond (has n r) (set (clearedBelow n r cs) n nothing) (clearedBelow n r cs)
+unfoldable pub cleared_below : ℕ → ℕ → List Saved → List Saved
+cleared_below zero r cs = cs
+cleared_below (suc n) r cs = cond (has n r) (set (cleared_below n r cs) n nothing) (cleared_below n r cs)

@@ -7,24 +7,24 @@ use mathlib.Core.Bool.{true}
 use mathlib.Core.List.{map}
 use native.Mathlib.Nat.{zero-add}
 use native.Mathlib.Omega.{arith}
-use borrow.Author.Tests.{not-true, not-false}
+use borrow.Author.Tests.{not-true, not_false}
 use lib.ListN.{length, take, length-map, length-take}
 use lib.Seq.{length-take-le}
 use Rattle.predicates.specs.Lists.{all}
-use Rattle.predicates.proofs.ListLaws.{true-T}
+use Rattle.predicates.proofs.ListLaws.{true_T}
 use Rattle.numbers.proofs.NumberLaws.{take_put}
 use Rattle.fields.specs.Fields.{fields, value, is_number}
-use Rattle.fields.specs.code.Scan.{later, spaceAt}
+use Rattle.fields.specs.code.Scan.{later, space_at}
 use Rattle.fields.proofs.FieldLaws.{numbers-all}
-use Rattle.lines.specs.Lines.{badLine}
-use Rattle.lines.specs.code.Sizes.{valuesMost}
+use Rattle.lines.specs.Lines.{bad_line}
+use Rattle.lines.specs.code.Sizes.{values_most}
 use Rattle.lines.proofs.LineLaws.{line-long, line-fields}
 use borrow.Author.Rules.{rules}
 use Rattle.lines.proofs.answer.Statement.{statement}
 use Rattle.lines.proofs.answer.Tie as tie
 
 returns : tie.Need-returns
-unfolding badLine
+unfolding bad_line
 returns c =
     let at_length = c.before.before.before.before in
     let a = at_length.before.before.before.before.args in
@@ -33,7 +33,7 @@ returns c =
     (rw long, rw long printed.0, rw long, rw long printed.1)
 
 returns-2 : tie.Need-returns-2
-unfolding badLine
+unfolding bad_line
 returns-2 c =
     let at-numbers = c.before.before.before.before.before.before.before in
     let at_length = at-numbers.before.before.before in
@@ -46,17 +46,17 @@ returns-2 c =
 -- behind the second test every field behind the first is a number
 good : (c : tie.Else2) → let at_length = c.before.before.before.before.before.before in
     let line = at_length.before.before.before.before.args.line.now in all is_number (later (fields line)) ≡ true
-good c = sym c.before.before.before.numbers-behind.ensures.0.0 ∙ not-false _ c.if2.false
+good c = sym c.before.before.before.numbers-behind.ensures.0.0 ∙ not_false _ c.if2.false
 
-few : (c : tie.Else2) → c.before.before.before.numbers-behind.result.count ≤ valuesMost
+few : (c : tie.Else2) → c.before.before.before.numbers-behind.result.count ≤ values_most
 few c = c.before.before.before.numbers-behind.ensures.0.2
 
-whole : (c : tie.Else2) → length c.before.before.before.numbers-behind.new.1.1.0 ≡ valuesMost
+whole : (c : tie.Else2) → length c.before.before.before.numbers-behind.new.1.1.0 ≡ values_most
 whole c = c.before.before.before.numbers-behind.auto.1.1.0
 
 -- the word before the first space, and the numbers of the fields behind it
 word : (c : tie.Else2) → let at_length = c.before.before.before.before.before.before in
-    let line = at_length.before.before.before.before.args.line.now in c.before.before.before.before.before.field-end.result ≡ spaceAt line
+    let line = at_length.before.before.before.before.args.line.now in c.before.before.before.before.before.field-end.result ≡ space_at line
 word c = c.before.before.before.before.before.field-end.ensures.0 ∙ zero-add _
 
 numbers : (c : tie.Else2) → let at_length = c.before.before.before.before.before.before in
@@ -68,7 +68,7 @@ numbers c =
     let call = c.before.before.before.numbers-behind in
     let count = rw (good c) at call.ensures.0.1 in
     let stored = call.ensures.1 in
-    rw (stored, numbers-all read (true-T _ (good c))) (take_put _ (map value read) _ (length-map read value ∙ sym count) (few c))
+    rw (stored, numbers-all read (true_T _ (good c))) (take_put _ (map value read) _ (length-map read value ∙ sym count) (few c))
 
 slice-aggregate-word-line : tie.Need-slice-aggregate-word-line
 slice-aggregate-word-line c = sym (length-take-le _ _ c.before.before.before.before.before.before.field-end.ensures.2)

@@ -1,15 +1,15 @@
 -- `listing::answer_all` meets its contract: where the input has ended, its last line's answer is handed on behind all others.
--- The mathematics is `ran-whole`, `ran-part` and `ran-tells` of `proofs.RunLaws`. Assumes nothing beyond the contracts of C.
+-- The mathematics is `ran_whole`, `ran_part` and `ran_tells` of `proofs.RunLaws`. Assumes nothing beyond the contracts of C.
 use Prim.Native.Nat.{ℕ, ◌+◌, ◌≤◌}
 use mathlib.Core.Path.{◌≡◌, sym, ap, ◌∙◌}
 use mathlib.Core.Bool.{true}
 use native.Mathlib.Omega.{arith}
-use borrow.Author.Tests.{not-true, not-false}
+use borrow.Author.Tests.{not-true, not_false}
 use lib.ListN.{length, take}
 use lib.Seq.{length-take-le}
-use Rattle.predicates.proofs.ListLaws.{true-T}
-use Rattle.listing.specs.System.{isEnd}
-use Rattle.listing.proofs.RunLaws.{went-most, ran-whole, ran-part, ran-tells}
+use Rattle.predicates.proofs.ListLaws.{true_T}
+use Rattle.listing.specs.System.{is_end}
+use Rattle.listing.proofs.RunLaws.{went_most, ran_whole, ran_part, ran_tells}
 use borrow.Author.Rules.{rules}
 use Rattle.listing.proofs.answer_all.Statement.{statement}
 use Rattle.listing.proofs.answer_all.Tie as tie
@@ -18,7 +18,7 @@ returns : tie.Need-returns
 returns c =
     let call = c.before.before.before.before.before.take_all.ensures.1 in
     let part = sym c.before.is-end.ensures ∙ not-true _ c.if1.true in
-    (rw part (ran-part call.0), (call.1.0.0, call.1.1))
+    (rw part (ran_part call.0), (call.1.0.0, call.1.1))
 
 -- the answer of the last line lies within the output
 short : (c : tie.After-last-line) → c.last_Line.result ≤ length c.last_Line.new.1.0
@@ -32,10 +32,10 @@ long : (c : tie.After-last-line) → length (take c.last_Line.result c.last_Line
 long c = length-take-le c.last_Line.result c.last_Line.new.1.0 (short c)
 
 -- the input has ended
-ended : (c : tie.After-last-line) → isEnd c.before.before.before.before.before.before.before.before.take_all.result.tally.input.got ≡ true
+ended : (c : tie.After-last-line) → is_end c.before.before.before.before.before.before.before.before.take_all.result.tally.input.got ≡ true
 ended c =
     let at-else = c.before.before.before in
-    sym at-else.before.is-end.ensures ∙ not-false _ at-else.if1.false
+    sym at-else.before.is-end.ensures ∙ not_false _ at-else.if1.false
 
 slice-aggregate-hand-on : tie.Need-slice-aggregate-hand-on
 slice-aggregate-hand-on c = sym (long c.before.before)
@@ -45,7 +45,7 @@ hand-on-requires c κs =
     let at_last = c.before.before in
     let at_take = at_last.before.before.before.before.before.before.before.before in
     let call = at_take.take_all.ensures in
-    (call.1.1.0.1 (true-T _ (ended at_last)), omega (arith, long at_last, at_last.last_Line.ensures.0.1, went-most call.1.0, call.0.1))
+    (call.1.1.0.1 (true_T _ (ended at_last)), omega (arith, long at_last, at_last.last_Line.ensures.0.1, went_most call.1.0, call.0.1))
 
 returns-2 : tie.Need-returns-2
 returns-2 c =
@@ -53,10 +53,10 @@ returns-2 c =
     let at_take = at_last.before.before.before.before.before.before.before.before in
     let call = at_take.take_all.ensures.1 in
     let hands = c.hand_on.ensures in
-    let tells = ran-tells _ hands call.1.0.0 (ended at_last) in
+    let tells = ran_tells _ hands call.1.0.0 (ended at_last) in
     let handed = at_take.take_all.result.tally.handed in
     let sent = hands.handed ∙ ap (λ (m : ℕ). handed + m) (long at_last ∙ at_last.last_Line.ensures.0.0) in
-    (rw (tells.0, hands.read) (ran-whole _ call.0 sent), (tells.1, rw tells.0 tt))
+    (rw (tells.0, hands.read) (ran_whole _ call.0 sent), (tells.1, rw tells.0 tt))
 
 pub answer-all-spec : {M : Type 1} → statement M
 answer-all-spec =

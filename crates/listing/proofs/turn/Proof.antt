@@ -5,40 +5,40 @@ use mathlib.Core.Path.{◌≡◌, sym, ◌∙◌}
 use native.Mathlib.Omega.{arith}
 use lib.ListN.{length, take}
 use lib.Seq.{length-take-le}
-use Rattle.lines.specs.code.Sizes.{answerMost}
-use Rattle.listing.specs.code.Turns.{pieceMost}
+use Rattle.lines.specs.code.Sizes.{answer_most}
+use Rattle.listing.specs.code.Turns.{piece_most}
 use Rattle.listing.proofs.RunLaws.{turned}
 use borrow.Author.Rules.{rules}
 use Rattle.listing.proofs.turn.Statement.{statement}
 use Rattle.listing.proofs.turn.Tie as tie
 
 -- no more bytes came than the array has
-few : (c : tie.After-came) → (c.came.result ≤ length c.before.before.before.receive.new.1.0) × (c.came.result ≤ pieceMost)
+few : (c : tie.After-came) → (c.came.result ≤ length c.before.before.before.receive.new.1.0) × (c.came.result ≤ piece_most)
 few c =
     let at-receive = c.before.before.before in
     let within : c.came.result ≤ length at-receive.receive.new.1.0 = omega (arith, c.came.ensures, at-receive.receive.ensures.fits) in
     (within, omega (arith, within, at-receive.receive.auto.1.0, at-receive.before.before.before.before.requires.0.1))
 
 -- the piece is as long as that
-piece-long : (c : tie.After-came) → length (take c.came.result c.before.before.before.receive.new.1.0) ≡ c.came.result
-piece-long c = length-take-le c.came.result c.before.before.before.receive.new.1.0 (few c).0
+piece_long : (c : tie.After-came) → length (take c.came.result c.before.before.before.receive.new.1.0) ≡ c.came.result
+piece_long c = length-take-le c.came.result c.before.before.before.receive.new.1.0 (few c).0
 
 slice-aggregate-take-piece : tie.Need-slice-aggregate-take-piece
-slice-aggregate-take-piece c = sym (piece-long c.before.before)
+slice-aggregate-take-piece c = sym (piece_long c.before.before)
 
 take-piece-requires : tie.Need-take-piece-requires
 take-piece-requires c κs =
     let at-came = c.before.before.before in
     let start = at-came.before.before.before.before.before.before.before in
-    (start.requires.0.0, omega (arith, (few at-came).1, piece-long at-came, start.requires.0.2))
+    (start.requires.0.0, omega (arith, (few at-came).1, piece_long at-came, start.requires.0.2))
 
 -- what the piece prints lies within the output
-fits : (c : tie.After-take-piece) → (c.take-piece.result.filled ≤ answerMost * c.before.before.before.before.came.result)
+fits : (c : tie.After-take-piece) → (c.take-piece.result.filled ≤ answer_most * c.before.before.before.before.came.result)
     × (c.take-piece.result.filled ≤ length c.take-piece.new.1.1.0)
 fits c =
     let at-came = c.before.before.before.before in
     let start = at-came.before.before.before.before.before.before.before in
-    let most : c.take-piece.result.filled ≤ answerMost * at-came.came.result = omega (arith, c.take-piece.ensures.0.1, piece-long at-came) in
+    let most : c.take-piece.result.filled ≤ answer_most * at-came.came.result = omega (arith, c.take-piece.ensures.0.1, piece_long at-came) in
     (most, omega (arith, (few at-came).1, start.requires.0.2, c.take-piece.auto.1.1.0))
 
 -- so much is handed on

@@ -3,10 +3,10 @@ use mathlib.Core.Path.{◌≡◌, sym, ◌∙◌}
 use borrow.Author.Tests.{lt-ltb, le-ltb}
 use lib.Seq.{length-take-le}
 use Rattle.numbers.specs.Numbers.{bytes}
-use Rattle.message.specs.Read.{readingNumber}
+use Rattle.message.specs.Read.{reading_number}
 use Rattle.state.specs.Refusal.{after}
-use Rattle.monitor.specs.Messages.{readBytes, readingBytes, answered, readNumber, readOutput}
-use Rattle.monitor.proofs.MessageCalls.{refused-stays, got_read}
+use Rattle.monitor.specs.Messages.{read_bytes, reading_bytes, answered, read_number, read_output}
+use Rattle.monitor.proofs.MessageCalls.{refused_stays, got_read}
 use borrow.Author.Rules.{rules}
 use Rattle.monitor.proofs.monitor_message_read.Statement.{statement}
 use Rattle.monitor.proofs.monitor_message_read.Tie as tie
@@ -15,27 +15,27 @@ slice-aggregate-read : tie.Need-slice-aggregate-read
 slice-aggregate-read c = sym (length-take-le _ _ (search rules))
 
 -- what was read is the reading of the message's bytes
-same : (c : tie.After-read) → c.read.result ≡ readBytes c.before.before.before.before.before.before.before.args.message.now
+same : (c : tie.After-read) → c.read.result ≡ read_bytes c.before.before.before.before.before.before.before.args.message.now
 same c =
     let at_take = c.before.before.before.take_words in
     got_read _ _ _ _ at_take.ensures.1 at_take.ensures.0.0 _ c.read.ensures
 
 returns : tie.Need-returns
-unfolding readNumber readOutput answered after readingNumber
+unfolding read_number read_output answered after reading_number
 returns c =
     let told = c.before.enum_told.given.1 in
     let e = sym (same c.before.before.before) ∙ told in
-    (rw (c.refusal.ensures, told, e), rw e (refused-stays _ _ _ _ e))
+    (rw (c.refusal.ensures, told, e), rw e (refused_stays _ _ _ _ e))
 
 returns-2 : tie.Need-returns-2
-unfolding readNumber readOutput answered after readingBytes bytes
+unfolding read_number read_output answered after reading_bytes bytes
 returns-2 c =
     let e = sym (same c.before.before.before.before) ∙ c.before.before.got.given.1 in
     let short = lt-ltb _ _ c.if1.true in
     (rw (e, short), rw (e, short))
 
 returns-3 : tie.Need-returns-3
-unfolding readNumber readOutput answered after readingBytes bytes
+unfolding read_number read_output answered after reading_bytes bytes
 returns-3 c =
     let at-if1 = c.before.before.before.before in
     let e = sym (same at-if1.before.before.before.before) ∙ at-if1.before.before.got.given.1 in

@@ -2,8 +2,8 @@
 -- The words that a call takes of a message's bytes. Assumes nothing: these are definitions.
 use Rattle.std.specs.Prelude.{ℕ, ◌%◌, cond, List, [], length, ltb, eqb}
 use Rattle.numbers.specs.Numbers.{words_of}
-use Rattle.radio.specs.Read.{bytesMost}
+use Rattle.radio.specs.Read.{bytes_most}
 
 -- the words in the bytes; none where the bytes are too many or leave a rest, and reading none is number 10 too
 unfoldable pub words_in : List ℕ → List ℕ
-words_in message = cond (eqb (length message % 4) 0) (cond (ltb bytesMost (length message)) [] (words_of message)) []
+words_in message = cond (eqb (length message % 4) 0) (cond (ltb bytes_most (length message)) [] (words_of message)) []

@@ -1,7 +1,7 @@
 -- `names::least_name` meets its contract: the code is the definition.
 use mathlib.Core.Path.{refl}
 use borrow.Author.Rules.{rules}
-use Rattle.names.specs.code.Parts.{leastName}
+use Rattle.names.specs.code.Parts.{least_name}
 use lib.Bits.{and_le_l}
 use Rattle.names.proofs.least_name.Statement.{statement}
 use Rattle.names.proofs.least_name.Tie as tie
@@ -10,7 +10,7 @@ fits : tie.Need-overflow-sub-result-2
 fits c = and_le_l _ _
 
 returns : tie.Need-returns
-unfolding leastName
+unfolding least_name
 returns c = refl
 
 pub least-name-spec : {M : Type 1} → statement M

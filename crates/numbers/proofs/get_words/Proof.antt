@@ -1,13 +1,13 @@
 -- `numbers::get_words` meets its contract: turn i stores word i of s at i.
 -- Invariant: out is what it was, with the first i words of s stored at its front. Measure: the words still to read, n - i.
--- The mathematics is `tab-next` and `put_front` of `proofs.NumberLaws`. Assumes nothing.
+-- The mathematics is `tab_next` and `put_front` of `proofs.NumberLaws`. Assumes nothing.
 use Prim.Native.Nat.{◌+◌, ◌*◌, ◌-◌, ◌≤◌}
 use mathlib.Core.Path.{◌≡◌, refl, ◌∙◌}
 use native.Mathlib.Omega.{arith}
 use lib.ListN.{length, length-set}
 use borrow.Author.Rules.{rules}
 use Rattle.numbers.specs.Numbers.{num, put, tab}
-use Rattle.numbers.proofs.NumberLaws.{put_front, length-tab, tab-next}
+use Rattle.numbers.proofs.NumberLaws.{put_front, length-tab, tab_next}
 use Rattle.numbers.proofs.get_words.Statement.{statement}
 use Rattle.numbers.proofs.get_words.Tie as tie
 
@@ -26,7 +26,7 @@ loop-again : tie.Need-loop-preserved invariant-loop decreases-loop
 loop-again c =
     let at_head = c.before.before.loop in
     let place : at_head.i ≡ 0 + at_head.i = omega arith in
-    (search rules, simp length-set at_head.invariant.1, tab-next _ 0 _ _ _ _ _ place c.get32.ensures.0 at_head.invariant.2)
+    (search rules, simp length-set at_head.invariant.1, tab_next _ 0 _ _ _ _ _ place c.get32.ensures.0 at_head.invariant.2)
 
 returns : tie.Need-returns invariant-loop decreases-loop
 returns c =

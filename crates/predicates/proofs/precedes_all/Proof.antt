@@ -8,7 +8,7 @@ use lib.ListN.{length, drop}
 use Rattle.names.specs.Sets.{subset}
 use Rattle.predicates.specs.Lists.{all}
 use Rattle.predicates.specs.Predicates.{precedes}
-use Rattle.predicates.proofs.LoopLaws.{all_here, all-next, all_done}
+use Rattle.predicates.proofs.LoopLaws.{all_here, all_next, all_done}
 use borrow.Author.Rules.{rules}
 use Rattle.predicates.proofs.precedes_all.Statement.{statement}
 use Rattle.predicates.proofs.precedes_all.Tie as tie
@@ -45,7 +45,7 @@ returns-2 c =
 loop-again : tie.Need-loop-preserved invariant-loop decreases-loop
 loop-again c =
     let at_head = c.before.before.before.before.before.loop in
-    at_head.invariant ∙ all-next (λ u. precedes _ u) _ at_head.i c.before.before.before.before.loop-test.true (apart _ _ _ c.before.before.if1.false c.before.subset.ensures c.if2.false)
+    at_head.invariant ∙ all_next (λ u. precedes _ u) _ at_head.i c.before.before.before.before.loop-test.true (apart _ _ _ c.before.before.if1.false c.before.subset.ensures c.if2.false)
 
 returns-3 : tie.Need-returns-3 invariant-loop decreases-loop
 returns-3 c = sym (c.before.loop.invariant ∙ all_done (λ u. precedes _ u) _ c.before.loop.i c.loop-test.false)

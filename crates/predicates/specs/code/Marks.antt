@@ -2,13 +2,13 @@
 -- A predicate's mark: the names that decide alone. Assumes nothing: these are definitions.
 use Rattle.std.specs.Prelude.{ℕ, ◌-◌, ◌^◌, ◌≡◌, false, cond, List, [], ◌∷◌, eqb}
 use Rattle.std.specs.Int.Count.{ones}
-use Rattle.names.specs.Sets.{setUnion}
+use Rattle.names.specs.Sets.{set_union}
 use Rattle.predicates.specs.Predicates.{holds, implies}
 
 -- the names of the terms of one name
 unfoldable pub singles : List ℕ → ℕ
 singles [] = 0
-singles (t ∷ p) = cond (eqb (ones t) 1) (setUnion t (singles p)) (singles p)
+singles (t ∷ p) = cond (eqb (ones t) 1) (set_union t (singles p)) (singles p)
 
 -- the mark: the names that each make the predicate true alone; all that a mask can hold where it is true whatever has failed
 unfoldable pub mark_of : List ℕ → ℕ

@@ -2,8 +2,8 @@
 -- The blamed name as a term, on what is held and known. Assumes nothing: these are definitions.
 use Rattle.std.specs.Prelude.{ℕ}
 use Rattle.state.specs.Model.{Store}
-use Rattle.settling.specs.code.Rows.{withTerm}
+use Rattle.settling.specs.code.Rows.{with_term}
 
 -- what is held and known with the entry of this term placed; 0 stands for nobody
-unfoldable pub blamedBy : ℕ → Store → Store
-blamedBy t k = record { held = k.held; entries = withTerm t k.entries }
+unfoldable pub blamed_by : ℕ → Store → Store
+blamed_by t k = record { held = k.held; entries = with_term t k.entries }

@@ -2,21 +2,21 @@
 -- A datum taken, with the blamed name as a term. Assumes nothing: these are definitions.
 use Rattle.std.specs.Prelude.{ℕ, ◌&&◌, cond, List, eqb}
 use Rattle.numbers.specs.Numbers.{put}
-use Rattle.predicates.specs.Predicates.{isTrue}
+use Rattle.predicates.specs.Predicates.{is_true}
 use Rattle.state.specs.Model.{Datum, Store, State}
-use Rattle.state.specs.Layout.{stateBytes, state_of}
+use Rattle.state.specs.Layout.{state_bytes, state_of}
 use Rattle.steps.specs.Steps.{settled}
 use Rattle.steps.specs.Withdrawn.{withdrawn}
-use Rattle.receipts.specs.code.Blame.{blamedBy}
+use Rattle.receipts.specs.code.Blame.{blamed_by}
 
 -- the four steps with the datum, the entry of this term placed first; where nobody is blamed and the datum is true, all stays. 0 stands for nobody
-unfoldable pub takenBy : ℕ → Datum → Store → Store
-takenBy t n k = cond (isTrue n.terms && eqb t 0) k (settled n (blamedBy t k))
+unfoldable pub taken_by : ℕ → Datum → Store → Store
+taken_by t n k = cond (is_true n.terms && eqb t 0) k (settled n (blamed_by t k))
 
 -- a state with names withdrawn
-unfoldable pub withdrawnState : ℕ → State → State
-withdrawnState r st = record { head = st.head; store = withdrawn r st.store }
+unfoldable pub withdrawn_state : ℕ → State → State
+withdrawn_state r st = record { head = st.head; store = withdrawn r st.store }
 
 -- the lent bytes after a receipt before which the names of r were withdrawn: its bytes stored over that state; the bytes as they were where it is refused
-unfoldable pub afterRisen : ℕ → ℕ → List ℕ → List ℕ → List ℕ
-afterRisen number r made s = cond (eqb number 0) (put 0 made (put 0 (stateBytes (withdrawnState r (state_of s))) s)) s
+unfoldable pub after_risen : ℕ → ℕ → List ℕ → List ℕ → List ℕ
+after_risen number r made s = cond (eqb number 0) (put 0 made (put 0 (state_bytes (withdrawn_state r (state_of s))) s)) s

@@ -5,7 +5,7 @@
 use Rattle.std.specs.Prelude.{ℕ, ◌+◌, ◌*◌, ◌-◌, ◌≤◌, ◌<◌, ◌≡◌, ◌⊎◌, Bool, not, cond, List, [], ◌∷◌, T, eqb, leb, length, get_or, take, drop}
 use Rattle.std.specs.Int.Count.{ones}
 use Rattle.numbers.specs.Numbers.{tab}
-use Rattle.names.specs.Sets.{subset, setUnion}
+use Rattle.names.specs.Sets.{subset, set_union}
 use Rattle.names.specs.code.Parts.{shared}
 use Rattle.predicates.specs.Lists.{all, keep}
 use Rattle.predicates.specs.Predicates.{holds}
@@ -16,7 +16,7 @@ use Rattle.predicates.specs.code.Marks.{singles}
 -- u is s with names that are free, within the limit, and makes the predicates true
 pub record Fits (limit s free : ℕ) (ps : List (List ℕ)) (u : ℕ) : Type 0 where
   pub above : T (subset s u)
-  pub within : T (subset u (setUnion s free))
+  pub within : T (subset u (set_union s free))
   pub few : ones u ≤ limit
   pub holding : T (all (holds u) ps)
 
@@ -43,7 +43,7 @@ skipped s (p ∷ ps) = cond (holds s p) (skipped s ps) (p ∷ ps)
 -- d with the names that alone, beside s, make the predicate true within the limit
 unfoldable pub gather : ℕ → ℕ → ℕ → List ℕ → ℕ
 gather d limit s [] = d
-gather d limit s (t ∷ p) = cond (leb (ones (setUnion s t)) limit) (setUnion (setUnion s t) (gather d limit s p)) (gather d limit s p)
+gather d limit s (t ∷ p) = cond (leb (ones (set_union s t)) limit) (set_union (set_union s t) (gather d limit s p)) (gather d limit s p)
 
 -- s with them
 abbrev pub alone : ℕ → ℕ → List ℕ → ℕ
@@ -57,26 +57,26 @@ narrowed limit s m (p ∷ ps) = narrowed limit s (cond (holds s p) m (shared m (
 -- ---- terms of one name, which most terms are: `singles` has them as one mask
 
 -- the term is one name
-abbrev pub isSingle : ℕ → Bool
-isSingle t = eqb (ones t) 1
+abbrev pub is_single : ℕ → Bool
+is_single t = eqb (ones t) 1
 
 -- the other terms
 unfoldable pub several : List ℕ → List ℕ
-several p = keep (λ t. not (isSingle t)) p
+several p = keep (λ t. not (is_single t)) p
 
 -- ---- predicates in flat arrays
 
 -- how many rows the arrays have, how many terms a row has at most, and how many masks all rows have
-abbrev pub rowsMost : ℕ
-rowsMost = 48
+abbrev pub rows_most : ℕ
+rows_most = 48
 
-abbrev pub rowWidth : ℕ
-rowWidth = 16
+abbrev pub row_width : ℕ
+row_width = 16
 
-abbrev pub masksMost : ℕ
-masksMost = rowsMost * rowWidth
+abbrev pub masks_most : ℕ
+masks_most = rows_most * row_width
 
--- row k has its count of terms at k in `counts`, and the terms from k * rowWidth on in `masks`; those of several names are the last of them, with
+-- row k has its count of terms at k in `counts`, and the terms from k * row_width on in `masks`; those of several names are the last of them, with
 -- their count at k in `several`, and the others stand once more as one mask at k in `singles`
 pub record Rows : Type 0 where
   pub counts : List ℕ
@@ -88,30 +88,30 @@ abbrev pub rows_of : List ℕ → List ℕ → List ℕ → List ℕ → Rows
 rows_of counts masks several singles = record { counts = counts; masks = masks; several = several; singles = singles }
 
 -- the predicate of row k
-abbrev pub rowTerms : Rows → ℕ → List ℕ
-rowTerms t k = take (get_or t.counts k 0) (drop (k * rowWidth) t.masks)
+abbrev pub row_terms : Rows → ℕ → List ℕ
+row_terms t k = take (get_or t.counts k 0) (drop (k * row_width) t.masks)
 
 -- the last of its terms, as many as have several names
-abbrev pub restTerms : Rows → ℕ → List ℕ
-restTerms t k = drop (get_or t.counts k 0 - get_or t.several k 0) (rowTerms t k)
+abbrev pub rest_terms : Rows → ℕ → List ℕ
+rest_terms t k = drop (get_or t.counts k 0 - get_or t.several k 0) (row_terms t k)
 
 -- the predicate of the row in place j of a list of rows, which is in the order of the search
-unfoldable pub predAt : List ℕ → Rows → ℕ → List ℕ
-predAt listed t j = rowTerms t (get_or listed j 0)
+unfoldable pub pred_at : List ℕ → Rows → ℕ → List ℕ
+pred_at listed t j = row_terms t (get_or listed j 0)
 
 unfoldable pub preds : ℕ → List ℕ → Rows → List (List ℕ)
-preds n listed t = tab n (predAt listed t)
+preds n listed t = tab n (pred_at listed t)
 
 -- row k lies in the table with its parts: the mask of the terms of one name, and the other terms as the last
 pub record Parted (t : Rows) (k : ℕ) : Type 0 where
   pub counted : k < length t.counts
   pub told : k < length t.several
   pub masked : k < length t.singles
-  pub few : get_or t.counts k 0 ≤ rowWidth
+  pub few : get_or t.counts k 0 ≤ row_width
   pub fewer : get_or t.several k 0 ≤ get_or t.counts k 0
-  pub long : k * rowWidth + get_or t.counts k 0 ≤ length t.masks
-  pub one : get_or t.singles k 0 ≡ singles (rowTerms t k)
-  pub more : restTerms t k ≡ several (rowTerms t k)
+  pub long : k * row_width + get_or t.counts k 0 ≤ length t.masks
+  pub one : get_or t.singles k 0 ≡ singles (row_terms t k)
+  pub more : rest_terms t k ≡ several (row_terms t k)
 
 -- the first n rows that are listed lie in the table
 pub record RowsFit (n : ℕ) (listed : List ℕ) (t : Rows) : Type 0 where

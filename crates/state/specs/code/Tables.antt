@@ -5,15 +5,15 @@ use Rattle.std.specs.Prelude.{ℕ, ◌+◌, ◌*◌, ◌≤◌, ◌<◌, ◌≡�
 use Rattle.numbers.specs.Numbers.{num, bytes, put, tab}
 use Rattle.predicates.specs.Lists.{keep}
 use Rattle.state.specs.Model.{Datum, datum, Store}
-use Rattle.state.specs.Layout.{dataMost, entriesMost, datumTerms, entryTerms, datumPlace, entryPlace, rightIn, leftMillionthsIn, rightMillionthsIn, masks_at, joined}
-use Rattle.state.specs.Layout.{heldCount, entryCount, datumAt}
+use Rattle.state.specs.Layout.{data_most, entries_most, datum_terms, entry_terms, datum_place, entry_place, right_in, left_millionths_in, right_millionths_in, masks_at, joined}
+use Rattle.state.specs.Layout.{held_count, entry_count, datum_at}
 use Rattle.ends.specs.declared.Ends.{Ends}
 use Rattle.ends.specs.Ends.{count_of}
 use Rattle.ends.specs.code.Columns.{end_in, AllSplit}
 
 -- the rows of data and entries
-abbrev pub rowsMost : ℕ
-rowsMost = dataMost + entriesMost
+abbrev pub rows_most : ℕ
+rows_most = data_most + entries_most
 
 -- predicates in two arrays: row i has its count of terms at i and its terms from i * width on
 pub record Table : Type 0 where
@@ -37,12 +37,12 @@ abbrev pub table_of : Columns → Table
 table_of c = table c.counts c.masks
 
 -- the masks of the first n rows of entries in a state's bytes, used or not
-unfoldable pub entryMasks : ℕ → List ℕ → List ℕ
-entryMasks n s = joined (λ p. p) (tab n (λ i. masks_at entryTerms (entryPlace i) s))
+unfoldable pub entry_masks : ℕ → List ℕ → List ℕ
+entry_masks n s = joined (λ p. p) (tab n (λ i. masks_at entry_terms (entry_place i) s))
 
 -- entries as a receipt works on them: the rows below `first` have their terms in the state's bytes s, those from there on in an array
-abbrev pub tableFrom : ℕ → List ℕ → List ℕ → List ℕ → Table
-tableFrom first s counts masks = table counts (entryMasks first s ++ masks)
+abbrev pub table_from : ℕ → List ℕ → List ℕ → List ℕ → Table
+table_from first s counts masks = table counts (entry_masks first s ++ masks)
 
 -- ---- what fits
 
@@ -54,11 +54,11 @@ pub record TableFits (width n : ℕ) (t : Table) : Type 0 where
 
 -- the columns have n rows
 pub record ColumnsFit (n : ℕ) (c : Columns) : Type 0 where
-  pub table : TableFits datumTerms n (table_of c)
+  pub table : TableFits datum_terms n (table_of c)
   pub lefts-long : n * 2 ≤ length c.lefts
   pub rights-long : n * 2 ≤ length c.rights
-  pub lefts-split : AllSplit c.lefts
-  pub rights-split : AllSplit c.rights
+  pub lefts_split : AllSplit c.lefts
+  pub rights_split : AllSplit c.rights
 
 -- ---- what the arrays hold
 
@@ -67,29 +67,29 @@ unfoldable pub row_of : ℕ → Table → ℕ → List ℕ
 row_of width t i = take (get_or t.counts i 0) (drop (i * width) t.masks)
 
 -- the predicate has terms
-unfoldable pub hasTerms : List ℕ → Bool
-hasTerms [] = false
-hasTerms (t ∷ p) = true
+unfoldable pub has_terms : List ℕ → Bool
+has_terms [] = false
+has_terms (t ∷ p) = true
 
 -- the entries in n rows
-unfoldable pub entriesIn : ℕ → Table → List (List ℕ)
-entriesIn n t = keep hasTerms (tab n (row_of entryTerms t))
+unfoldable pub entries_in : ℕ → Table → List (List ℕ)
+entries_in n t = keep has_terms (tab n (row_of entry_terms t))
 
 -- a datum whose ends travel as one struct
-abbrev pub datumOf : Ends → List ℕ → Datum
-datumOf e terms = datum (count_of e.left) (count_of e.right) terms
+abbrev pub datum_of : Ends → List ℕ → Datum
+datum_of e terms = datum (count_of e.left) (count_of e.right) terms
 
 -- the datum in row i, given up or not
-unfoldable pub datumIn : Columns → ℕ → Datum
-datumIn c i = datum (end_in c.lefts i) (end_in c.rights i) (row_of datumTerms (table_of c) i)
+unfoldable pub datum_in : Columns → ℕ → Datum
+datum_in c i = datum (end_in c.lefts i) (end_in c.rights i) (row_of datum_terms (table_of c) i)
 
 -- the data in n rows
-unfoldable pub dataIn : ℕ → Columns → List Datum
-dataIn n c = keep (λ d. hasTerms d.terms) (tab n (datumIn c))
+unfoldable pub data_in : ℕ → Columns → List Datum
+data_in n c = keep (λ d. has_terms d.terms) (tab n (datum_in c))
 
 -- what the arrays hold in h rows of data and n rows of entries
-unfoldable pub storeIn : ℕ → Columns → ℕ → Table → Store
-storeIn h c n t = record { held = dataIn h c; entries = entriesIn n t }
+unfoldable pub store_in : ℕ → Columns → ℕ → Table → Store
+store_in h c n t = record { held = data_in h c; entries = entries_in n t }
 
 -- ---- ends in a state's bytes
 
@@ -97,21 +97,21 @@ storeIn h c n t = record { held = dataIn h c; entries = entriesIn n t }
 unfoldable pub ends_at : List ℕ → ℕ → Ends
 ends_at s i =
     record {
-      left = record { whole = num (datumPlace i) 8 s; millionths = num (datumPlace i + leftMillionthsIn) 4 s };
-      right = record { whole = num (datumPlace i + rightIn) 8 s; millionths = num (datumPlace i + rightMillionthsIn) 4 s };
+      left = record { whole = num (datum_place i) 8 s; millionths = num (datum_place i + left_millionths_in) 4 s };
+      right = record { whole = num (datum_place i + right_in) 8 s; millionths = num (datum_place i + right_millionths_in) 4 s };
     }
 
 -- the bytes with other ends in place i
-unfoldable pub withEnds : ℕ → Ends → List ℕ → List ℕ
-withEnds i e s =
-    put (datumPlace i + rightMillionthsIn) (bytes 4 e.right.millionths)
-    (put (datumPlace i + leftMillionthsIn) (bytes 4 e.left.millionths)
-    (put (datumPlace i + rightIn) (bytes 8 e.right.whole) (put (datumPlace i) (bytes 8 e.left.whole) s)))
+unfoldable pub with_ends : ℕ → Ends → List ℕ → List ℕ
+with_ends i e s =
+    put (datum_place i + right_millionths_in) (bytes 4 e.right.millionths)
+    (put (datum_place i + left_millionths_in) (bytes 4 e.left.millionths)
+    (put (datum_place i + right_in) (bytes 8 e.right.whole) (put (datum_place i) (bytes 8 e.left.whole) s)))
 
 -- ---- rows that came from a state's bytes: each has been given up or is as the bytes have it
 
 abbrev pub DataStand : List ℕ → Columns → Type 0
-DataStand s c = (i : ℕ) → i < heldCount s → (get_or c.counts i 0 ≡ 0 → ⊥) → datumIn c i ≡ datumAt s i
+DataStand s c = (i : ℕ) → i < held_count s → (get_or c.counts i 0 ≡ 0 → ⊥) → datum_in c i ≡ datum_at s i
 
 abbrev pub EntriesStand : List ℕ → List ℕ → Type 0
-EntriesStand s counts = (i : ℕ) → i < entryCount s → (get_or counts i 0 ≡ 0 → ⊥) → get_or counts i 0 ≡ num (entryPlace i) 4 s
+EntriesStand s counts = (i : ℕ) → i < entry_count s → (get_or counts i 0 ≡ 0 → ⊥) → get_or counts i 0 ≡ num (entry_place i) 4 s

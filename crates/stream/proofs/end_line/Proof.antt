@@ -1,26 +1,26 @@
 -- `stream::end_line` meets its contract: the answer stands at the front of an array and goes behind the output that waits. It fits, since no
--- answer is longer than 64 bytes (`line-short` of `proofs.ResultLaws`). Assumes nothing.
+-- answer is longer than 64 bytes (`line_short` of `proofs.ResultLaws`). Assumes nothing.
 use Prim.Native.Nat.{◌≤◌}
 use mathlib.Core.Path.{◌≡◌, refl, sym}
 use native.Mathlib.Omega.{arith}
 use lib.ListN.{length, take, length-take}
 use lib.Seq.{length-take-le}
 use Rattle.numbers.proofs.NumberLaws.{take_put}
-use Rattle.lines.specs.code.Sizes.{answerMost}
-use Rattle.lines.specs.Lines.{lineResult}
-use Rattle.lines.proofs.ResultLaws.{line-short}
+use Rattle.lines.specs.code.Sizes.{answer_most}
+use Rattle.lines.specs.Lines.{line_result}
+use Rattle.lines.proofs.ResultLaws.{line_short}
 use borrow.Author.Rules.{rules}
 use Rattle.stream.proofs.end_line.Statement.{statement}
 use Rattle.stream.proofs.end_line.Tie as tie
 
-short : (c : tie.After-answer2) → c.answer2.result.size ≤ answerMost
-short c = rw c.answer2.ensures.1 (line-short _ _ _)
+short : (c : tie.After-answer2) → c.answer2.result.size ≤ answer_most
+short c = rw c.answer2.ensures.1 (line_short _ _ _)
 
-whole : (c : tie.After-answer2) → length c.answer2.new.1.1.1.0 ≡ answerMost
+whole : (c : tie.After-answer2) → length c.answer2.new.1.1.1.0 ≡ answer_most
 whole c = c.answer2.auto.1.1.1.0
 
 text : (c : tie.After-answer2) → let a = c.before.before.before.before.before.before.args in
-    take c.answer2.result.size c.answer2.new.1.1.1.0 ≡ (lineResult a.line.now a.begun a.state.now).text
+    take c.answer2.result.size c.answer2.new.1.1.1.0 ≡ (line_result a.line.now a.begun a.state.now).text
 text c = rw c.answer2.ensures.3 (take_put _ _ _ (sym c.answer2.ensures.1) (short c))
 
 array-share-prefix-answer : tie.Need-array-share-prefix-answer

@@ -4,7 +4,7 @@ use native.Mathlib.Omega.{arith}
 use lib.Seq.{length-take-le}
 use Rattle.numbers.specs.Numbers.{put}
 use Rattle.stream.specs.Kept.{result_of}
-use Rattle.stream.specs.code.Sessions.{keptBy}
+use Rattle.stream.specs.code.Sessions.{kept_by}
 use Rattle.stream.proofs.StreamLaws.{last_none, last_some}
 use borrow.Author.Rules.{rules}
 use Rattle.stream.proofs.last_line.Statement.{statement}
@@ -15,7 +15,7 @@ unfolding put
 returns c =
     let from = c.before.before.args.from in
     let stands = c.before.before.requires.0 in
-    let none = last_none (keptBy from) (length-take-le from.size from.line (omega (arith, stands.come, stands.long))) (omega (arith, c.if1.true)) in
+    let none = last_none (kept_by from) (length-take-le from.size from.line (omega (arith, stands.come, stands.long))) (omega (arith, c.if1.true)) in
     ((rw none refl, omega arith), rw none refl)
 
 array-share-prefix-line : tie.Need-array-share-prefix-line
@@ -37,7 +37,7 @@ returns-2 c =
     let from = start.args.from in
     let stands = start.requires.0 in
     let call = at-end.end_line.ensures in
-    let some = last_some (keptBy from) (length-take-le from.size from.line (omega (arith, stands.come, stands.long))) at-else.if1.false in
+    let some = last_some (kept_by from) (length-take-le from.size from.line (omega (arith, stands.come, stands.long))) at-else.if1.false in
     ((rw some (omega arith), omega arith), rw some call.5)
 
 pub last-line-spec : {M : Type 1} → statement M

@@ -5,7 +5,7 @@ use native.Mathlib.Omega.{arith}
 use borrow.Author.Tests.{eq-eqb, ne_eqb}
 use lib.Seq.{length-take-le}
 use Rattle.numbers.specs.Numbers.{put}
-use Rattle.stream.specs.Kept.{result_of, keptNext, textNext}
+use Rattle.stream.specs.Kept.{result_of, kept_next, text_next}
 use Rattle.stream.proofs.StreamLaws.{kept_byte, kept_full}
 use borrow.Author.Rules.{rules}
 use Rattle.stream.proofs.take_byte.Statement.{statement}
@@ -15,7 +15,7 @@ slice-aggregate-end-line : tie.Need-slice-aggregate-end-line
 slice-aggregate-end-line c = sym (length-take-le _ _ (search rules))
 
 returns : tie.Need-returns
-unfolding keptNext textNext result_of
+unfolding kept_next text_next result_of
 returns c =
     let feed = eq-eqb _ _ c.before.before.before.before.before.before.before.before.if1.true in
     let call = c.before.before.before.before.end_line.ensures in (
@@ -24,7 +24,7 @@ returns c =
     )
 
 returns-2 : tie.Need-returns-2
-unfolding keptNext textNext put
+unfolding kept_next text_next put
 returns-2 c =
     let a = c.before.before.before.before.before.args in
     let other = ne_eqb _ _ c.before.if1.false in
@@ -32,7 +32,7 @@ returns-2 c =
     ((omega arith, omega arith), (rw (other, line), rw other (omega arith), rw other))
 
 returns-3 : tie.Need-returns-3
-unfolding keptNext textNext put
+unfolding kept_next text_next put
 returns-3 c =
     let a = c.before.before.before.before.before.args in
     let other = ne_eqb _ _ c.before.if1.false in

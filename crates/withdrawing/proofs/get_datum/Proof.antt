@@ -1,5 +1,5 @@
--- `withdrawing::get_datum` meets its contract: the datum's row is read, which is true where its first mask is empty (`seen-gone`); else the datum is put
--- last (`seen-stays`, `rows-added`).
+-- `withdrawing::get_datum` meets its contract: the datum's row is read, which is true where its first mask is empty (`seen_gone`); else the datum is put
+-- last (`seen_stays`, `rows_added`).
 use Prim.Native.Nat.{◌≤◌}
 use mathlib.Core.Path.{◌≡◌, sym, ap, ◌∙◌}
 use mathlib.Core.List.{List, ◌++◌, append-nil}
@@ -8,10 +8,10 @@ use lib.ListN.{length, take}
 use Rattle.numbers.specs.Numbers.{tab}
 use Rattle.ends.specs.Ends.{BothSplit}
 use Rattle.state.specs.Model.{Datum}
-use Rattle.state.specs.code.Tables.{columns, datumIn}
-use Rattle.state.proofs.FormLaws.{datum-row, ends-split}
-use Rattle.settling.proofs.ColumnLaws.{columns-added, rows-added}
-use Rattle.withdrawing.proofs.WithdrawnLaws.{seen-gone, length-terms, seen-stays}
+use Rattle.state.specs.code.Tables.{columns, datum_in}
+use Rattle.state.proofs.FormLaws.{datum-row, ends_split}
+use Rattle.settling.proofs.ColumnLaws.{columns_added, rows_added}
+use Rattle.withdrawing.proofs.WithdrawnLaws.{seen_gone, length-terms, seen_stays}
 use borrow.Author.Rules.{rules}
 use Rattle.withdrawing.proofs.get_datum.Statement.{statement}
 use Rattle.withdrawing.proofs.get_datum.Tie as tie
@@ -25,8 +25,8 @@ returns : tie.Need-returns
 returns c =
     let at-get = c.before.before in
     let a = at-get.before.before.before.before.before.before.before in
-    let was = tab a.args.r (datumIn (columns a.args.lefts.now a.args.rights.now a.args.counts.now a.args.masks.now)) in
-    let gone = seen-gone a.args.risen _ a.args.s.now a.args.i a.requires.0.2 _ at-get.get_seen.ensures.1 c.if1.true in
+    let was = tab a.args.r (datum_in (columns a.args.lefts.now a.args.rights.now a.args.counts.now a.args.masks.now)) in
+    let gone = seen_gone a.args.risen _ a.args.s.now a.args.i a.requires.0.2 _ at-get.get_seen.ensures.1 c.if1.true in
     ((omega arith, a.requires.1), sym (ap (λ (l : List Datum). was ++ l) gone ∙ append-nil was))
 
 -- as many terms as there are
@@ -60,11 +60,11 @@ returns-2 c =
     let seen = at-get.get_seen.ensures in
     let terms = take at-get.get_seen.result at-get.get_seen.new.1.1.1.1.0 in
     let few : length terms ≤ 8 = omega (arith, long at-get, seen.0.1) in
-    let was = tab a.args.r (datumIn (columns a.args.lefts.now a.args.rights.now a.args.counts.now a.args.masks.now)) in
-    let stays = seen-stays a.args.risen _ a.args.s.now a.args.i a.requires.0.2 _ seen.1 _ seen.0.0 _ at-else.if1.false at-ends.get.ensures in
-    let split : BothSplit at-ends.get.result = rw at-ends.get.ensures (ends-split _ a.args.s.now a.args.i a.requires.0.2) in (
-      (omega arith, rw (made.0, made.1.0, made.1.1.0, made.1.1.1) (columns-added a.args.r _ _ _ _ terms _ a.requires.1 few split)),
-      rw (made.0, made.1.0, made.1.1.0, made.1.1.1) (rows-added a.args.r _ _ _ _ terms _ a.requires.1 few ∙ ap (λ (l : List Datum). was ++ l) (sym stays)),
+    let was = tab a.args.r (datum_in (columns a.args.lefts.now a.args.rights.now a.args.counts.now a.args.masks.now)) in
+    let stays = seen_stays a.args.risen _ a.args.s.now a.args.i a.requires.0.2 _ seen.1 _ seen.0.0 _ at-else.if1.false at-ends.get.ensures in
+    let split : BothSplit at-ends.get.result = rw at-ends.get.ensures (ends_split _ a.args.s.now a.args.i a.requires.0.2) in (
+      (omega arith, rw (made.0, made.1.0, made.1.1.0, made.1.1.1) (columns_added a.args.r _ _ _ _ terms _ a.requires.1 few split)),
+      rw (made.0, made.1.0, made.1.1.0, made.1.1.1) (rows_added a.args.r _ _ _ _ terms _ a.requires.1 few ∙ ap (λ (l : List Datum). was ++ l) (sym stays)),
     )
 
 pub get-datum-spec : {M : Type 1} → statement M

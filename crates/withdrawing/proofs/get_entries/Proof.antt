@@ -1,4 +1,4 @@
--- `withdrawing::get_entries` meets its contract: entry by entry, oldest first (`entries_next`), and each that is left has terms (`withdrawn-known`).
+-- `withdrawing::get_entries` meets its contract: entry by entry, oldest first (`entries_next`), and each that is left has terms (`withdrawn_known`).
 -- Invariant: the first r rows are what is left of the first i entries. Measure: the entries still to read.
 use Prim.Native.Nat.{◌+◌, ◌-◌, ◌≤◌}
 use mathlib.Core.Path.{◌≡◌, refl, sym, ◌∙◌}
@@ -7,17 +7,17 @@ use lib.ListN.{length}
 use Rattle.numbers.specs.Numbers.{tab}
 use Rattle.state.specs.Layout.{entry_at}
 use Rattle.state.specs.code.Tables.{table, TableFits, row_of}
-use Rattle.state.proofs.RowLaws.{table-less, table_more}
-use Rattle.state.proofs.StateLaws.{entry-count-le, form-entry}
-use Rattle.entries.specs.Entries.{withdrawnEntries}
-use Rattle.withdrawing.proofs.WithdrawnLaws.{entries_none, entries_next, withdrawn-known}
+use Rattle.state.proofs.RowLaws.{table_less, table_more}
+use Rattle.state.proofs.StateLaws.{entry_count_le, form_entry}
+use Rattle.entries.specs.Entries.{withdrawn_entries}
+use Rattle.withdrawing.proofs.WithdrawnLaws.{entries_none, entries_next, withdrawn_known}
 use borrow.Author.Rules.{rules}
 use Rattle.withdrawing.proofs.get_entries.Statement.{statement}
 use Rattle.withdrawing.proofs.get_entries.Tie as tie
 
 abbrev invariant-loop : tie.invariant-loop
 invariant-loop s n risen counts₀ masks₀ r₀ i₀ counts masks r i =
-    (i ≤ n) × (r ≤ i) × TableFits 16 n (table counts masks) × (tab r (row_of 16 (table counts masks)) ≡ withdrawnEntries risen (tab i (entry_at s)))
+    (i ≤ n) × (r ≤ i) × TableFits 16 n (table counts masks) × (tab r (row_of 16 (table counts masks)) ≡ withdrawn_entries risen (tab i (entry_at s)))
     × (length counts ≡ length counts₀) × (length masks ≡ length masks₀)
 
 abbrev decreases-loop : tie.decreases-loop
@@ -35,10 +35,10 @@ get-row-requires c κs =
     let head = at_test.before.loop in
     let a = at_test.before.before.before.before.before in
     let s = a.args.s.now in
-    let most = entry-count-le s a.requires.0.1 in
+    let most = entry_count_le s a.requires.0.1 in
     let near = at_test.loop-test.true in (
-      (a.requires.0.0, omega (arith, a.requires.0.2), form-entry s a.requires.0.1 head.i (omega (arith, a.requires.0.2)), omega (arith, a.requires.0.2, head.invariant.1)),
-      table-less 16 _ _ _ _ head.invariant.2 (omega (arith, head.invariant.1)),
+      (a.requires.0.0, omega (arith, a.requires.0.2), form_entry s a.requires.0.1 head.i (omega (arith, a.requires.0.2)), omega (arith, a.requires.0.2, head.invariant.1)),
+      table_less 16 _ _ _ _ head.invariant.2 (omega (arith, head.invariant.1)),
     )
 
 loop-again : tie.Need-loop-preserved invariant-loop decreases-loop
@@ -64,7 +64,7 @@ returns c =
     let a = c.before.before.before.before.before in
     let done : head.i ≡ a.args.n = omega (arith, c.loop-test.false, head.invariant.0) in
     let all = rw done at head.invariant.3 in
-    ((omega (arith, head.invariant.1), head.invariant.2), withdrawn-known a.args.risen a.args.s.now a.requires.0.1 head.r a.args.n _ a.requires.0.2 all)
+    ((omega (arith, head.invariant.1), head.invariant.2), withdrawn_known a.args.risen a.args.s.now a.requires.0.1 head.r a.args.n _ a.requires.0.2 all)
 
 pub get-entries-spec : {M : Type 1} → statement M
 get-entries-spec =

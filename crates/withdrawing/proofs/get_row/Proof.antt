@@ -1,5 +1,5 @@
 -- `withdrawing::get_row` meets its contract: the entry's row is read, which is true where its first mask is empty (`entry_gone`); else it is put last
--- (`entry-stays`, `rows-appended`).
+-- (`entry_stays`, `rows_appended`).
 use Prim.Native.Nat.{ℕ, ◌+◌, ◌*◌, ◌≤◌, ◌<◌}
 use mathlib.Core.Path.{◌≡◌, sym, ap, ◌∙◌}
 use mathlib.Core.List.{List, ◌++◌, append-nil}
@@ -7,17 +7,17 @@ use native.Mathlib.Nat.{suc-mul}
 use native.Mathlib.Omega.{arith}
 use lib.ListN.{length, take}
 use Rattle.numbers.specs.Numbers.{tab}
-use Rattle.state.specs.Form.{entryFits}
+use Rattle.state.specs.Form.{entry_fits}
 use Rattle.state.specs.code.Tables.{table, row_of}
-use Rattle.state.proofs.RowLaws.{table-less}
-use Rattle.entries.proofs.TableLaws.{table-appended, rows-appended}
-use Rattle.withdrawing.proofs.WithdrawnLaws.{entry_gone, length-entry, entry-stays}
+use Rattle.state.proofs.RowLaws.{table_less}
+use Rattle.entries.proofs.TableLaws.{table_appended, rows_appended}
+use Rattle.withdrawing.proofs.WithdrawnLaws.{entry_gone, length_entry, entry_stays}
 use borrow.Author.Rules.{rules}
 use Rattle.withdrawing.proofs.get_row.Statement.{statement}
 use Rattle.withdrawing.proofs.get_row.Tie as tie
 
 get-seen-requires : tie.Need-get-seen-requires
-unfolding entryFits
+unfolding entry_fits
 get-seen-requires c κs =
     let a = c.before.before.before.before in
     ((omega (arith, a.requires.0.0, a.requires.0.1), search rules, omega arith), a.requires.0.2)
@@ -34,7 +34,7 @@ returns c =
 long : (c : tie.After-get-seen) → c.get_seen.result ≡ length (take c.get_seen.result c.get_seen.new.1.1.1.1.0)
 long c =
     let a = c.before.before.before.before.before in
-    length-entry a.args.risen _ a.args.s.now a.args.i a.requires.0.2 _ c.get_seen.ensures.1 _ c.get_seen.ensures.0.0
+    length_entry a.args.risen _ a.args.s.now a.args.i a.requires.0.2 _ c.get_seen.ensures.1 _ c.get_seen.ensures.0.0
 
 -- there is room for them
 room : (c : tie.After-get-seen) → let a = c.before.before.before.before.before.args in
@@ -64,10 +64,10 @@ returns-2 c =
     let few : length terms ≤ 16 = omega (arith, long at-get, seen.0.1) in
     let there = room at-get in
     let was = tab a.args.r (row_of 16 (table a.args.counts.now a.args.masks.now)) in
-    let fewer = table-less 16 (a.args.r + 1) a.args.r _ _ a.requires.1 (omega arith) in
-    let stays = entry-stays a.args.risen _ a.args.s.now a.args.i a.requires.0.2 _ seen.1 _ seen.0.0 at-else.if1.false in (
-      (omega arith, rw (made.0, made.1) (table-appended 16 a.args.r _ _ terms a.requires.1 few)),
-      rw (made.0, made.1) (rows-appended 16 a.args.r _ _ terms fewer there.0 there.1 ∙ ap (λ (l : List (List ℕ)). was ++ l) (sym stays)),
+    let fewer = table_less 16 (a.args.r + 1) a.args.r _ _ a.requires.1 (omega arith) in
+    let stays = entry_stays a.args.risen _ a.args.s.now a.args.i a.requires.0.2 _ seen.1 _ seen.0.0 at-else.if1.false in (
+      (omega arith, rw (made.0, made.1) (table_appended 16 a.args.r _ _ terms a.requires.1 few)),
+      rw (made.0, made.1) (rows_appended 16 a.args.r _ _ terms fewer there.0 there.1 ∙ ap (λ (l : List (List ℕ)). was ++ l) (sym stays)),
     )
 
 pub get-row-spec : {M : Type 1} → statement M

@@ -3,8 +3,8 @@
 use mathlib.Core.Path.{sym, ◌∙◌}
 use native.Mathlib.Omega.{arith}
 use Rattle.state.specs.Layout.{state_of}
-use Rattle.state.proofs.StateLaws.{form-ok, length-entries, length-held}
-use Rattle.asking.proofs.QuickLaws.{hopeless-contradicted, affordable-open}
+use Rattle.state.proofs.StateLaws.{form_ok, length-entries, length-held}
+use Rattle.asking.proofs.QuickLaws.{hopeless-contradicted, affordable_open}
 use borrow.Author.Rules.{rules}
 use Rattle.asking.proofs.ask.ask.Statement.{statement}
 use Rattle.asking.proofs.ask.ask.Tie as tie
@@ -23,7 +23,7 @@ hopeless-requires c κs =
 returns-3 : tie.Need-returns-3
 returns-3 c =
     let a = c.before.before.before.before.before.before.before in
-    hopeless-contradicted _ _ (form-ok _ a.requires.1) (sym c.before.hopeless.ensures ∙ c.if3.true)
+    hopeless-contradicted _ _ (form_ok _ a.requires.1) (sym c.before.hopeless.ensures ∙ c.if3.true)
 
 affordable-requires : tie.Need-affordable-requires
 affordable-requires c κs =
@@ -37,7 +37,7 @@ returns-4 c =
     let at_n = c.before.before.before.before in
     let a = at_n.before.before.before.before.before in
     let bytes = a.args.s.now in
-    affordable-open _ (state_of bytes) (form-ok bytes a.requires.1) _
+    affordable_open _ (state_of bytes) (form_ok bytes a.requires.1) _
     (omega (arith, at_n.get322.ensures.0, at_n.before.get32.ensures.0, length-entries bytes, length-held bytes))
     (sym c.before.affordable.ensures ∙ c.if4.true)
 

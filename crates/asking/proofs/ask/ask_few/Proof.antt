@@ -1,6 +1,6 @@
 -- `asking::ask::ask_few` meets its contract: the arrays have room for the rows.
 use native.Mathlib.Omega.{arith}
-use Rattle.state.proofs.StateLaws.{held-count-le, entry-count-le}
+use Rattle.state.proofs.StateLaws.{held_count_le, entry_count_le}
 use borrow.Author.Rules.{rules}
 use Rattle.asking.proofs.ask.ask_few.Statement.{statement}
 use Rattle.asking.proofs.ask.ask_few.Tie as tie
@@ -10,8 +10,8 @@ ask-in-requires c κs =
     let a = c.before.before.before.before.before.before in
     let p = a.requires.0 in
     let few = a.requires.1 in
-    let n-le = entry-count-le a.args.s.now p.1 in
-    let h_le = held-count-le a.args.s.now p.1 in (
+    let n-le = entry_count_le a.args.s.now p.1 in
+    let h_le = held_count_le a.args.s.now p.1 in (
       (p.0, p.1, p.2, p.3),
       (
         record { counts-long = omega arith; masks-long = omega arith; several-long = omega arith; singles-long = omega arith },

@@ -4,10 +4,10 @@ use native.Mathlib.Omega.{arith}
 use mathlib.Core.Path.{ap, ◌∙◌}
 use Rattle.names.specs.code.Parts.{others}
 use Rattle.names.proofs.SetLaws.{ones-empty}
-use Rattle.state.proofs.StateLaws.{held-count-le, entry-count-le}
+use Rattle.state.proofs.StateLaws.{held_count_le, entry_count_le}
 use Rattle.asking.proofs.ArrayLaws.{order-rows}
 use Rattle.state.proofs.StateLaws.{own-fits}
-use Rattle.asking.proofs.AskSteps.{asked-open, asked-tied}
+use Rattle.asking.proofs.AskSteps.{asked_open, asked_tied}
 use borrow.Author.Rules.{rules}
 use Rattle.asking.proofs.ask.ask_in.Statement.{statement}
 use Rattle.asking.proofs.ask.ask_in.Tie as tie
@@ -30,22 +30,22 @@ returns c =
     let a = c.before.before.before.before.before.before.before.before.before.before.before.before.before.before.before.before.before.before.before.before.before.before.before.before.before.before.before.before.before.before.before in
     let load = c.before.before.before.before.before.before.before.before.before.before.before.before.before.before.before.before.before.before.before.load.ensures in
     let free-is = c.before.before.before.before.before.before.before.others.ensures ∙ ap others c.before.before.before.before.before.before.before.before.get32.ensures.0 in
-    asked-open a.args.s.now a.requires.0.1 _ _ _ _ load.0 load.1 a.args.limit _ _ free-is c.before.predicate-step.ensures
+    asked_open a.args.s.now a.requires.0.1 _ _ _ _ load.0 load.1 a.args.limit _ _ free-is c.before.predicate-step.ensures
     c.if1.true
 
 between-requires : tie.Need-between-requires
 between-requires c κs =
     let a = c.before.before.before.before.before.before.before.before.before.before.before.before.before.before.before.before.before.before.before.before.before.before.before.before.before.before.before.before.before.before.before.before.before.before.before.before in
     let load = c.before.before.before.before.before.before.before.before.before.before.before.before.before.before.before.before.before.before.before.before.before.before.before.before.load.ensures in
-    let n-le = entry-count-le a.args.s.now a.requires.0.1 in
-    let h_le = held-count-le a.args.s.now a.requires.0.1 in
+    let n-le = entry_count_le a.args.s.now a.requires.0.1 in
+    let h_le = held_count_le a.args.s.now a.requires.0.1 in
     let n-is = a.requires.0.2 in
     let rows_are = a.requires.0.3 in
     let free-is = c.before.before.before.before.before.before.before.before.before.before.before.before.others.ensures ∙ ap others c.before.before.before.before.before.before.before.before.before.before.before.before.before.get32.ensures.0 in (
       (a.requires.0.0, a.requires.0.1, omega arith, omega arith),
       (
         (load.0, load.1),
-        asked-tied a.args.s.now a.requires.0.1 _ _ _ _ load.0 load.1 a.args.limit _ _ free-is c.before.before.before.before.before.before.predicate-step.ensures
+        asked_tied a.args.s.now a.requires.0.1 _ _ _ _ load.0 load.1 a.args.limit _ _ free-is c.before.before.before.before.before.before.predicate-step.ensures
             c.before.before.before.before.before.if1.false,
       ),
     )

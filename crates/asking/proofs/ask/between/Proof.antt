@@ -3,7 +3,7 @@ use mathlib.Core.Path.{ap, ◌∙◌}
 use native.Mathlib.Omega.{arith}
 use Rattle.names.specs.code.Parts.{others}
 use Rattle.state.proofs.StateLaws.{own-fits}
-use Rattle.asking.proofs.AskSteps.{rows-count, rows_fit, ends-bounded, ends_low, ends-ready, mirror-ready, between_none, between-room, between-low, between_is, free-lt}
+use Rattle.asking.proofs.AskSteps.{rows-count, rows_fit, ends_bounded, ends_low, ends_ready, mirror_ready, between_none, between-room, between-low, between_is, free_lt}
 use borrow.Author.Rules.{rules}
 use Rattle.asking.proofs.ask.between.Statement.{statement}
 use Rattle.asking.proofs.ask.between.Tie as tie
@@ -31,7 +31,7 @@ first-end-requires c κs =
     let lefts = at-ends.get-ends.ensures.1.0 in
     let rights = at-ends.get-ends.ensures.1.1 in
     let at-free = c.before.before.before in
-    (ends-ready _ form _ _ _ _ loaded complete _ _ _ _ fit fit lefts rights, fit, free-lt _ _ at-free.others.ensures)
+    (ends_ready _ form _ _ _ _ loaded complete _ _ _ _ fit fit lefts rights, fit, free_lt _ _ at-free.others.ensures)
 
 returns : tie.Need-returns
 returns c =
@@ -57,7 +57,7 @@ mirror-requires c κs =
     let fit = rows_fit _ form _ _ _ _ loaded complete in
     let lefts = at-ends.get-ends.ensures.1.0 in
     let rights = at-ends.get-ends.ensures.1.1 in
-    let w = ends-bounded _ form _ _ _ _ loaded complete _ _ _ _ fit fit lefts rights in
+    let w = ends_bounded _ form _ _ _ _ loaded complete _ _ _ _ fit fit lefts rights in
     ((w.lefts-long, w.rights-long, fit, fit), ends_low _ form _ _ _ _ loaded complete _ _ _ _ fit fit lefts rights)
 
 first-end-requires-2 : tie.Need-first-end-requires-2
@@ -72,10 +72,10 @@ first-end-requires-2 c κs =
     let rights = at-ends.get-ends.ensures.1.1 in
     let at-free = c.before.before.before.before.before.before.before.before.before.before.before.before.before.before.before.before.before in
     let mirror = c.before.before.before.before.before.mirror.ensures in
-    let at_first = c.before.before.before.before.before.before.before.before.before.before.before.before.before in (
-      mirror-ready _ form _ _ _ _ loaded complete _ _ _ _ fit fit lefts rights _ _ _ _ fit fit mirror.0 mirror.1,
-      omega (arith, at_first.first-end.ensures.1, fit),
-      free-lt _ _ at-free.others.ensures,
+    let at_first_lem = c.before.before.before.before.before.before.before.before.before.before.before.before.before in (
+      mirror_ready _ form _ _ _ _ loaded complete _ _ _ _ fit fit lefts rights _ _ _ _ fit fit mirror.0 mirror.1,
+      omega (arith, at_first_lem.first-end.ensures.1, fit),
+      free_lt _ _ at-free.others.ensures,
     )
 
 sub-rounded : tie.Need-overflow-sub-rounded
@@ -91,8 +91,8 @@ sub-rounded c =
     let at-free = c.before.before.before.before.before.before.before.before.before.before.before.before.before.before.before.before.before.before.before.before in
     let free-is = at-free.others.ensures ∙ ap others at-free.before.get32.ensures.0 in
     let mirror = c.before.before.before.before.before.before.before.before.mirror.ensures in
-    let at_first = c.before.before.before.before.before.before.before.before.before.before.before.before.before.before.before.before in
-    between-room _ form _ _ _ _ loaded complete _ _ _ _ fit fit lefts rights _ _ _ _ fit fit mirror.0 mirror.1 _ _ free-is a.requires.1.1 _ _ _ _ at_first.first-end.ensures.0
+    let at_first_lem = c.before.before.before.before.before.before.before.before.before.before.before.before.before.before.before.before in
+    between-room _ form _ _ _ _ loaded complete _ _ _ _ fit fit lefts rights _ _ _ _ fit fit mirror.0 mirror.1 _ _ free-is a.requires.1.1 _ _ _ _ at_first_lem.first-end.ensures.0
     c.before.before.before.before.before.before.before.before.before.before.before.before.before.if1.false c.before.before.first-end2.ensures.0
 
 rounded-requires : tie.Need-rounded-requires
@@ -109,8 +109,8 @@ rounded-requires c κs =
     let at-free = at_second.before.before.before.before.before.before.before.before.before.before.before.before.before.before.before.before.before.before.before.before in
     let free-is = at-free.others.ensures ∙ ap others at-free.before.get32.ensures.0 in
     let mirror = at_second.before.before.before.before.before.before.before.before.mirror.ensures in
-    let at_first = at_second.before.before.before.before.before.before.before.before.before.before.before.before.before.before.before.before in
-    between-low _ form _ _ _ _ loaded complete _ _ _ _ fit fit lefts rights _ _ _ _ fit fit mirror.0 mirror.1 _ _ free-is a.requires.1.1 _ _ _ _ at_first.first-end.ensures.0
+    let at_first_lem = at_second.before.before.before.before.before.before.before.before.before.before.before.before.before.before.before.before in
+    between-low _ form _ _ _ _ loaded complete _ _ _ _ fit fit lefts rights _ _ _ _ fit fit mirror.0 mirror.1 _ _ free-is a.requires.1.1 _ _ _ _ at_first_lem.first-end.ensures.0
     at_second.before.before.before.before.before.before.before.before.before.before.before.before.before.if1.false at_second.before.before.first-end2.ensures.0 _ at-ends.get-ends.ensures.0
 
 returns-2 : tie.Need-returns-2
@@ -127,9 +127,9 @@ returns-2 c =
     let at-free = at_second.before.before.before.before.before.before.before.before.before.before.before.before.before.before.before.before.before.before.before.before in
     let free-is = at-free.others.ensures ∙ ap others at-free.before.get32.ensures.0 in
     let mirror = at_second.before.before.before.before.before.before.before.before.mirror.ensures in
-    let at_first = at_second.before.before.before.before.before.before.before.before.before.before.before.before.before.before.before.before in
+    let at_first_lem = at_second.before.before.before.before.before.before.before.before.before.before.before.before.before.before.before.before in
     c.rounded.ensures
-    ∙ between_is _ form _ _ _ _ loaded complete _ _ _ _ fit fit lefts rights _ _ _ _ fit fit mirror.0 mirror.1 _ _ free-is a.requires.1.1 _ _ _ _ at_first.first-end.ensures.0
+    ∙ between_is _ form _ _ _ _ loaded complete _ _ _ _ fit fit lefts rights _ _ _ _ fit fit mirror.0 mirror.1 _ _ free-is a.requires.1.1 _ _ _ _ at_first_lem.first-end.ensures.0
     at_second.before.before.before.before.before.before.before.before.before.before.before.before.before.if1.false at_second.before.before.first-end2.ensures.0 _ at-ends.get-ends.ensures.0
 
 pub between-spec : {M : Type 1} → statement M

@@ -6,21 +6,21 @@ use native.Mathlib.Omega.{arith}
 use lib.ListN.{drop}
 use Rattle.ends.specs.Ends.{count_of, Split}
 use Rattle.ends.specs.declared.Ends.{Ends}
-use Rattle.state.specs.Model.{endLimit}
-use Rattle.state.specs.Layout.{heldCount, store_of, datumAt}
+use Rattle.state.specs.Model.{end_limit}
+use Rattle.state.specs.Layout.{held_count, store_of, datum_at}
 use Rattle.state.specs.code.Tables.{ends_at}
-use Rattle.state.proofs.StateLaws.{held-count-le}
+use Rattle.state.proofs.StateLaws.{held_count_le}
 use Rattle.claims.proofs.KeyLaws.{ends-stored}
-use Rattle.asking.specs.code.Plain.{greatestLeft, leastRight}
-use Rattle.asking.proofs.AskSteps.{greatest-left-turn, greatest-left-done, least-right-turn, least-right-done}
+use Rattle.asking.specs.code.Plain.{greatest_left, least_right}
+use Rattle.asking.proofs.AskSteps.{greatest_left-turn, greatest_left-done, least_right-turn, least_right-done}
 use borrow.Author.Rules.{rules}
 use Rattle.asking.proofs.ask.meeting.Statement.{statement}
 use Rattle.asking.proofs.ask.meeting.Tie as tie
 
 abbrev invariant-loop : tie.invariant-loop
 invariant-loop s h left₀ right₀ i₀ left right i =
-    (i ≤ h) × (greatestLeft (count_of left) (drop i (store_of s).held) ≡ greatestLeft 0 (store_of s).held)
-    × (leastRight (count_of right) (drop i (store_of s).held) ≡ leastRight endLimit (store_of s).held) × Split left × Split right
+    (i ≤ h) × (greatest_left (count_of left) (drop i (store_of s).held) ≡ greatest_left 0 (store_of s).held)
+    × (least_right (count_of right) (drop i (store_of s).held) ≡ least_right end_limit (store_of s).held) × Split left × Split right
 
 abbrev decreases-loop : tie.decreases-loop
 decreases-loop s h left₀ right₀ i₀ left right i = h - i
@@ -30,7 +30,7 @@ loop-holds c = (search rules, refl, refl, search rules, search rules)
 
 get-requires : tie.Need-get-requires invariant-loop decreases-loop
 get-requires c κs =
-    let a = c.before.before.before in (a.requires.0, omega (arith, held-count-le _ a.requires.1, a.requires.2, c.loop-test.true))
+    let a = c.before.before.before in (a.requires.0, omega (arith, held_count_le _ a.requires.1, a.requires.2, c.loop-test.true))
 
 later-requires : tie.Need-later-requires invariant-loop decreases-loop
 later-requires c κs =
@@ -45,18 +45,18 @@ earlier-requires c κs =
     (head.loop.invariant.4, (ends-stored _ a.requires.1 _ (omega (arith, a.requires.2, c.before.before.loop-test.true)) _ c.before.get.ensures).1.0)
 
 loop-again : tie.Need-loop-preserved invariant-loop decreases-loop
-unfolding datumAt ends_at
+unfolding datum_at ends_at
 loop-again c =
     let at_test = c.before.before.before in
     let head = at_test.before in
     let a = head.before.before in
     let s = a.args.s.now in
     let i = head.loop.i in
-    let h : i < heldCount s = omega (arith, a.requires.2, at_test.loop-test.true) in
+    let h : i < held_count s = omega (arith, a.requires.2, at_test.loop-test.true) in
     let read = c.before.before.get.ensures in (
       search rules,
-      greatest-left-turn s i h _ _ _ (ap (λ (e : Ends). count_of e.left) read) c.before.later.ensures.0 ∙ head.loop.invariant.1,
-      least-right-turn s i h _ _ _ (ap (λ (e : Ends). count_of e.right) read) c.earlier.ensures.0 ∙ head.loop.invariant.2,
+      greatest_left-turn s i h _ _ _ (ap (λ (e : Ends). count_of e.left) read) c.before.later.ensures.0 ∙ head.loop.invariant.1,
+      least_right-turn s i h _ _ _ (ap (λ (e : Ends). count_of e.right) read) c.earlier.ensures.0 ∙ head.loop.invariant.2,
       c.before.later.ensures.1,
       c.earlier.ensures.1,
     )
@@ -65,9 +65,9 @@ returns : tie.Need-returns invariant-loop decreases-loop
 returns c =
     let head = c.before in
     let a = head.before.before in
-    let done : heldCount a.args.s.now ≤ head.loop.i = omega (arith, a.requires.2, c.loop-test.false) in (
-      sym (greatest-left-done a.args.s.now head.loop.i (count_of head.loop.left) done) ∙ head.loop.invariant.1,
-      sym (least-right-done a.args.s.now head.loop.i (count_of head.loop.right) done) ∙ head.loop.invariant.2,
+    let done : held_count a.args.s.now ≤ head.loop.i = omega (arith, a.requires.2, c.loop-test.false) in (
+      sym (greatest_left-done a.args.s.now head.loop.i (count_of head.loop.left) done) ∙ head.loop.invariant.1,
+      sym (least_right-done a.args.s.now head.loop.i (count_of head.loop.right) done) ∙ head.loop.invariant.2,
       (head.loop.invariant.3, head.loop.invariant.4),
     )
 

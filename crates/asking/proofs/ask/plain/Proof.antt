@@ -2,10 +2,10 @@
 use mathlib.Core.Path.{sym, ◌∙◌}
 use native.Mathlib.Omega.{arith}
 use borrow.Author.Tests.{ltb-true, ltb-false}
-use Rattle.state.specs.Model.{endLimit}
+use Rattle.state.specs.Model.{end_limit}
 use Rattle.state.specs.Layout.{store_of}
 use Rattle.asking.proofs.PlainLaws.{right-below}
-use Rattle.asking.proofs.AskSteps.{plain_known, plain-free, plain-apart, plain-between}
+use Rattle.asking.proofs.AskSteps.{plain_known, plain_free, plain-apart, plain-between}
 use borrow.Author.Rules.{rules}
 use Rattle.asking.proofs.ask.plain.Statement.{statement}
 use Rattle.asking.proofs.ask.plain.Tie as tie
@@ -18,7 +18,7 @@ returns c =
 returns-2 : tie.Need-returns-2
 returns-2 c =
     let a = c.before.before.before.before.before in
-    plain-free a.args.s.now a.requires.1 _ c.before.before.before.get32.ensures.0 c.before.before.if1.false _ c.before.get322.ensures.0 c.if2.true
+    plain_free a.args.s.now a.requires.1 _ c.before.before.before.get32.ensures.0 c.before.before.if1.false _ c.before.get322.ensures.0 c.if2.true
 
 returns-3 : tie.Need-returns-3
 returns-3 c =
@@ -34,7 +34,7 @@ round-up-requires c κs =
     let at-meeting = c.before.before.before in
     let ends = at-meeting.meeting.ensures in
     let s = at-meeting.before.before.before.before.before.before.args.s.now in
-    (ends.2.1, omega (arith, ends.1, right-below endLimit (store_of s).held))
+    (ends.2.1, omega (arith, ends.1, right-below end_limit (store_of s).held))
 
 returns-4 : tie.Need-returns-4
 returns-4 c =

@@ -4,14 +4,14 @@ use Prim.Native.Nat.{◌-◌, ◌≤◌}
 use mathlib.Core.Path.{◌≡◌, refl, sym, ◌∙◌}
 use native.Mathlib.Omega.{arith}
 use lib.ListN.{length, drop}
-use Rattle.asking.specs.code.One.{allNames}
+use Rattle.asking.specs.code.One.{all_names}
 use Rattle.asking.proofs.OneSteps.{all-turn, all_done}
 use borrow.Author.Rules.{rules}
 use Rattle.asking.proofs.one.all_names.Statement.{statement}
 use Rattle.asking.proofs.one.all_names.Tie as tie
 
 abbrev invariant-loop : tie.invariant-loop
-invariant-loop masks names₀ i₀ names i = (i ≤ length masks) × (allNames names (drop i masks) ≡ allNames 0 masks)
+invariant-loop masks names₀ i₀ names i = (i ≤ length masks) × (all_names names (drop i masks) ≡ all_names 0 masks)
 
 abbrev decreases-loop : tie.decreases-loop
 decreases-loop masks names₀ i₀ names i = length masks - i

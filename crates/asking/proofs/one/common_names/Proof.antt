@@ -4,14 +4,14 @@ use Prim.Native.Nat.{◌-◌, ◌≤◌}
 use mathlib.Core.Path.{◌≡◌, refl, sym, ◌∙◌}
 use native.Mathlib.Omega.{arith}
 use lib.ListN.{length, drop}
-use Rattle.asking.specs.code.One.{commonNames}
+use Rattle.asking.specs.code.One.{common_names}
 use Rattle.asking.proofs.OneSteps.{common-turn, common-done}
 use borrow.Author.Rules.{rules}
 use Rattle.asking.proofs.one.common_names.Statement.{statement}
 use Rattle.asking.proofs.one.common_names.Tie as tie
 
 abbrev invariant-loop : tie.invariant-loop
-invariant-loop masks names left₀ i₀ left i = (i ≤ length masks) × (commonNames left (drop i masks) ≡ commonNames names masks)
+invariant-loop masks names left₀ i₀ left i = (i ≤ length masks) × (common_names left (drop i masks) ≡ common_names names masks)
 
 abbrev decreases-loop : tie.decreases-loop
 decreases-loop masks names left₀ i₀ left i = length masks - i

@@ -2,7 +2,7 @@
 use mathlib.Core.Path.{sym}
 use native.Mathlib.Omega.{arith}
 use lib.Seq.{length-take-le}
-use Rattle.state.proofs.StateLaws.{held-count-le}
+use Rattle.state.proofs.StateLaws.{held_count_le}
 use Rattle.asking.proofs.OneSteps.{masks-read, kept_in, one-least, one-never}
 use borrow.Author.Rules.{rules}
 use Rattle.asking.proofs.one.fewest_one.Statement.{statement}
@@ -22,21 +22,21 @@ get-singles-requires c κs =
     let at_n = at-h.before in
     let a = at_n.before.before in
     let h = at-h.get322.ensures.0 in
-    ((a.requires.0, a.requires.1, at_n.get32.ensures.0, h), omega (arith, h, held-count-le _ a.requires.1))
+    ((a.requires.0, a.requires.1, at_n.get32.ensures.0, h), omega (arith, h, held_count_le _ a.requires.1))
 
 get-ends-requires : tie.Need-get-ends-requires
 get-ends-requires c κs =
     let at-h = c.before.before.before.before.before.before.before in
     let a = at-h.before.before.before in
     let h = at-h.get322.ensures.0 in
-    let most = held-count-le _ a.requires.1 in
+    let most = held_count_le _ a.requires.1 in
     ((a.requires.0, a.requires.1, omega arith, omega (arith, h)), (omega (arith, h, most), omega (arith, h, most)))
 
 share : tie.Need-array-share-prefix-masks
 share c =
     let at-masks = c.before.before.before.before.before.before.before.before in
     let at-h = at-masks.before.before.before.before in
-    omega (arith, at-h.get322.ensures.0, held-count-le _ at-h.before.before.before.requires.1, at-masks.get-singles.auto.1.1.1.0)
+    omega (arith, at-h.get322.ensures.0, held_count_le _ at-h.before.before.before.requires.1, at-masks.get-singles.auto.1.1.1.0)
 
 aggregate : tie.Need-slice-aggregate-least-leaving-3
 aggregate c = sym (length-take-le _ _ (share c.before))
@@ -47,7 +47,7 @@ least-leaving-requires c κs =
     let at-h = at-ends.before.before.before.before.before.before.before.before in
     let long = aggregate c in
     let h = at-h.get322.ensures.0 in
-    let most = held-count-le _ at-h.before.before.before.requires.1 in
+    let most = held_count_le _ at-h.before.before.before.requires.1 in
     (omega (arith, long, h, most, at-ends.get-ends.auto.1.1.1.0), omega (arith, long, h, most, at-ends.get-ends.auto.1.1.1.1.0))
 
 returns-2 : tie.Need-returns-2

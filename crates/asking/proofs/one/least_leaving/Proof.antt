@@ -6,11 +6,11 @@ use native.Mathlib.Omega.{arith}
 use lib.Dec.{T}
 use Rattle.numbers.proofs.NumberLaws.{above_zero}
 use Rattle.names.specs.Sets.{subset, minus}
-use Rattle.names.proofs.SetLaws.{subset-refl}
+use Rattle.names.proofs.SetLaws.{subset_refl}
 use Rattle.state.specs.Model.{Datum}
 use Rattle.asking.specs.code.One.{InArrays}
-use Rattle.asking.proofs.OneLaws.{one_none, walk_start, walk-name, walk-less, walk-within}
-use Rattle.asking.proofs.OneSteps.{NoneOf, least-found, least-next, least-none}
+use Rattle.asking.proofs.OneLaws.{one_none, walk_start, walk-name, walk_less, walk-within}
+use Rattle.asking.proofs.OneSteps.{NoneOf, least-found, least_next, least-none}
 use borrow.Author.Rules.{rules}
 use Rattle.asking.proofs.one.least_leaving.Statement.{statement}
 use Rattle.asking.proofs.one.least_leaving.Tie as tie
@@ -23,7 +23,7 @@ abbrev decreases-loop : tie.decreases-loop
 decreases-loop lefts rights masks names rest₀ rest = rest
 
 loop-holds : tie.Need-loop-init invariant-loop decreases-loop
-loop-holds c = (subset-refl _, λ ds kept. rw (walk_start _) (λ v o x i. one_none v o))
+loop-holds c = (subset_refl _, λ ds kept. rw (walk_start _) (λ v o x i. one_none v o))
 
 span-requires : tie.Need-span-requires invariant-loop decreases-loop
 span-requires c κs =
@@ -50,7 +50,7 @@ loop-less c =
     let at_name = c.before.before.before.before in
     let at_test = at_name.before in
     let head = at_test.before.loop in
-    walk-less _ _ head.invariant.0 (above_zero at_test.loop-test.true) _ _ at_name.least-name.ensures c.minus.ensures
+    walk_less _ _ head.invariant.0 (above_zero at_test.loop-test.true) _ _ at_name.least-name.ensures c.minus.ensures
 
 loop-again : tie.Need-loop-preserved invariant-loop decreases-loop
 loop-again c =
@@ -63,7 +63,7 @@ loop-again c =
       walk-within _ _ head.invariant.0 some _ _ at_name.least-name.ensures c.minus.ensures,
       λ ds kept.
           let ends = at-span.span.ensures ds kept in
-          least-next ds kept _ _ head.invariant.0 some _ at_name.least-name.ensures _ _ ends.0 ends.1 (head.invariant.1 ds kept) c.before.if1.false _
+          least_next ds kept _ _ head.invariant.0 some _ at_name.least-name.ensures _ _ ends.0 ends.1 (head.invariant.1 ds kept) c.before.if1.false _
           c.minus.ensures,
     )
 

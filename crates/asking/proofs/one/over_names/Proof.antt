@@ -7,10 +7,10 @@ use native.Mathlib.Omega.{arith}
 use lib.Dec.{T}
 use Rattle.numbers.proofs.NumberLaws.{above_zero}
 use Rattle.names.specs.Sets.{subset, minus}
-use Rattle.names.proofs.SetLaws.{subset-refl}
+use Rattle.names.proofs.SetLaws.{subset_refl}
 use Rattle.state.specs.Model.{Datum}
 use Rattle.asking.specs.code.One.{InArrays, Lacking, AtMostOne, Hull}
-use Rattle.asking.proofs.OneLaws.{walk_start, walk_end, walk-name, walk-less, walk-within}
+use Rattle.asking.proofs.OneLaws.{walk_start, walk_end, walk-name, walk_less, walk-within}
 use Rattle.asking.proofs.OneSteps.{over-turn}
 use borrow.Author.Rules.{rules}
 use Rattle.asking.proofs.one.over_names.Statement.{statement}
@@ -26,7 +26,7 @@ abbrev decreases-loop : tie.decreases-loop
 decreases-loop lefts rights masks names widest₀ rest₀ widest rest = rest
 
 loop-holds : tie.Need-loop-init invariant-loop decreases-loop
-loop-holds c = (subset-refl _, λ ds kept lacks plain w. rw (walk_start _) w)
+loop-holds c = (subset_refl _, λ ds kept lacks plain w. rw (walk_start _) w)
 
 span-requires : tie.Need-span-requires invariant-loop decreases-loop
 span-requires c κs =
@@ -41,7 +41,7 @@ loop-less c =
     let at_name = c.before.before.before in
     let at_test = at_name.before in
     let head = at_test.before.loop in
-    walk-less _ _ head.invariant.0 (above_zero at_test.loop-test.true) _ _ at_name.least-name.ensures c.minus.ensures
+    walk_less _ _ head.invariant.0 (above_zero at_test.loop-test.true) _ _ at_name.least-name.ensures c.minus.ensures
 
 loop-again : tie.Need-loop-preserved invariant-loop decreases-loop
 loop-again c =

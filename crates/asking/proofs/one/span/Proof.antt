@@ -7,7 +7,7 @@ use mathlib.Core.List.{List}
 use lib.ListN.{length}
 use Rattle.state.specs.Model.{Datum}
 use Rattle.asking.specs.code.One.{InArrays}
-use Rattle.asking.proofs.OneSteps.{Spanning, span-take, span-pass, span-done}
+use Rattle.asking.proofs.OneSteps.{Spanning, span-take, span_pass, span-done}
 use borrow.Author.Rules.{rules}
 use Rattle.asking.proofs.one.span.Statement.{statement}
 use Rattle.asking.proofs.one.span.Tie as tie
@@ -34,7 +34,7 @@ loop-again c =
       λ ds kept.
           ⊎_elim
           (λ w. rw (w.5, w.6) (span-take ds kept _ a.requires.2 head.i in_row _ _ _ x (head.invariant.1 ds kept) w.0.taken _ _ w.2.ensures w.4.ensures))
-          (λ w. rw (w.1, w.2) (span-pass ds kept _ a.requires.2 head.i in_row _ _ _ x (head.invariant.1 ds kept) w.0.left))
+          (λ w. rw (w.1, w.2) (span_pass ds kept _ a.requires.2 head.i in_row _ _ _ x (head.invariant.1 ds kept) w.0.left))
           c.if1.branch,
     )
 

@@ -5,10 +5,10 @@ use mathlib.Core.Logic.{⊎_elim}
 use Prim.Native.Nat.{◌<◌}
 use native.Mathlib.Omega.{arith}
 use lib.ListN.{length}
-use Rattle.names.proofs.SetLaws.{ones-empty, subset-trans}
+use Rattle.names.proofs.SetLaws.{ones-empty, subset_trans}
 use Rattle.names.proofs.PartLaws.{shared-left}
-use Rattle.asking.specs.code.One.{allNames, Lacking}
-use Rattle.asking.proofs.OneSteps.{mask-count, begun-none, begun-empty, names-all}
+use Rattle.asking.specs.code.One.{all_names, Lacking}
+use Rattle.asking.proofs.OneSteps.{mask_count, begun-none, begun-empty, names-all}
 use borrow.Author.Rules.{rules}
 use Rattle.asking.proofs.one.widest.Statement.{statement}
 use Rattle.asking.proofs.one.widest.Tie as tie
@@ -24,9 +24,9 @@ returns c =
     let at-minus = at-if.before in
     let at_Names = at-minus.before in
     let a = at_Names.before.before.before.before in λ ds kept lacks.
-    let some = at_Names.all-names.ensures ∙ ap (allNames 0) kept.masks-are in
-    let many : 0 < length ds = omega (arith, a.requires.2, mask-count ds kept) in
-    let less : Lacking ds at-shared.shared.result = λ v o. lacks v (o.0, subset-trans _ _ _ o.1 (rw at-shared.shared.ensures (shared-left _ _))) in
+    let some = at_Names.all-names.ensures ∙ ap (all_names 0) kept.masks-are in
+    let many : 0 < length ds = omega (arith, a.requires.2, mask_count ds kept) in
+    let less : Lacking ds at-shared.shared.result = λ v o. lacks v (o.0, subset_trans _ _ _ o.1 (rw at-shared.shared.ensures (shared-left _ _))) in
     ⊎_elim
     (λ w. names-all ds kept _ _ some a.args.plain true _ _ _ at-minus.minus.ensures w.0.taken
     (rw at-shared.shared.ensures at (c.over-names.ensures ds kept less true

@@ -8,7 +8,7 @@ use Rattle.names.specs.code.Parts.{shared, others}
 use Rattle.state.specs.Layout.{own_at, store_of}
 use Rattle.state.proofs.StateLaws.{own-fits}
 use Rattle.claims.specs.code.Degrees.{deciding}
-use Rattle.claims.proofs.DegreeLaws.{deciding-more, deciding-none, claim-placed, claim-few, claim-singles}
+use Rattle.claims.proofs.DegreeLaws.{deciding-more, deciding-none, claim_placed, claim_few, claim_singles}
 use borrow.Author.Rules.{rules}
 use Rattle.claims.proofs.degrees.deciding_names.Statement.{statement}
 use Rattle.claims.proofs.degrees.deciding_names.Tie as tie
@@ -29,13 +29,13 @@ loop-holds c = (omega arith, c.others.ensures ∙ ap others c.before.get32.ensur
 place-requires : tie.Need-place-requires invariant-loop decreases-loop
 place-requires c κs =
     let a = c.before.before.before.before.before in
-    claim-placed _ a.requires.1 _ a.requires.2 c.before.loop.i (omega arith)
+    claim_placed _ a.requires.1 _ a.requires.2 c.before.loop.i (omega arith)
 
 single-names-requires : tie.Need-single-names-requires invariant-loop decreases-loop
 single-names-requires c κs =
     let at_test = c.before in
     let a = at_test.before.before.before.before.before in
-    (claim-few _ a.requires.1 _ a.requires.2 at_test.before.loop.i (omega arith) _ c.place.ensures.0, omega arith)
+    (claim_few _ a.requires.1 _ a.requires.2 at_test.before.loop.i (omega arith) _ c.place.ensures.0, omega arith)
 
 returns : tie.Need-returns invariant-loop decreases-loop
 returns c =
@@ -47,7 +47,7 @@ returns c =
     let head = at_test.before.loop in
     let told =
     at-shared.shared.ensures
-    ∙ ap (shared head.names) (claim-singles _ a.requires.1 _ a.requires.2 head.i (omega arith) _ at_place.place.ensures.0 _ at_Names.single-names.ensures) in
+    ∙ ap (shared head.names) (claim_singles _ a.requires.1 _ a.requires.2 head.i (omega arith) _ at_place.place.ensures.0 _ at_Names.single-names.ensures) in
     let more = deciding-more (store_of a.args.s.now) (num own_at 4 a.args.s.now) head.i _ (rw head.invariant.1 at told) in
     sym (deciding-none (store_of a.args.s.now) (num own_at 4 a.args.s.now) a.args.n (head.i + 1) (omega arith) (sym more ∙ c.if1.true))
 
@@ -61,7 +61,7 @@ loop-again c =
     let head = at_test.before.loop in
     let told =
     at-shared.shared.ensures
-    ∙ ap (shared head.names) (claim-singles _ a.requires.1 _ a.requires.2 head.i (omega arith) _ at_place.place.ensures.0 _ at_Names.single-names.ensures) in
+    ∙ ap (shared head.names) (claim_singles _ a.requires.1 _ a.requires.2 head.i (omega arith) _ at_place.place.ensures.0 _ at_Names.single-names.ensures) in
     let more = deciding-more (store_of a.args.s.now) (num own_at 4 a.args.s.now) head.i _ (rw head.invariant.1 at told) in
     (omega arith, more)
 

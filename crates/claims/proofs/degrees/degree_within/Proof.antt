@@ -7,14 +7,14 @@ use lib.ListN.{drop}
 use Rattle.numbers.specs.Numbers.{num}
 use Rattle.predicates.specs.Predicates.{degree}
 use Rattle.state.specs.Layout.{row_at}
-use Rattle.search.specs.code.Search.{rowWidth}
-use Rattle.claims.proofs.DegreeLaws.{degree-here, degree-turn, degree-end}
+use Rattle.search.specs.code.Search.{row_width}
+use Rattle.claims.proofs.DegreeLaws.{degree-here, degree-turn, degree_end}
 use borrow.Author.Rules.{rules}
 use Rattle.claims.proofs.degrees.degree_within.Statement.{statement}
 use Rattle.claims.proofs.degrees.degree_within.Tie as tie
 
 abbrev invariant-loop : tie.invariant-loop
-invariant-loop s at most count i₀ i = (i ≤ count) × (count ≡ num at 4 s) × (leb (degree (drop i (row_at rowWidth at s))) most ≡ leb (degree (row_at rowWidth at s)) most)
+invariant-loop s at most count i₀ i = (i ≤ count) × (count ≡ num at 4 s) × (leb (degree (drop i (row_at row_width at s))) most ≡ leb (degree (row_at row_width at s)) most)
 
 abbrev decreases-loop : tie.decreases-loop
 decreases-loop s at most count i₀ i = count - i
@@ -40,7 +40,7 @@ returns-2 : tie.Need-returns-2 invariant-loop decreases-loop
 returns-2 c =
     let head = c.before.loop in
     let a = c.before.before.before.before in
-    sym (degree-end _ _ a.requires.0 head.i _ (omega arith)) ∙ head.invariant.2
+    sym (degree_end _ _ a.requires.0 head.i _ (omega arith)) ∙ head.invariant.2
 
 pub degree-within-spec : {M : Type 1} → statement M
 degree-within-spec =

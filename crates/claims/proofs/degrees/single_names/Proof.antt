@@ -7,14 +7,14 @@ use lib.ListN.{take}
 use Rattle.numbers.specs.Numbers.{num}
 use Rattle.predicates.specs.code.Marks.{singles}
 use Rattle.state.specs.Layout.{row_at}
-use Rattle.search.specs.code.Search.{rowWidth}
-use Rattle.claims.proofs.DegreeLaws.{single_more, single-other, singles-end}
+use Rattle.search.specs.code.Search.{row_width}
+use Rattle.claims.proofs.DegreeLaws.{single_more, single_other, singles_end}
 use borrow.Author.Rules.{rules}
 use Rattle.claims.proofs.degrees.single_names.Statement.{statement}
 use Rattle.claims.proofs.degrees.single_names.Tie as tie
 
 abbrev invariant-loop : tie.invariant-loop
-invariant-loop s at count names₀ i₀ names i = (i ≤ count) × (count ≡ num at 4 s) × (names ≡ singles (take i (row_at rowWidth at s)))
+invariant-loop s at count names₀ i₀ names i = (i ≤ count) × (count ≡ num at 4 s) × (names ≡ singles (take i (row_at row_width at s)))
 
 abbrev decreases-loop : tie.decreases-loop
 decreases-loop s at count names₀ i₀ names i = count - i
@@ -32,14 +32,14 @@ loop-again c =
       omega arith,
       head.invariant.1,
       ⊎_elim (λ w. w.2 ∙ w.1.ensures ∙ single_more _ _ a.requires.0 head.i (omega arith) _ _ head.invariant.2 term (sym c.before.is-single.ensures ∙ w.0.taken))
-          (λ w. w.1 ∙ single-other _ _ a.requires.0 head.i (omega arith) _ _ head.invariant.2 term (sym c.before.is-single.ensures ∙ w.0.left)) c.if1.branch,
+          (λ w. w.1 ∙ single_other _ _ a.requires.0 head.i (omega arith) _ _ head.invariant.2 term (sym c.before.is-single.ensures ∙ w.0.left)) c.if1.branch,
     )
 
 returns : tie.Need-returns invariant-loop decreases-loop
 returns c =
     let head = c.before.loop in
     let a = c.before.before.before.before in
-    singles-end _ _ a.requires.0 head.i _ (omega arith) head.invariant.2
+    singles_end _ _ a.requires.0 head.i _ (omega arith) head.invariant.2
 
 pub single-names-spec : {M : Type 1} → statement M
 single-names-spec =

@@ -4,19 +4,19 @@ use Prim.Native.Nat.{◌-◌, ◌≤◌}
 use mathlib.Core.Path.{◌≡◌, refl, sym, ◌∙◌}
 use mathlib.Core.Bool.{true}
 use native.Mathlib.Omega.{arith}
-use borrow.Author.Tests.{not-true, not-false}
+use borrow.Author.Tests.{not-true, not_false}
 use Rattle.predicates.specs.Lists.{all_below}
-use Rattle.predicates.proofs.IndexLaws.{below-stop}
+use Rattle.predicates.proofs.IndexLaws.{below_stop}
 use Rattle.state.proofs.FormLoops.{below-turn}
 use Rattle.state.specs.Layout.{store_of}
-use Rattle.claims.specs.code.Degrees.{degreeWithin}
-use Rattle.claims.proofs.DegreeLaws.{claim-placed, claim-few, claim-within}
+use Rattle.claims.specs.code.Degrees.{degree_within}
+use Rattle.claims.proofs.DegreeLaws.{claim_placed, claim_few, claim_within}
 use borrow.Author.Rules.{rules}
 use Rattle.claims.proofs.degrees.within.Statement.{statement}
 use Rattle.claims.proofs.degrees.within.Tie as tie
 
 abbrev invariant-loop : tie.invariant-loop
-invariant-loop s n rows most i₀ i = (i ≤ rows) × (all_below i (degreeWithin (store_of s) most) ≡ true)
+invariant-loop s n rows most i₀ i = (i ≤ rows) × (all_below i (degree_within (store_of s) most) ≡ true)
 
 abbrev decreases-loop : tie.decreases-loop
 decreases-loop s n rows most i₀ i = rows - i
@@ -28,13 +28,13 @@ loop-holds c = (omega arith, refl)
 place-requires : tie.Need-place-requires invariant-loop decreases-loop
 place-requires c κs =
     let a = c.before.before.before in
-    claim-placed _ a.requires.1 _ a.requires.2 c.before.loop.i (omega arith)
+    claim_placed _ a.requires.1 _ a.requires.2 c.before.loop.i (omega arith)
 
 degree-within-requires : tie.Need-degree-within-requires invariant-loop decreases-loop
 degree-within-requires c κs =
     let at_test = c.before in
     let a = at_test.before.before.before in
-    (claim-few _ a.requires.1 _ a.requires.2 at_test.before.loop.i (omega arith) _ c.place.ensures.0, omega arith)
+    (claim_few _ a.requires.1 _ a.requires.2 at_test.before.loop.i (omega arith) _ c.place.ensures.0, omega arith)
 
 returns : tie.Need-returns invariant-loop decreases-loop
 returns c =
@@ -42,8 +42,8 @@ returns c =
     let at_test = at_place.before in
     let a = at_test.before.before.before in
     let i = at_test.before.loop.i in
-    let told = claim-within _ a.requires.1 _ a.requires.2 i (omega arith) _ at_place.place.ensures.0 _ _ c.before.degree-within.ensures in
-    sym (below-stop _ i _ at_test.loop-test.true (sym told ∙ not-true _ c.if1.true))
+    let told = claim_within _ a.requires.1 _ a.requires.2 i (omega arith) _ at_place.place.ensures.0 _ _ c.before.degree-within.ensures in
+    sym (below_stop _ i _ at_test.loop-test.true (sym told ∙ not-true _ c.if1.true))
 
 loop-again : tie.Need-loop-preserved invariant-loop decreases-loop
 loop-again c =
@@ -51,8 +51,8 @@ loop-again c =
     let at_test = at_place.before in
     let a = at_test.before.before.before in
     let head = at_test.before.loop in
-    let told = claim-within _ a.requires.1 _ a.requires.2 head.i (omega arith) _ at_place.place.ensures.0 _ _ c.before.degree-within.ensures in
-    (omega arith, sym (below-turn _ head.i true true (sym head.invariant.1) (sym (sym told ∙ not-false _ c.if1.false))))
+    let told = claim_within _ a.requires.1 _ a.requires.2 head.i (omega arith) _ at_place.place.ensures.0 _ _ c.before.degree-within.ensures in
+    (omega arith, sym (below-turn _ head.i true true (sym head.invariant.1) (sym (sym told ∙ not_false _ c.if1.false))))
 
 returns-2 : tie.Need-returns-2 invariant-loop decreases-loop
 returns-2 c =

@@ -3,19 +3,19 @@
 use Prim.Native.Nat.{ℕ, ◌-◌, ◌≤◌}
 use mathlib.Core.Path.{◌≡◌, ◌∙◌}
 use native.Mathlib.Omega.{arith}
-use Rattle.state.proofs.StateLaws.{held-count-le}
-use Rattle.state.proofs.StoreLaws.{Column, column-none, column-next, column-done}
-use Rattle.claims.specs.code.Keys.{rankKey, key_of}
-use Rattle.claims.specs.code.Tables.{claimLeft, claimRight}
-use Rattle.claims.proofs.KeyLaws.{ranks-key, left-same, right-same}
+use Rattle.state.proofs.StateLaws.{held_count_le}
+use Rattle.state.proofs.StoreLaws.{Column, column_none, column_next, column_done}
+use Rattle.claims.specs.code.Keys.{rank_key, key_of}
+use Rattle.claims.specs.code.Tables.{claim_left, claim_right}
+use Rattle.claims.proofs.KeyLaws.{ranks_key, left-same, right-same}
 use borrow.Author.Rules.{rules}
 use Rattle.claims.proofs.keys.put_ranks.Statement.{statement}
 use Rattle.claims.proofs.keys.put_ranks.Tie as tie
 
 abbrev invariant-loop : tie.invariant-loop
 invariant-loop s n rows lefts₀ rights₀ parts i₀ lefts rights i =
-    (i ≤ rows) × ((x : ℕ) → rankKey parts x ≡ key_of s x) × Column (claimLeft (key_of s) s n) i lefts₀ lefts
-    × Column (claimRight (key_of s) s n) i rights₀ rights
+    (i ≤ rows) × ((x : ℕ) → rank_key parts x ≡ key_of s x) × Column (claim_left (key_of s) s n) i lefts₀ lefts
+    × Column (claim_right (key_of s) s n) i rights₀ rights
 
 abbrev decreases-loop : tie.decreases-loop
 decreases-loop s n rows lefts₀ rights₀ parts i₀ lefts rights i = rows - i
@@ -23,16 +23,16 @@ decreases-loop s n rows lefts₀ rights₀ parts i₀ lefts rights i = rows - i
 get-parts-requires : tie.Need-get-parts-requires invariant-loop decreases-loop
 get-parts-requires c κs =
     let a = c.before.before.before.before in
-    let held = held-count-le _ a.requires.0.1 in
+    let held = held_count_le _ a.requires.0.1 in
     (a.requires.0.0, omega (arith, a.requires.0.3), omega (arith, a.requires.0.3))
 
 loop-holds : tie.Need-loop-init invariant-loop decreases-loop
 loop-holds c =
     let a = c.before.before.before.before.before.before in (
       search rules,
-      ranks-key _ _ _ a.requires.1.0 (omega (arith, a.requires.0.3)) c.before.get-parts.ensures,
-      column-none _ _,
-      column-none _ _,
+      ranks_key _ _ _ a.requires.1.0 (omega (arith, a.requires.0.3)) c.before.get-parts.ensures,
+      column_none _ _,
+      column_none _ _,
     )
 
 ranks-requires : tie.Need-ranks-requires invariant-loop decreases-loop
@@ -46,15 +46,15 @@ loop-again c =
     let inv = c.before.before.before.loop.invariant in (
       search rules,
       inv.1,
-      column-next _ _ _ _ _ (c.ranks.ensures.0 ∙ left-same _ _ inv.1 _ _ _) inv.2,
-      column-next _ _ _ _ _ (c.ranks.ensures.1 ∙ right-same _ _ inv.1 _ _ _) inv.3,
+      column_next _ _ _ _ _ (c.ranks.ensures.0 ∙ left-same _ _ inv.1 _ _ _) inv.2,
+      column_next _ _ _ _ _ (c.ranks.ensures.1 ∙ right-same _ _ inv.1 _ _ _) inv.3,
     )
 
 returns : tie.Need-returns invariant-loop decreases-loop
 returns c =
     let head = c.before.loop in (
-      column-done _ _ _ _ _ head.invariant.0 c.loop-test.false (search rules) head.invariant.2,
-      column-done _ _ _ _ _ head.invariant.0 c.loop-test.false (search rules) head.invariant.3,
+      column_done _ _ _ _ _ head.invariant.0 c.loop-test.false (search rules) head.invariant.2,
+      column_done _ _ _ _ _ head.invariant.0 c.loop-test.false (search rules) head.invariant.3,
     )
 
 pub put-ranks-spec : {M : Type 1} → statement M

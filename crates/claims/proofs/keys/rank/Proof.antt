@@ -4,17 +4,17 @@ use Prim.Native.Nat.{◌-◌, ◌≤◌}
 use mathlib.Core.Path.{◌≡◌, refl}
 use mathlib.Core.Logic.{⊎_elim}
 use native.Mathlib.Omega.{arith}
-use Rattle.claims.specs.code.Keys.{below, partsMost}
+use Rattle.claims.specs.code.Keys.{below, parts_most}
 use Rattle.claims.proofs.KeyLaws.{rank-more, rank_same}
 use borrow.Author.Rules.{rules}
 use Rattle.claims.proofs.keys.rank.Statement.{statement}
 use Rattle.claims.proofs.keys.rank.Tie as tie
 
 abbrev invariant-loop : tie.invariant-loop
-invariant-loop parts x r₀ j₀ r j = (j ≤ partsMost) × (r ≤ j) × (r ≡ below j parts x)
+invariant-loop parts x r₀ j₀ r j = (j ≤ parts_most) × (r ≤ j) × (r ≡ below j parts x)
 
 abbrev decreases-loop : tie.decreases-loop
-decreases-loop parts x r₀ j₀ r j = partsMost - j
+decreases-loop parts x r₀ j₀ r j = parts_most - j
 
 loop-holds : tie.Need-loop-init invariant-loop decreases-loop
 unfolding below
@@ -31,7 +31,7 @@ loop-again c =
 returns : tie.Need-returns invariant-loop decreases-loop
 returns c =
     let loop = c.before.loop in
-    let done : loop.j ≡ partsMost = omega (arith, loop.invariant.0, c.loop-test.false) in
+    let done : loop.j ≡ parts_most = omega (arith, loop.invariant.0, c.loop-test.false) in
     (rw done at loop.invariant.2, omega (arith, loop.invariant.1))
 
 pub rank-spec : {M : Type 1} → statement M

@@ -2,12 +2,12 @@
 use native.Mathlib.Omega.{arith}
 use Rattle.numbers.proofs.NumberLaws.{put_then, length-bytes}
 use borrow.Author.Rules.{rules}
-use Rattle.clocks.specs.Places.{tripleBytes}
+use Rattle.clocks.specs.Places.{triple_bytes}
 use Rattle.clocks.proofs.place.put_triple.Statement.{statement}
 use Rattle.clocks.proofs.place.put_triple.Tie as tie
 
 returns : tie.Need-returns
-unfolding tripleBytes
+unfolding triple_bytes
 returns c =
     let at-3 = c.before.before in
     let at-2 = at-3.before.before.before.before in

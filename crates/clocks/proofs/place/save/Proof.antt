@@ -1,8 +1,8 @@
 -- `clocks::place::save` meets its contract: without a flag the new triple is all three; with it, the place's three triples fit (`place-three`).
 use borrow.Author.Rules.{rules}
 use Rattle.clocks.specs.Clocks.{saving}
-use Rattle.clocks.specs.Places.{threeAt}
-use Rattle.clocks.proofs.PlaceLaws.{at-nothing, at-three, place-three}
+use Rattle.clocks.specs.Places.{three_at}
+use Rattle.clocks.proofs.PlaceLaws.{at_nothing, at_three, place-three}
 use Rattle.clocks.proofs.place.save.Statement.{statement}
 use Rattle.clocks.proofs.place.save.Tie as tie
 
@@ -10,7 +10,7 @@ returns : tie.Need-returns
 unfolding saving
 returns c =
     let at-if = c.before.before.before.before in
-    rw (at-nothing _ _ _ at-if.before.get32.ensures.0 at-if.if1.true) c.before.before.put_three.ensures
+    rw (at_nothing _ _ _ at-if.before.get32.ensures.0 at-if.if1.true) c.before.before.put_three.ensures
 
 further-ahead-requires : tie.Need-further-ahead-requires
 further-ahead-requires c κs =
@@ -27,13 +27,13 @@ further-behind-requires c κs =
     (rw c.get-triple2.ensures fit.2, pre.2)
 
 returns-2 : tie.Need-returns-2
-unfolding saving threeAt
+unfolding saving three_at
 returns-2 c =
     let at-put = c.before.before in
     let at-behind = at-put.before.before in
     let at_ahead = at-behind.before.before.before in
     let at-if = at_ahead.before.before.before in
-    rw (at-three _ _ _ at-if.before.get32.ensures.0 at-if.if1.false, ← at_ahead.before.get-triple.ensures, ← at-behind.before.get-triple2.ensures, ← at_ahead.further-ahead.ensures, ← at-behind.further-behind.ensures)
+    rw (at_three _ _ _ at-if.before.get32.ensures.0 at-if.if1.false, ← at_ahead.before.get-triple.ensures, ← at-behind.before.get-triple2.ensures, ← at_ahead.further-ahead.ensures, ← at-behind.further-behind.ensures)
     at-put.put-three2.ensures
 
 pub save-spec : {M : Type 1} → statement M

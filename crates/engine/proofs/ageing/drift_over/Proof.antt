@@ -1,8 +1,8 @@
--- `engine::ageing::drift_over` meets its contract: each product is below 2^58, and both numbers together are the product of d and r (`drift-split`).
+-- `engine::ageing::drift_over` meets its contract: each product is below 2^58, and both numbers together are the product of d and r (`drift_split`).
 use Prim.Native.Nat.{◌*◌, ◌/◌, ◌%◌, ◌≤◌}
 use native.Mathlib.Nat.{mul-le-mul_left}
 use native.Mathlib.Omega.{arith}
-use Rattle.engine.proofs.AgeLaws.{drift-split}
+use Rattle.engine.proofs.AgeLaws.{drift_split}
 use Rattle.engine.proofs.ageing.drift_over.Statement.{statement}
 use Rattle.engine.proofs.ageing.drift_over.Tie as tie
 
@@ -23,7 +23,7 @@ add-t7 : tie.Need-overflow-add-t7
 add-t7 c = omega (arith, high c, low c)
 
 returns : tie.Need-returns
-returns c = (drift-split c.args.r c.args.d, omega arith, omega (arith, high c, low c))
+returns c = (drift_split c.args.r c.args.d, omega arith, omega (arith, high c, low c))
 
 pub drift-over-spec : {M : Type 1} → statement M
 drift-over-spec = tie.close (tie.spec mul_low mul-t5 add-t7 returns)

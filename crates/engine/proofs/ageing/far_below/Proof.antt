@@ -6,19 +6,19 @@ use native.Mathlib.Omega.{arith}
 use lib.Dec.{ltb}
 use Rattle.numbers.specs.Numbers.{num}
 use Rattle.predicates.specs.Lists.{all_below}
-use Rattle.state.specs.Model.{lastWhole}
-use Rattle.state.specs.Layout.{datumPlace, rightIn, datumAt, heldCount}
-use Rattle.state.proofs.StateLaws.{held-count-le}
+use Rattle.state.specs.Model.{last_whole}
+use Rattle.state.specs.Layout.{datum_place, right_in, datum_at, held_count}
+use Rattle.state.proofs.StateLaws.{held_count_le}
 use Rattle.state.proofs.FormLoops.{below-turn}
-use Rattle.engine.specs.code.Ageing.{farBelow}
-use Rattle.engine.proofs.WidenLaws.{held-at}
+use Rattle.engine.specs.code.Ageing.{far_below}
+use Rattle.engine.proofs.WidenLaws.{held_at_lem}
 use borrow.Author.Rules.{rules}
 use Rattle.engine.proofs.ageing.far_below.Statement.{statement}
 use Rattle.engine.proofs.ageing.far_below.Tie as tie
 
 abbrev invariant-loop : tie.invariant-loop
 invariant-loop s hi n ok₀ i₀ ok i =
-    (i ≤ n) × (n ≡ heldCount s) × (n ≤ 16) × (ok ≡ all_below i (λ k. ltb (num (datumPlace k + rightIn) 8 s + hi) (lastWhole - 1)))
+    (i ≤ n) × (n ≡ held_count s) × (n ≤ 16) × (ok ≡ all_below i (λ k. ltb (num (datum_place k + right_in) 8 s + hi) (last_whole - 1)))
 
 abbrev decreases-loop : tie.decreases-loop
 decreases-loop s hi n ok₀ i₀ ok i = n - i
@@ -27,14 +27,14 @@ loop-holds : tie.Need-loop-init invariant-loop decreases-loop
 unfolding all_below
 loop-holds c =
     let a = c.before.before in
-    (search rules, c.get32.ensures.0, omega (arith, c.get32.ensures.0, held-count-le _ a.requires.1), refl)
+    (search rules, c.get32.ensures.0, omega (arith, c.get32.ensures.0, held_count_le _ a.requires.1), refl)
 
 add_ok : tie.Need-overflow-add-ok invariant-loop decreases-loop
-unfolding datumAt
+unfolding datum_at
 add_ok c =
     let head = c.before.before in
     let a = head.before.before.before in
-    omega (arith, (held-at _ a.requires.1 head.loop.i (omega arith)).below, c.get64.ensures.0)
+    omega (arith, (held_at_lem _ a.requires.1 head.loop.i (omega arith)).below, c.get64.ensures.0)
 
 loop-again : tie.Need-loop-preserved invariant-loop decreases-loop
 loop-again c =
@@ -42,11 +42,11 @@ loop-again c =
     (search rules, head.invariant.1, head.invariant.2, below-turn _ head.i head.ok _ head.invariant.3 (rw c.get64.ensures.0))
 
 returns : tie.Need-returns invariant-loop decreases-loop
-unfolding farBelow
+unfolding far_below
 returns c =
     let head = c.before.loop in
     let a = c.before.before.before.before.args in
-    let done : head.i ≡ heldCount a.s.now = omega arith in
+    let done : head.i ≡ held_count a.s.now = omega arith in
     rw done at head.invariant.3
 
 pub far-below-spec : {M : Type 1} → statement M

@@ -2,7 +2,7 @@
 use mathlib.Core.Path.{refl, sym}
 use Rattle.state.specs.Refusal.{after}
 use Rattle.engine.specs.Calls.{Setup, setup}
-use Rattle.engine.proofs.SetUpLaws.{own-refused, epoch-refused, drift-refused, reading-refused, set-up-taken}
+use Rattle.engine.proofs.SetUpLaws.{own-refused, epoch-refused, drift-refused, reading-refused, set_up-taken}
 use borrow.Author.Rules.{rules}
 use Rattle.engine.proofs.set_up.set_up.Statement.{statement}
 use Rattle.engine.proofs.set_up.set_up.Tie as tie
@@ -40,7 +40,7 @@ returns-5 c =
     let at-if3 = at-if4.before in
     let at-if2 = at-if3.before in
     let u = given at-if2.before.before.before in
-    (sym (set-up-taken u at-if2.before.if1.false at-if2.if2.false at-if3.if3.false at-if4.if4.false), at-put.put-fresh.ensures)
+    (sym (set_up-taken u at-if2.before.if1.false at-if2.if2.false at-if3.if3.false at-if4.if4.false), at-put.put-fresh.ensures)
 
 pub set-up-spec : {M : Type 1} → statement M
 set-up-spec =

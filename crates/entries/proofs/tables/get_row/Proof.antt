@@ -4,7 +4,7 @@ use Prim.Native.Nat.{◌+◌, ◌*◌, ◌-◌, ◌≤◌}
 use mathlib.Core.Path.{◌∙◌}
 use native.Mathlib.Omega.{arith}
 use lib.ListN.{length}
-use Rattle.entries.proofs.StandingLaws.{array-room, row_read, row_copied}
+use Rattle.entries.proofs.StandingLaws.{array_room, row_read, row_copied}
 use borrow.Author.Rules.{rules}
 use Rattle.entries.proofs.tables.get_row.Statement.{statement}
 use Rattle.entries.proofs.tables.get_row.Tie as tie
@@ -19,7 +19,7 @@ returns c =
 room : (c : tie.Else1) → let a = c.before.before.before.before.args in (a.i - a.first) * 16 + 16 ≤ length a.masks.now
 room c =
     let a = c.before.before.before.before in
-    array-room a.args.first a.args.s.now a.args.masks.now a.args.i c.if1.false a.requires.1
+    array_room a.args.first a.args.s.now a.args.masks.now a.args.i c.if1.false a.requires.1
 
 mul-from : tie.Need-overflow-mul-from
 mul-from c = omega (arith, room c)

@@ -9,8 +9,8 @@ use Rattle.predicates.specs.Predicates.{normal}
 use Rattle.predicates.proofs.PredicateLaws.{normal-some}
 use Rattle.predicates.proofs.PlaceLaws.{length-normal}
 use Rattle.predicates.proofs.SumLaws.{padded-front}
-use Rattle.state.specs.code.Tables.{tableFrom, entriesIn}
-use Rattle.state.proofs.RowLaws.{table-less}
+use Rattle.state.specs.code.Tables.{table_from, entries_in}
+use Rattle.state.proofs.RowLaws.{table_less}
 use Rattle.entries.specs.Entries.{explained, learn}
 use Rattle.entries.proofs.TableLaws.{explained-normal}
 use borrow.Author.Rules.{rules}
@@ -29,10 +29,10 @@ made c =
     (rw (c.normal-form.ensures.0.0, c.normal-form.ensures.1) (padded-front _ _ _)) ∙ ap normal (summed c.before.before.before.before.before.before.before.before.before)
 
 tested : (c : tie.After-explained) → let a = c.before.before.before.before.before.before.before.before.before.before.before.before.before.before.args in
-    explained (entriesIn a.n (tableFrom a.first a.s.now a.counts.now a.masks.now)) (normal (a.q.now ++ a.p.now)) ≡ c.explained.result
+    explained (entries_in a.n (table_from a.first a.s.now a.counts.now a.masks.now)) (normal (a.q.now ++ a.p.now)) ≡ c.explained.result
 tested c =
     let a = c.before.before.before.before.before.before.before.before.before.before.before.before.before.before.args in
-    let es = entriesIn a.n (tableFrom a.first a.s.now a.counts.now a.masks.now) in
+    let es = entries_in a.n (table_from a.first a.s.now a.counts.now a.masks.now) in
     explained-normal _ _ ∙ ap (λ l. explained es l) (sym (summed c.before.before.before.before.before.before)) ∙ sym c.explained.ensures
 
 slice-aggregate-explained : tie.Need-slice-aggregate-explained
@@ -44,13 +44,13 @@ slice-aggregate-explained c =
 explained-requires : tie.Need-explained-requires
 explained-requires c κs =
     let a = c.before.before.before.before.before.before.before.before.before.before.before.before.before in
-    ((a.requires.0.0, a.requires.0.1), (table-less 16 _ _ _ _ a.requires.1.0 (omega arith), a.requires.1.1.1))
+    ((a.requires.0.0, a.requires.0.1), (table_less 16 _ _ _ _ a.requires.1.0 (omega arith), a.requires.1.1.1))
 
 returns : tie.Need-returns
 unfolding learn
 returns c =
     let a = c.before.before.before.before.before.before.before.before.before.before.before.before.before.before.before in (
-      (search rules, search rules, table-less 16 _ _ _ _ a.requires.1.0 (omega arith), a.requires.1.1.1, (λ i h f. refl), refl, refl, refl),
+      (search rules, search rules, table_less 16 _ _ _ _ a.requires.1.0 (omega arith), a.requires.1.1.1, (λ i h f. refl), refl, refl, refl),
       rw (tested c.before ∙ c.if1.true),
     )
 
@@ -64,7 +64,7 @@ put-last-requires c κs =
     let at-normal = c.before.before.before.before.before in
     let a = at-normal.before.before.before.before.before.before.before.before.before.before.before.before.before.before.before.before.before in
     let sum = a.args.q.now ++ a.args.p.now in
-    let es = entriesIn a.args.n (tableFrom a.args.first a.args.s.now a.args.counts.now a.args.masks.now) in
+    let es = entries_in a.args.n (table_from a.args.first a.args.s.now a.args.counts.now a.args.masks.now) in
     let long = ap length (made at-normal) in
     let count = length-append a.args.q.now a.args.p.now in (
       a.requires.0,
@@ -86,7 +86,7 @@ returns-2 c =
     let done = at-put.put_last.ensures in
     let kept = done.0 in
     let a = at-put.before.before.before.before.before.before.before.before.before.before.before.before.before.before.before.before.before.before.before.before.before.before.before.args in
-    let es = entriesIn a.n (tableFrom a.first a.s.now a.counts.now a.masks.now) in (
+    let es = entries_in a.n (table_from a.first a.s.now a.counts.now a.masks.now) in (
       (omega arith, omega arith, kept.0, kept.1, kept.2, kept.3, kept.4, kept.5),
       done.1 ∙ ap (λ l. learn l es) (made at-put.before.before.before.before.before.before),
     )

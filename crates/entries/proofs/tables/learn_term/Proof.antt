@@ -1,7 +1,7 @@
 -- `entries::tables::learn_term` meets its contract: an entry that implies it is there, or `put_last` does the rest.
 use mathlib.Core.Path.{refl, sym, ◌∙◌}
 use native.Mathlib.Omega.{arith}
-use Rattle.state.proofs.RowLaws.{table-less}
+use Rattle.state.proofs.RowLaws.{table_less}
 use Rattle.entries.specs.Entries.{learn}
 use borrow.Author.Rules.{rules}
 use Rattle.entries.proofs.tables.learn_term.Statement.{statement}
@@ -10,13 +10,13 @@ use Rattle.entries.proofs.tables.learn_term.Tie as tie
 explained-requires : tie.Need-explained-requires
 explained-requires c κs =
     let a = c.before.before.before.before.before.before.before.before in
-    ((a.requires.0.0, a.requires.0.1), (table-less 16 _ _ _ _ a.requires.1.0 (omega arith), a.requires.1.1.1))
+    ((a.requires.0.0, a.requires.0.1), (table_less 16 _ _ _ _ a.requires.1.0 (omega arith), a.requires.1.1.1))
 
 returns : tie.Need-returns
 unfolding learn
 returns c =
     let a = c.before.before.before.before.before.before.before.before.before.before in (
-      (search rules, search rules, table-less 16 _ _ _ _ a.requires.1.0 (omega arith), a.requires.1.1.1, (λ i h f. refl), refl, refl, refl),
+      (search rules, search rules, table_less 16 _ _ _ _ a.requires.1.0 (omega arith), a.requires.1.1.1, (λ i h f. refl), refl, refl, refl),
       rw (sym c.before.explained.ensures ∙ c.if1.true),
     )
 

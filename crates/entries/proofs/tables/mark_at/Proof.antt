@@ -3,23 +3,23 @@ use mathlib.Core.Path.{refl, ap, ◌∙◌}
 use native.Mathlib.Omega.{arith}
 use Rattle.predicates.specs.code.Marks.{singles}
 use Rattle.state.specs.Layout.{zeros}
-use Rattle.state.proofs.StateLaws.{entry-count-le}
+use Rattle.state.proofs.StateLaws.{entry_count_le}
 use Rattle.entries.proofs.StandingLaws.{mark-read}
 use borrow.Author.Rules.{rules}
 use Rattle.entries.proofs.tables.mark_at.Statement.{statement}
 use Rattle.entries.proofs.tables.mark_at.Tie as tie
 
 mul-get-words : tie.Need-overflow-mul-get-words
-mul-get-words c = omega (arith, entry-count-le _ c.before.requires.1)
+mul-get-words c = omega (arith, entry_count_le _ c.before.requires.1)
 
 add-get-words : tie.Need-overflow-add-get-words
-add-get-words c = omega (arith, entry-count-le _ c.before.requires.1)
+add-get-words c = omega (arith, entry_count_le _ c.before.requires.1)
 
 add-get-words-2 : tie.Need-overflow-add-get-words-2
-add-get-words-2 c = omega (arith, entry-count-le _ c.before.requires.1)
+add-get-words-2 c = omega (arith, entry_count_le _ c.before.requires.1)
 
 get-words-requires : tie.Need-get-words-requires
-get-words-requires c κs = (search rules, omega (arith, entry-count-le _ c.before.before.requires.1))
+get-words-requires c κs = (search rules, omega (arith, entry_count_le _ c.before.before.requires.1))
 
 returns : tie.Need-returns
 returns c =

@@ -5,7 +5,7 @@ use mathlib.Core.List.{◌++◌}
 use native.Mathlib.Omega.{arith}
 use borrow.Author.Tests.{not-true}
 use Rattle.predicates.specs.Predicates.{implies}
-use Rattle.state.specs.code.Tables.{entryMasks}
+use Rattle.state.specs.code.Tables.{entry_masks}
 use Rattle.state.proofs.RowLaws.{row-empty}
 use Rattle.entries.proofs.TableLaws.{row_apart}
 use Rattle.entries.proofs.StandingLaws.{row-taken, length_taken, has-taken}
@@ -26,7 +26,7 @@ cast-count c =
 returns-2 : tie.Need-returns-2
 returns-2 c =
     let a = c.before.before.before.before.before.before.before.before.before.before.args in
-    rw (row-empty 16 a.i a.counts.now (entryMasks a.first a.s.now ++ a.masks.now) c.if2.true)
+    rw (row-empty 16 a.i a.counts.now (entry_masks a.first a.s.now ++ a.masks.now) c.if2.true)
 
 array-share-prefix-row : tie.Need-array-share-prefix-row
 array-share-prefix-row c =

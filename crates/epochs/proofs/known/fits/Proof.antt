@@ -8,17 +8,17 @@ use lib.Dec.{leb}
 use lib.ListN.{drop}
 use Rattle.predicates.specs.Lists.{all}
 use Rattle.predicates.proofs.LoopLaws.{all-turn, all_done}
-use Rattle.epochs.specs.Epochs.{epochsIn, epochMost, epochsMost}
-use Rattle.epochs.proofs.EpochLaws.{length-known, getD-known}
+use Rattle.epochs.specs.Epochs.{epochs_in, epoch_most, epochs_most}
+use Rattle.epochs.proofs.EpochLaws.{length_known, get_or_known}
 use borrow.Author.Rules.{rules}
 use Rattle.epochs.proofs.known.fits.Statement.{statement}
 use Rattle.epochs.proofs.known.fits.Tie as tie
 
 abbrev invariant-loop : tie.invariant-loop
-invariant-loop s at ok₀ i₀ ok i = ok && all (λ e. leb e epochMost) (drop i (epochsIn at s)) ≡ all (λ e. leb e epochMost) (epochsIn at s)
+invariant-loop s at ok₀ i₀ ok i = ok && all (λ e. leb e epoch_most) (drop i (epochs_in at s)) ≡ all (λ e. leb e epoch_most) (epochs_in at s)
 
 abbrev decreases-loop : tie.decreases-loop
-decreases-loop s at ok₀ i₀ ok i = epochsMost - i
+decreases-loop s at ok₀ i₀ ok i = epochs_most - i
 
 loop-holds : tie.Need-loop-init invariant-loop decreases-loop
 loop-holds c = refl
@@ -27,25 +27,25 @@ loop-again : tie.Need-loop-preserved invariant-loop decreases-loop
 loop-again c =
     let head = c.before.before.loop in
     let a = c.before.before.before in
-    let more : head.i < epochsMost = c.before.loop-test.true in
-    let known = length-known a.args.at a.args.s.now in
+    let more : head.i < epochs_most = c.before.loop-test.true in
+    let known = length_known a.args.at a.args.s.now in
     all-turn
-    (λ e. leb e epochMost)
-    (epochsIn a.args.at a.args.s.now)
+    (λ e. leb e epoch_most)
+    (epochs_in a.args.at a.args.s.now)
     head.i
     head.ok
     _
     _
     (omega (arith, known))
-    (ap (λ (x : ℕ). leb x epochMost) (getD-known a.args.at head.i a.args.s.now more))
+    (ap (λ (x : ℕ). leb x epoch_most) (get_or_known a.args.at head.i a.args.s.now more))
     head.invariant
 
 returns : tie.Need-returns invariant-loop decreases-loop
 returns c =
     let head = c.before.loop in
     let a = c.before.before in
-    let known = length-known a.args.at a.args.s.now in
-    let none = all_done (λ e. leb e epochMost) (epochsIn a.args.at a.args.s.now) head.i (omega (arith, known, c.loop-test.false)) in
+    let known = length_known a.args.at a.args.s.now in
+    let none = all_done (λ e. leb e epoch_most) (epochs_in a.args.at a.args.s.now) head.i (omega (arith, known, c.loop-test.false)) in
     sym (and-true head.ok) ∙ ap (λ (b : Bool). head.ok && b) (sym none) ∙ head.invariant
 
 pub fits-spec : {M : Type 1} → statement M

@@ -7,10 +7,10 @@ use mathlib.Core.Bool.{not, ◌&&◌}
 use lib.Dec.{eqb, ltb}
 use lib.ListN.{length, get_or, take}
 use lib.Seq.{take_all}
-use Rattle.names.specs.Sets.{setUnion}
-use Rattle.epochs.specs.Epochs.{epochsIn, identifierOf, epochOf, older, spoken}
-use Rattle.epochs.specs.code.Known.{bitWhere}
-use Rattle.epochs.proofs.EpochLaws.{length-known, older-none, risen-turn, late-turn}
+use Rattle.names.specs.Sets.{set_union}
+use Rattle.epochs.specs.Epochs.{epochs_in, identifier_of, epoch_of, older, spoken}
+use Rattle.epochs.specs.code.Known.{bit_where}
+use Rattle.epochs.proofs.EpochLaws.{length_known, older-none, risen-turn, late-turn}
 use borrow.Author.Rules.{rules}
 use Rattle.epochs.proofs.known.hear.Statement.{statement}
 use Rattle.epochs.proofs.known.hear.Tie as tie
@@ -18,8 +18,8 @@ use Rattle.epochs.proofs.known.hear.Tie as tie
 abbrev invariant-loop : tie.invariant-loop
 invariant-loop s at own words risen₀ late₀ i₀ risen late i =
     (i ≤ length words)
-    × (risen ≡ older (epochsIn at s) (spoken own (take i words) (epochsIn at s)))
-    × (late ≡ older (spoken own (take i words) (epochsIn at s)) (epochsIn at s))
+    × (risen ≡ older (epochs_in at s) (spoken own (take i words) (epochs_in at s)))
+    × (late ≡ older (spoken own (take i words) (epochs_in at s)) (epochs_in at s))
 
 abbrev decreases-loop : tie.decreases-loop
 decreases-loop s at own words risen₀ late₀ i₀ risen late i = length words - i
@@ -28,7 +28,7 @@ loop-holds : tie.Need-loop-init invariant-loop decreases-loop
 unfolding spoken
 loop-holds c =
     let a = c.before.before.args in
-    let none = older-none (epochsIn a.at a.s.now) in
+    let none = older-none (epochs_in a.at a.s.now) in
     (omega arith, sym none, sym none)
 
 epoch-of-requires : tie.Need-epoch-of-requires invariant-loop decreases-loop
@@ -45,15 +45,15 @@ loop-again c =
     let at = inside.before.loop in
     let a = inside.before.before.before.before in
     let more = inside.loop-test.true in
-    let ks = epochsIn a.args.at a.args.s.now in
-    let long = length-known a.args.at a.args.s.now in
+    let ks = epochs_in a.args.at a.args.s.now in
+    let long = length_known a.args.at a.args.s.now in
     let known = at-epoch.epoch-of.ensures.0 in (
       omega (arith, more),
       c.before.before.union.ensures
-          ∙ ap₂ setUnion at.invariant.1 (at-bit.bit-where.ensures ∙ ap (λ (k : ℕ). bitWhere (not (eqb (identifierOf (get_or a.args.words.now at.i 0)) a.args.own) && ltb k (epochOf (get_or a.args.words.now at.i 0))) (identifierOf (get_or a.args.words.now at.i 0))) known)
+          ∙ ap₂ set_union at.invariant.1 (at-bit.bit-where.ensures ∙ ap (λ (k : ℕ). bit_where (not (eqb (identifier_of (get_or a.args.words.now at.i 0)) a.args.own) && ltb k (epoch_of (get_or a.args.words.now at.i 0))) (identifier_of (get_or a.args.words.now at.i 0))) known)
           ∙ sym (risen-turn a.args.own a.args.words.now ks a.requires.1 long at.i more),
       c.union2.ensures
-          ∙ ap₂ setUnion at.invariant.2 (c.before.bit-where2.ensures ∙ ap (λ (k : ℕ). bitWhere (not (eqb (identifierOf (get_or a.args.words.now at.i 0)) a.args.own) && ltb (epochOf (get_or a.args.words.now at.i 0)) k) (identifierOf (get_or a.args.words.now at.i 0))) known)
+          ∙ ap₂ set_union at.invariant.2 (c.before.bit-where2.ensures ∙ ap (λ (k : ℕ). bit_where (not (eqb (identifier_of (get_or a.args.words.now at.i 0)) a.args.own) && ltb (epoch_of (get_or a.args.words.now at.i 0)) k) (identifier_of (get_or a.args.words.now at.i 0))) known)
           ∙ sym (late-turn a.args.own a.args.words.now ks a.requires.1 long at.i more),
     )
 

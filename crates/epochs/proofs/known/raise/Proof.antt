@@ -10,15 +10,15 @@ use lib.ListN.{length, get_or, take}
 use lib.Seq.{take_all}
 use Rattle.numbers.specs.Numbers.{put}
 use Rattle.numbers.proofs.NumberLaws.{length-put}
-use Rattle.epochs.specs.Epochs.{epochsIn, identifierOf, epochOf, raised, spoken}
-use Rattle.epochs.proofs.EpochLaws.{put-known, raise-write}
+use Rattle.epochs.specs.Epochs.{epochs_in, identifier_of, epoch_of, raised, spoken}
+use Rattle.epochs.proofs.EpochLaws.{put_known, raise-write}
 use borrow.Author.Rules.{rules}
 use Rattle.epochs.proofs.known.raise.Statement.{statement}
 use Rattle.epochs.proofs.known.raise.Tie as tie
 
 abbrev invariant-loop : tie.invariant-loop
 invariant-loop s₀ at own words i₀ s i =
-    (i ≤ length words) × (length s ≡ length s₀) × (s ≡ put at (raised (epochsIn at s₀) (spoken own (take i words) (epochsIn at s₀))) s₀)
+    (i ≤ length words) × (length s ≡ length s₀) × (s ≡ put at (raised (epochs_in at s₀) (spoken own (take i words) (epochs_in at s₀))) s₀)
 
 abbrev decreases-loop : tie.decreases-loop
 decreases-loop s₀ at own words i₀ s i = length words - i
@@ -27,7 +27,7 @@ loop-holds : tie.Need-loop-init invariant-loop decreases-loop
 unfolding spoken
 loop-holds c =
     let a = c.before.before in
-    (omega arith, refl, put-known a.args.at a.args.s.now a.requires.0)
+    (omega arith, refl, put_known a.args.at a.args.s.now a.requires.0)
 
 epoch-of-requires : tie.Need-epoch-of-requires invariant-loop decreases-loop
 epoch-of-requires c κs =
@@ -59,7 +59,7 @@ loop-again c =
     let more = inside.loop-test.true in
     let write = raise-write a.args.own a.args.at a.args.words.now a.args.s.now at.s a.requires.1 a.requires.0 at.i more at.invariant.2 in
     let w = get_or a.args.words.now at.i 0 in
-    let read = ap (λ (k : ℕ). not (eqb (identifierOf w) a.args.own) && ltb k (epochOf w)) c.before.epoch-of.ensures.0 in
+    let read = ap (λ (k : ℕ). not (eqb (identifier_of w) a.args.own) && ltb k (epoch_of w)) c.before.epoch-of.ensures.0 in
     let new =
     ⊎_elim (λ x. write c.if1.s true (sym x.0.taken ∙ read) x.1) (λ x. write c.if1.s false (sym x.0.left ∙ read) x.1) c.if1.branch in
     (omega (arith, more), ap length new ∙ length-put a.args.at _ a.args.s.now, new)

@@ -5,7 +5,7 @@ use mathlib.Core.Path.{◌≡◌, refl, sym, ap, ◌∙◌}
 use native.Mathlib.Omega.{arith}
 use lib.ListN.{length, replicate, length-set}
 use lib.Seq.{sets}
-use Rattle.predicates.proofs.SumLaws.{zeros-turn, zeros-end}
+use Rattle.predicates.proofs.SumLaws.{zeros-turn, zeros_end}
 use borrow.Author.Rules.{rules}
 use Rattle.epochs.proofs.withdraw.clear.Statement.{statement}
 use Rattle.epochs.proofs.withdraw.clear.Tie as tie
@@ -29,7 +29,7 @@ returns c =
     let head = c.before.loop in
     let a = c.before.before.args in
     let all : a.n - 0 ≡ a.n = omega arith in
-    sym (zeros-end head.terms head.i _ c.loop-test.false) ∙ head.invariant.1 ∙ ap (λ (k : ℕ). sets a.terms.now 0 (replicate k 0)) all
+    sym (zeros_end head.terms head.i _ c.loop-test.false) ∙ head.invariant.1 ∙ ap (λ (k : ℕ). sets a.terms.now 0 (replicate k 0)) all
 
 pub clear_spec : {M : Type 1} → statement M
 clear_spec =

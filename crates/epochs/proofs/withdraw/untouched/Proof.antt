@@ -6,7 +6,7 @@ use lib.Dec.{eqb}
 use lib.ListN.{length, drop}
 use Rattle.names.specs.code.Parts.{shared}
 use Rattle.predicates.specs.Lists.{all}
-use Rattle.predicates.proofs.LoopLaws.{all_here, all-next, all_done}
+use Rattle.predicates.proofs.LoopLaws.{all_here, all_next, all_done}
 use borrow.Author.Tests.{eq-eqb, ne_eqb}
 use borrow.Author.Rules.{rules}
 use Rattle.epochs.proofs.withdraw.untouched.Statement.{statement}
@@ -31,7 +31,7 @@ loop-again : tie.Need-loop-preserved invariant-loop decreases-loop
 loop-again c =
     let head = c.before.before.before.before.loop in
     let e = c.before.shared.ensures in
-    head.invariant ∙ all-next (λ t. eqb (shared t _) 0) _ head.i c.before.before.before.loop-test.true (eq-eqb _ 0 (sym e ∙ c.if1.false))
+    head.invariant ∙ all_next (λ t. eqb (shared t _) 0) _ head.i c.before.before.before.loop-test.true (eq-eqb _ 0 (sym e ∙ c.if1.false))
 
 returns-2 : tie.Need-returns-2 invariant-loop decreases-loop
 returns-2 c = sym (c.before.loop.invariant ∙ all_done (λ t. eqb (shared t _) 0) _ c.before.loop.i c.loop-test.false)

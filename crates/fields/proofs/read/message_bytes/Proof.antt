@@ -1,6 +1,6 @@
 -- `fields::read::message_bytes` meets its contract: turn i stores the four bytes of word i behind those of the words before it.
 -- Invariant: out is what it was, with the bytes of the first i words at its front. Measure: the words still to store.
--- The mathematics is `bytesOf-next` of `numbers`. Assumes nothing.
+-- The mathematics is `bytes_of_next` of `numbers`. Assumes nothing.
 use Prim.Native.Nat.{◌*◌, ◌-◌, ◌≤◌}
 use mathlib.Core.Path.{◌≡◌, refl}
 use native.Mathlib.Nat.{zero-add}
@@ -8,7 +8,7 @@ use native.Mathlib.Omega.{arith}
 use lib.ListN.{length, take}
 use lib.Seq.{take-length}
 use Rattle.numbers.specs.Numbers.{put, bytes_of}
-use Rattle.numbers.proofs.NumberLaws.{bytesOf-next}
+use Rattle.numbers.proofs.NumberLaws.{bytes_of_next}
 use borrow.Author.Rules.{rules}
 use Rattle.fields.proofs.read.message_bytes.Statement.{statement}
 use Rattle.fields.proofs.read.message_bytes.Tie as tie
@@ -29,7 +29,7 @@ loop-again : tie.Need-loop-preserved invariant-loop decreases-loop
 loop-again c =
     let head = c.before.before.before.before.before.before.loop in
     let stored = rw (← (zero-add (head.i * 4))) at c.before.before.put-num.ensures in
-    (search rules, search rules, bytesOf-next 0 head.i _ _ _ _ (omega arith) head.invariant.2 stored)
+    (search rules, search rules, bytes_of_next 0 head.i _ _ _ _ (omega arith) head.invariant.2 stored)
 
 returns : tie.Need-returns invariant-loop decreases-loop
 returns c =

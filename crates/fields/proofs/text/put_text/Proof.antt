@@ -1,6 +1,6 @@
 -- `fields::text::put_text` meets its contract: turn i stores byte i of the text.
 -- Invariant: what is stored, with the text from i on stored behind it, is the whole. Measure: the bytes still to store.
--- The mathematics is `copy-next` of `proofs.DecimalLaws`. Assumes nothing.
+-- The mathematics is `copy_next` of `proofs.DecimalLaws`. Assumes nothing.
 use Prim.Native.Nat.{◌+◌, ◌-◌, ◌≤◌}
 use mathlib.Core.Path.{◌≡◌, refl, sym, ◌∙◌}
 use native.Mathlib.Nat.{add-zero}
@@ -8,7 +8,7 @@ use native.Mathlib.Omega.{arith}
 use lib.ListN.{length, drop, length-set}
 use lib.Seq.{drop-length}
 use Rattle.numbers.specs.Numbers.{put}
-use Rattle.fields.proofs.DecimalLaws.{copy-next}
+use Rattle.fields.proofs.DecimalLaws.{copy_next}
 use borrow.Author.Rules.{rules}
 use Rattle.fields.proofs.text.put_text.Statement.{statement}
 use Rattle.fields.proofs.text.put_text.Tie as tie
@@ -27,7 +27,7 @@ loop-again : tie.Need-loop-preserved invariant-loop decreases-loop
 loop-again c =
     let at_head = c.before.before in
     let a = at_head.before.args in
-    let turn = copy-next a.at at_head.loop.i a.text.now at_head.loop.out c.before.loop-test.true in
+    let turn = copy_next a.at at_head.loop.i a.text.now at_head.loop.out c.before.loop-test.true in
     (search rules, simp length-set at_head.loop.invariant.1, sym turn ∙ at_head.loop.invariant.2)
 
 returns : tie.Need-returns invariant-loop decreases-loop

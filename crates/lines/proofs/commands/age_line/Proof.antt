@@ -1,19 +1,19 @@
 -- `lines::commands::age_line` meets its contract: one field ages the state; other fields are a bad line. Assumes nothing.
 use borrow.Author.Tests.{eq-eqb, ne_eqb}
-use Rattle.lines.specs.Lines.{ageLine, badLine}
+use Rattle.lines.specs.Lines.{age_line, bad_line}
 use borrow.Author.Rules.{rules}
 use Rattle.lines.proofs.commands.age_line.Statement.{statement}
 use Rattle.lines.proofs.commands.age_line.Tie as tie
 
 returns : tie.Need-returns
-unfolding ageLine badLine
+unfolding age_line bad_line
 returns c =
     let none = ne_eqb _ _ c.before.before.before.before.if1.true in
     let printed = c.before.before.put-bad.ensures in
     (rw none printed.0, rw none, rw none printed.1)
 
 returns-2 : tie.Need-returns-2
-unfolding ageLine badLine
+unfolding age_line bad_line
 returns-2 c =
     let at-age = c.before.before.before.before.before.before in
     let one = eq-eqb _ _ at-age.before.before.before.if1.false in

@@ -1,20 +1,20 @@
 -- `lines::commands::ask_line` meets its contract: a question with one field is answered, or refused with its number; other fields are a bad line.
 -- Assumes nothing.
 use borrow.Author.Tests.{eq-eqb, ne_eqb}
-use Rattle.lines.specs.Lines.{askLine, askText, answeredText, badLine}
+use Rattle.lines.specs.Lines.{ask_line, ask_text, answered_text, bad_line}
 use borrow.Author.Rules.{rules}
 use Rattle.lines.proofs.commands.ask_line.Statement.{statement}
 use Rattle.lines.proofs.commands.ask_line.Tie as tie
 
 returns : tie.Need-returns
-unfolding askLine askText answeredText badLine
+unfolding ask_line ask_text answered_text bad_line
 returns c =
     let none = ne_eqb _ _ c.before.before.before.before.if1.true in
     let printed = c.before.before.put-bad.ensures in
     (rw none printed.0, rw none printed.1)
 
 returns-2 : tie.Need-returns-2
-unfolding askLine askText answeredText badLine
+unfolding ask_line ask_text answered_text bad_line
 returns-2 c =
     let at_call = c.before.before.before.before.before.before in
     let fits = eq-eqb _ _ at_call.before.before.before.if1.false in
@@ -24,7 +24,7 @@ returns-2 c =
     (rw (fits, ← number, refused) printed.0, rw (fits, ← number, refused) printed.1)
 
 returns-3 : tie.Need-returns-3
-unfolding askLine askText answeredText badLine
+unfolding ask_line ask_text answered_text bad_line
 returns-3 c =
     let at_call = c.before.before.before.before.before.before.before in
     let fits = eq-eqb _ _ at_call.before.before.before.if1.false in

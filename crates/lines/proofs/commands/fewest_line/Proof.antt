@@ -1,20 +1,20 @@
 -- `lines::commands::fewest_line` meets its contract: the question, which has no field, is answered, or refused with its number; other fields are a bad line.
 -- Assumes nothing.
 use borrow.Author.Tests.{eq-eqb, ne_eqb}
-use Rattle.lines.specs.Lines.{fewestLine, fewestAnswer, answeredText, badLine}
+use Rattle.lines.specs.Lines.{fewest_line, fewest_answer, answered_text, bad_line}
 use borrow.Author.Rules.{rules}
 use Rattle.lines.proofs.commands.fewest_line.Statement.{statement}
 use Rattle.lines.proofs.commands.fewest_line.Tie as tie
 
 returns : tie.Need-returns
-unfolding fewestLine fewestAnswer answeredText badLine
+unfolding fewest_line fewest_answer answered_text bad_line
 returns c =
     let none = ne_eqb _ _ c.before.before.before.before.if1.true in
     let printed = c.before.before.put-bad.ensures in
     (rw none printed.0, rw none printed.1)
 
 returns-2 : tie.Need-returns-2
-unfolding fewestLine fewestAnswer answeredText badLine
+unfolding fewest_line fewest_answer answered_text bad_line
 returns-2 c =
     let at_call = c.before.before.before.before.before.before in
     let fits = eq-eqb _ _ at_call.before.before.if1.false in
@@ -24,7 +24,7 @@ returns-2 c =
     (rw (fits, ← number, refused) printed.0, rw (fits, ← number, refused) printed.1)
 
 returns-3 : tie.Need-returns-3
-unfolding fewestLine fewestAnswer answeredText badLine
+unfolding fewest_line fewest_answer answered_text bad_line
 returns-3 c =
     let at_call = c.before.before.before.before.before.before.before in
     let fits = eq-eqb _ _ at_call.before.before.if1.false in

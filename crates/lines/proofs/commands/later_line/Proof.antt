@@ -1,13 +1,13 @@
 -- `lines::commands::later_line` meets its contract: one command word after the other; another word is a bad line. Assumes nothing.
 use mathlib.Core.Path.{sym, ◌∙◌}
-use Rattle.lines.specs.Lines.{laterLine, badLine}
+use Rattle.lines.specs.Lines.{later_line, bad_line}
 use Rattle.lines.proofs.LineLaws.{ask-state, fewest-state}
 use borrow.Author.Rules.{rules}
 use Rattle.lines.proofs.commands.later_line.Statement.{statement}
 use Rattle.lines.proofs.commands.later_line.Tie as tie
 
 returns : tie.Need-returns
-unfolding laterLine
+unfolding later_line
 returns c =
     let at-age = c.before.before.before.before.before.before.before in
     let age = sym at-age.before.same.ensures ∙ at-age.if1.true in
@@ -15,7 +15,7 @@ returns c =
     (rw age told.0, rw age told.1, rw age told.2)
 
 returns-2 : tie.Need-returns-2
-unfolding laterLine
+unfolding later_line
 returns-2 c =
     let at-get = c.before.before.before.before.before.before.before in
     let at-age = at-get.before.before.before in
@@ -25,7 +25,7 @@ returns-2 c =
     (rw (age, get) told.0, rw (age, get) told.1, rw (age, get) told.2)
 
 returns-3 : tie.Need-returns-3
-unfolding laterLine
+unfolding later_line
 returns-3 c =
     let at-ask = c.before.before.before.before.before in
     let at-get = at-ask.before.before.before in
@@ -37,7 +37,7 @@ returns-3 c =
     (rw (age, get, ask) told.0, rw (age, get, ask) (sym (ask-state _ _)), rw (age, get, ask) told.1)
 
 returns-4 : tie.Need-returns-4
-unfolding laterLine
+unfolding later_line
 returns-4 c =
     let at-fewest = c.before.before.before.before.before in
     let at-ask = at-fewest.before.before.before in
@@ -51,7 +51,7 @@ returns-4 c =
     (rw (age, get, ask, few) told.0, rw (age, get, ask, few) (sym (fewest-state _ _)), rw (age, get, ask, few) told.1)
 
 returns-5 : tie.Need-returns-5
-unfolding laterLine badLine
+unfolding later_line bad_line
 returns-5 c =
     let at-fewest = c.before.before.before.before in
     let at-ask = at-fewest.before.before.before in

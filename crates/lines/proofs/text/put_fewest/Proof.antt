@@ -1,13 +1,13 @@
 -- `lines::text::put_fewest` meets its contract: a count of 5 stands for more than 4. Assumes nothing.
 use borrow.Author.Tests.{eq-eqb, ne_eqb}
-use Rattle.monitor.specs.Ask.{fewestIn}
-use Rattle.lines.specs.Text.{fewestText}
+use Rattle.monitor.specs.Ask.{fewest_in}
+use Rattle.lines.specs.Text.{fewest_text}
 use borrow.Author.Rules.{rules}
 use Rattle.lines.proofs.text.put_fewest.Statement.{statement}
 use Rattle.lines.proofs.text.put_fewest.Tie as tie
 
 returns : tie.Need-returns
-unfolding fewestText fewestIn
+unfolding fewest_text fewest_in
 returns c =
     let at_count = c.before.before.before.before.before in
     let over = eq-eqb _ _ (rw at_count.before.get64.ensures.0 at at_count.if1.true) in
@@ -15,7 +15,7 @@ returns c =
     (rw over printed.0, rw over printed.1)
 
 returns-2 : tie.Need-returns-2
-unfolding fewestText fewestIn
+unfolding fewest_text fewest_in
 returns-2 c =
     let at_count = c.before.before.before.before.before.before in
     let count = at_count.before.get64.ensures.0 in

@@ -3,7 +3,7 @@ use mathlib.Core.Path.{sym}
 use mir.Syntax.{w32, w64}
 use mir.ValLaws.{to_z-of_z}
 use borrow.Author.Rules.{rules}
-use Rattle.listing.proofs.SystemLaws.{moved_more, moved_none, call_none, call-some}
+use Rattle.listing.proofs.SystemLaws.{moved_more, moved_none, call_none, call_some}
 use Rattle.listing.proofs.system.call_after.Statement.{statement}
 use Rattle.listing.proofs.system.call_after.Tie as tie
 
@@ -11,7 +11,7 @@ returns : tie.Need-returns
 returns c =
     let start = c.before in
     rw (to_z-of_z w64 start.args.got start.ranges.got, to_z-of_z w32 start.args.error start.ranges.error)
-    (call-some _ _ _ (moved_more start.args.got start.ranges.got c.if1.true))
+    (call_some _ _ _ (moved_more start.args.got start.ranges.got c.if1.true))
 
 returns-2 : tie.Need-returns-2
 returns-2 c =

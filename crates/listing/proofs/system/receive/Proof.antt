@@ -1,36 +1,36 @@
 -- `listing::system::receive` meets its contract: the loop leaves at the first call that is not made again. Invariant: the last call moved no more
--- bytes than the array has, which keeps its length. Measure: the tries that are left, while a call is made again. The mathematics is `read-less` of
+-- bytes than the array has, which keeps its length. Measure: the tries that are left, while a call is made again. The mathematics is `read_less` of
 -- `proofs.SystemLaws`. Assumes nothing beyond the contracts of C.
 use Prim.Native.Nat.{◌≤◌}
 use mathlib.Core.Path.{◌≡◌, refl, sym, ◌∙◌}
 use native.Mathlib.Omega.{arith}
 use lib.ListN.{length}
 use borrow.Author.Rules.{rules}
-use Rattle.listing.specs.System.{movedBy}
-use Rattle.listing.proofs.SystemLaws.{triesLeft, none-tries, repeated-tries, read-less}
+use Rattle.listing.specs.System.{moved_by}
+use Rattle.listing.proofs.SystemLaws.{tries_left, none_tries, repeated_tries, read_less}
 use Rattle.listing.proofs.system.receive.Statement.{statement}
 use Rattle.listing.proofs.system.receive.Tie as tie
 
 abbrev invariant-loop : tie.invariant-loop
-invariant-loop input₀ last₀ input last = (length input ≡ length input₀) × (movedBy last.got ≤ length input)
+invariant-loop input₀ last₀ input last = (length input ≡ length input₀) × (moved_by last.got ≤ length input)
 
 abbrev decreases-loop : tie.decreases-loop
-decreases-loop input₀ last₀ input last = triesLeft last
+decreases-loop input₀ last₀ input last = tries_left last
 
 next-read-requires : tie.Need-next-read-requires invariant-loop decreases-loop
-next-read-requires c κs = none-tries _ c.no_call.ensures
+next-read-requires c κs = none_tries _ c.no_call.ensures
 
 loop-holds : tie.Need-loop-init invariant-loop decreases-loop
 loop-holds c = (refl, omega (arith, c.before.before.next-read.ensures.0, c.before.before.next-read.auto.0))
 
 next-read-requires-2 : tie.Need-next-read-requires-2 invariant-loop decreases-loop
-next-read-requires-2 c κs = repeated-tries _ (sym c.before.before.is-repeated.ensures ∙ c.before.if1.true)
+next-read-requires-2 c κs = repeated_tries _ (sym c.before.before.is-repeated.ensures ∙ c.before.if1.true)
 
 loop-less : tie.Need-loop-smaller invariant-loop decreases-loop
 loop-less c =
     let at_read = c.before.before in
     let at_test = at_read.before.before in
-    read-less _ _ at_read.next-read2.ensures.1 (sym at_test.before.is-repeated.ensures ∙ at_test.if1.true)
+    read_less _ _ at_read.next-read2.ensures.1 (sym at_test.before.is-repeated.ensures ∙ at_test.if1.true)
 
 loop-again : tie.Need-loop-preserved invariant-loop decreases-loop
 loop-again c = (search rules, omega (arith, c.before.before.next-read2.ensures.0, c.before.before.next-read2.auto.0))

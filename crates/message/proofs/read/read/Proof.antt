@@ -1,20 +1,20 @@
 -- `message::read::read` meets its contract: each return is a case of the definition's tests.
 use Rattle.std.proofs.Common.{sym, ◌∙◌, rules, le-ltb, eq-eqb, ne_eqb}
-use Rattle.message.specs.Read.{readFrom, readPlain}
+use Rattle.message.specs.Read.{read_from, read_plain}
 use Rattle.message.proofs.Cases.{cases}
 use Rattle.message.proofs.read.read.Statement.{statement}
 use Rattle.message.proofs.read.read.Tie as tie
 
 returns : tie.Need-returns
-unfolding readPlain
+unfolding read_plain
 returns c = search cases
 
 returns-2 : tie.Need-returns-2
-unfolding readPlain
+unfolding read_plain
 returns-2 c = search cases
 
 returns-3 : tie.Need-returns-3
-unfolding readPlain readFrom
+unfolding read_plain read_from
 returns-3 c =
     let at_count = c.before.before in
     rw (
@@ -28,7 +28,7 @@ contents-requires : tie.Need-contents-requires
 contents-requires c κs = sym c.before.shape.ensures ∙ c.if3.false
 
 returns-4 : tie.Need-returns-4
-unfolding readPlain readFrom
+unfolding read_plain read_from
 returns-4 c =
     let at-shape = c.before.before in
     rw (

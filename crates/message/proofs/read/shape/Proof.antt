@@ -1,19 +1,19 @@
 -- `message::read::shape` meets its contract: each return is a case of the definition's tests, in their order.
 use Rattle.std.proofs.Common.{◌≡◌, ℕ, ◌+◌, ◌<◌, Bool, true, false, cond, not, ◌||◌, eqb, length, get_or, sym, refl, ◌∙◌, arith, rules, eq-eqb, ne_eqb, eqb-true}
-use borrow.Author.Tests.{not-true, not-false}
-use Rattle.message.specs.Read.{headWordFits, isEnds, opens, start, termCount, kindsFit, shapeRefusal}
+use borrow.Author.Tests.{not-true, not_false}
+use Rattle.message.specs.Read.{head_word_fits, is_ends, opens, start, term_count, kinds_fit, shape_refusal}
 use Rattle.message.proofs.read.shape.Statement.{statement}
 use Rattle.message.proofs.read.shape.Tie as tie
 
 returns : tie.Need-returns
-unfolding shapeRefusal
+unfolding shape_refusal
 returns c =
     let fits = c.before.before.head-word-fits in
     rw (sym fits.ensures ∙ not-true fits.result c.if1.true)
 
 -- a word that opens a form is one of the words
-opened : (c : tie.Else2) → let at-kind = c.before.before in let a = at-kind.before.before.before.before.args in a.at < length a.words.now
-opened c = c.before.before.kind_at.ensures.1 (by c.before.before.kind_at.result (not-false _ c.if2.false))
+opened : (c : tie.Else2) → let at_kind = c.before.before in let a = at_kind.before.before.before.before.args in a.at < length a.words.now
+opened c = c.before.before.kind_at.ensures.1 (by c.before.before.kind_at.result (not_false _ c.if2.false))
   where
     two : (b : Bool) (k : ℕ) → eqb k 2 ≡ b → b || eqb k 4 ≡ true → 0 < k
     two true k e h = omega (arith, eqb-true k 2 e)
@@ -23,15 +23,15 @@ opened c = c.before.before.kind_at.ensures.1 (by c.before.before.kind_at.result 
     by k h = two (eqb k 2) k refl h
 
 -- past the tests of the head and of the opening word
-head : (c : tie.Else1) → headWordFits (get_or c.before.before.before.before.before.args.words.now 0 0) ≡ true
-head c = let fits = c.before.before.head-word-fits in sym fits.ensures ∙ not-false fits.result c.if1.false
+head : (c : tie.Else1) → head_word_fits (get_or c.before.before.before.before.before.args.words.now 0 0) ≡ true
+head c = let fits = c.before.before.head-word-fits in sym fits.ensures ∙ not_false fits.result c.if1.false
 
 form : (c : tie.Else2) → let a = c.before.before.before.before.before.before.args in opens a.at a.words.now ≡ true
-unfolding opens isEnds
-form c = rw (← c.before.before.kind_at.ensures.0) (not-false _ c.if2.false)
+unfolding opens is_ends
+form c = rw (← c.before.before.kind_at.ensures.0) (not_false _ c.if2.false)
 
 returns-2 : tie.Need-returns-2
-unfolding shapeRefusal opens isEnds
+unfolding shape_refusal opens is_ends
 returns-2 c =
     let opening = c.before.before.kind_at in
     let neither : (eqb opening.result 2 || eqb opening.result 4) ≡ false = not-true _ c.if2.true in
@@ -41,44 +41,44 @@ sub-if3-2 : tie.Need-overflow-sub-if3-2
 sub-if3-2 c = omega (arith, opened c)
 
 -- the form, as the code tells it
-told : (c : tie.After-width) → let at-kind = c.before.before.before in let a = at-kind.before.before.before.before.args in
-    eqb at-kind.kind_at.result 2 ≡ isEnds a.at a.words.now
-unfolding isEnds
+told : (c : tie.After-width) → let at_kind = c.before.before.before in let a = at_kind.before.before.before.before.args in
+    eqb at_kind.kind_at.result 2 ≡ is_ends a.at a.words.now
+unfolding is_ends
 told c = rw c.before.before.before.kind_at.ensures.0
 
 returns-3 : tie.Need-returns-3
-unfolding shapeRefusal
+unfolding shape_refusal
 returns-3 c =
-    let at-kind = c.before.before.before.before in
-    let a = at-kind.before.before.before.before.args in
+    let at_kind = c.before.before.before.before in
+    let a = at_kind.before.before.before.before.args in
     let words = a.words.now in
-    let ends = eqb at-kind.kind_at.result 2 in
+    let ends = eqb at_kind.kind_at.result 2 in
     rw (
       head c.before.before.before,
       form c.before.before,
       ← (told c.before),
-      ne_eqb (length words) (start a.at ends + termCount (get_or words 0 0) + 1) (λ e. omega (arith, opened c.before.before)),
+      ne_eqb (length words) (start a.at ends + term_count (get_or words 0 0) + 1) (λ e. omega (arith, opened c.before.before)),
     )
 
 -- the word count is that of head and form
-counted : (c : tie.Else3) → let at-kind = c.before.before.before.before in let a = at-kind.before.before.before.before.args in
-    length a.words.now ≡ start a.at (eqb at-kind.kind_at.result 2) + termCount (get_or a.words.now 0 0) + 1
+counted : (c : tie.Else3) → let at_kind = c.before.before.before.before in let a = at_kind.before.before.before.before.args in
+    length a.words.now ≡ start a.at (eqb at_kind.kind_at.result 2) + term_count (get_or a.words.now 0 0) + 1
 counted c = omega (arith, opened c.before.before)
 
 -- past the test of the count
-past : (c : tie.Else3) → let at-kind = c.before.before.before.before in let a = at-kind.before.before.before.before.args in
-    let ends = eqb at-kind.kind_at.result 2 in shapeRefusal a.at a.words.now ≡ cond (not (kindsFit a.at ends a.words.now)) 14 0
-unfolding shapeRefusal
+past : (c : tie.Else3) → let at_kind = c.before.before.before.before in let a = at_kind.before.before.before.before.args in
+    let ends = eqb at_kind.kind_at.result 2 in shape_refusal a.at a.words.now ≡ cond (not (kinds_fit a.at ends a.words.now)) 14 0
+unfolding shape_refusal
 past c =
-    let at-kind = c.before.before.before.before in
-    let a = at-kind.before.before.before.before.args in
+    let at_kind = c.before.before.before.before in
+    let a = at_kind.before.before.before.before.args in
     let words = a.words.now in
-    let ends = eqb at-kind.kind_at.result 2 in
+    let ends = eqb at_kind.kind_at.result 2 in
     rw (
       head c.before.before.before,
       form c.before.before,
       ← (told c.before),
-      eq-eqb (length words) (start a.at ends + termCount (get_or words 0 0) + 1) (counted c),
+      eq-eqb (length words) (start a.at ends + term_count (get_or words 0 0) + 1) (counted c),
     )
 
 kinds-fit-requires : tie.Need-kinds-fit-requires

@@ -1,11 +1,11 @@
 -- `message::write::put_terms` meets its contract: turn i stores the word of term i behind those before it.
 -- Invariant: what is stored, with the words of the terms from i on stored behind it, is the whole. Measure: the terms still to store.
--- The mathematics is `terms-next` of `proofs.WordLaws`.
+-- The mathematics is `terms_next` of `proofs.WordLaws`.
 use Rattle.std.proofs.Common.{◌≡◌, ◌+◌, ◌-◌, ◌≤◌, map, length, drop, sym, refl, ◌∙◌, add-zero, arith, length-set, rules}
 use lib.Seq.{drop-length}
 use Rattle.numbers.specs.Numbers.{put}
 use Rattle.message.specs.Words.{word, masks}
-use Rattle.message.proofs.WordLaws.{terms-next}
+use Rattle.message.proofs.WordLaws.{terms_next}
 use Rattle.message.proofs.write.put_terms.Statement.{statement}
 use Rattle.message.proofs.write.put_terms.Tie as tie
 
@@ -24,7 +24,7 @@ loop-again : tie.Need-loop-preserved invariant-loop decreases-loop
 loop-again c =
     let at_head = c.before.before in
     let a = at_head.before.args in
-    let turn = terms-next a.at at_head.loop.i a.terms.now at_head.loop.out c.before.loop-test.true in
+    let turn = terms_next a.at at_head.loop.i a.terms.now at_head.loop.out c.before.loop-test.true in
     (search rules, simp length-set at_head.loop.invariant.1, sym turn ∙ at_head.loop.invariant.2)
 
 returns : tie.Need-returns invariant-loop decreases-loop

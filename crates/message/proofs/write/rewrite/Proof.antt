@@ -2,8 +2,8 @@
 -- What the reading tells of the words is `Taken` of `proofs.ReadLaws`.
 use Rattle.std.proofs.Common.{◌≡◌, length, sym, ap, ◌∙◌, arith, rules}
 use Rattle.numbers.specs.Numbers.{put}
-use Rattle.message.specs.Read.{readPlain}
-use Rattle.message.specs.Write.{rewrittenPlain, rewrittenPlainAs}
+use Rattle.message.specs.Read.{read_plain}
+use Rattle.message.specs.Write.{rewritten_plain, rewritten_plain_as}
 use Rattle.message.specs.declared.Reading.TheVariants.{Message}
 use Rattle.message.proofs.ReadLaws.{read_out, terms-middle, length-middle}
 use Rattle.message.proofs.write.rewrite.Statement.{statement}
@@ -11,11 +11,11 @@ use Rattle.message.proofs.write.rewrite.Tie as tie
 
 -- the message that was read
 was_read : (c : tie.After-got) → let m = c.got.given.0 in
-    readPlain c.before.before.before.before.before.args.words.now ≡ Message m.0 m.1.0 m.1.1.0 m.1.1.1.0
+    read_plain c.before.before.before.before.before.args.words.now ≡ Message m.0 m.1.0 m.1.1.0 m.1.1.1.0
 was_read c = sym c.before.before.read.ensures ∙ c.got.given.1
 
 returns : tie.Need-returns
-unfolding rewrittenPlain rewrittenPlainAs put
+unfolding rewritten_plain rewritten_plain_as put
 returns c =
     let at_read = c.before.before in
     (at_read.read.ensures, rw (← at_read.read.ensures, c.enum_told.given.1))
@@ -33,7 +33,7 @@ write-requires c κs =
     omega arith
 
 returns-2 : tie.Need-returns-2
-unfolding rewrittenPlain rewrittenPlainAs
+unfolding rewritten_plain rewritten_plain_as
 returns-2 c =
     let at-terms = c.before.before.before.before.before in
     let read = was_read at-terms.before.before in

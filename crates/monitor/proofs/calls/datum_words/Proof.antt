@@ -7,10 +7,10 @@ use native.Mathlib.Omega.{arith}
 use lib.ListN.{take, length}
 use Rattle.numbers.specs.Numbers.{num}
 use Rattle.numbers.proofs.NumberLaws.{take_put}
-use Rattle.epochs.specs.Epochs.{epochsIn}
+use Rattle.epochs.specs.Epochs.{epochs_in}
 use Rattle.radio.specs.Names.{wanted, names_of}
-use Rattle.state.specs.Layout.{own_at, epochsAt, datumAt}
-use Rattle.monitor.proofs.CallLaws.{Held, held_out, given-told, length-written, right-split, left_down, right-up, ends-lt, terms-taken, words-written}
+use Rattle.state.specs.Layout.{own_at, epochs_at, datum_at}
+use Rattle.monitor.proofs.CallLaws.{Held, held_out, given-told, length-written, right_split, left_down, right-up, ends_lt, terms-taken, words-written}
 use borrow.Author.Rules.{rules}
 use Rattle.monitor.proofs.calls.datum_words.Statement.{statement}
 use Rattle.monitor.proofs.calls.datum_words.Tie as tie
@@ -23,7 +23,7 @@ held c =
 
 -- the masks in use are its terms
 terms : (c : tie.After-get-words) → let a = c.before.before.before.before.before.before.before.before.args in
-    take c.before.before.get322.result c.get-words.new.1.1.0 ≡ (datumAt a.state.now a.position).terms
+    take c.before.before.get322.result c.get-words.new.1.1.0 ≡ (datum_at a.state.now a.position).terms
 terms c = terms-taken _ _ (held c) _ _ _ c.before.before.get322.ensures.0 c.get-words.ensures
 
 abbrev at_words : tie.After-known-names → tie.After-get-words
@@ -31,7 +31,7 @@ at_words c = c.before.before.before.before.before
 
 -- the names in use are those that were put at the front
 front : (c : tie.After-known-names) → take c.known-names.result c.known-names.new.1.1.1.0
-    ≡ names_of (epochsIn epochsAt (at_words c).before.before.before.before.before.before.before.before.args.state.now) c.before.before.wanted.result
+    ≡ names_of (epochs_in epochs_at (at_words c).before.before.before.before.before.before.before.before.args.state.now) c.before.before.wanted.result
 front c =
     let told = c.known-names.ensures in
     ap (λ (l : List ℕ). take c.known-names.result l) told.1 ∙ take_put _ _ _ (sym told.0.0) (omega (arith, told.0.1))
@@ -39,7 +39,7 @@ front c =
 -- and those that it gives
 names : (c : tie.After-known-names) → let a = (at_words c).before.before.before.before.before.before.before.before.args in
     take c.known-names.result c.known-names.new.1.1.1.0
-    ≡ names_of (epochsIn epochsAt a.state.now) (wanted (num own_at 4 a.state.now) (datumAt a.state.now a.position).terms)
+    ≡ names_of (epochs_in epochs_at a.state.now) (wanted (num own_at 4 a.state.now) (datum_at a.state.now a.position).terms)
 names c =
     let w = at_words c in
     given-told _ _ (held w) _ _ _ _ w.before.before.before.before.before.get32.ensures.0 (terms w) c.before.before.wanted.ensures (front c)
@@ -58,7 +58,7 @@ few c = let f = held c in omega (arith, f.few, f.count, c.before.before.get322.e
 round-up-requires : tie.Need-round-up-requires
 round-up-requires c κs =
     let a = c.before.before.before.before in
-    right-split _ _ (held_out _ a.requires.0.1 _ a.requires.1.0) _ c.get.ensures
+    right_split _ _ (held_out _ a.requires.0.1 _ a.requires.1.0) _ c.get.ensures
 
 array-share-prefix-masks : tie.Need-array-share-prefix-masks
 array-share-prefix-masks c = let size = few c.before in search rules
@@ -91,7 +91,7 @@ write-requires c κs =
     let at_right = w.before.before.before in
     let f = held w in
     let read = at_right.before.get.ensures in
-    let ends = ends-lt _ _ f _ _ (left_down _ _ f _ read) (right-up _ _ f _ read _ at_right.round_up.ensures) in
+    let ends = ends_lt _ _ f _ _ (left_down _ _ f _ read) (right-up _ _ f _ read _ at_right.round_up.ensures) in
     let a = at_right.before.before.before.before.before in
     ((omega (arith, f.own-le, at_right.before.before.get32.ensures.0), ends.0, ends.1, omega (arith, long w, few w)), omega (arith, long w, few w, counted k, k.known-names.ensures.0.1, a.pre.1.2))
 

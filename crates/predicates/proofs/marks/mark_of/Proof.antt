@@ -5,22 +5,22 @@ use Prim.Native.Nat.{◌-◌}
 use mathlib.Core.Path.{◌≡◌, refl, sym, ◌∙◌}
 use mathlib.Core.Logic.{⊎_elim}
 use lib.ListN.{length, drop}
-use Rattle.names.specs.Sets.{setUnion}
+use Rattle.names.specs.Sets.{set_union}
 use Rattle.predicates.specs.Predicates.{holds}
 use Rattle.predicates.specs.code.Marks.{singles}
-use Rattle.predicates.proofs.MarkLaws.{singles-take, singles-pass, holds-pass, mark-all, mark-some}
+use Rattle.predicates.proofs.MarkLaws.{singles-take, singles_pass, holds_pass, mark-all, mark-some}
 use borrow.Author.Rules.{rules}
 use Rattle.predicates.proofs.marks.mark_of.Statement.{statement}
 use Rattle.predicates.proofs.marks.mark_of.Tie as tie
 
 abbrev invariant-loop : tie.invariant-loop
-invariant-loop p names₀ i₀ names i = (setUnion names (singles (drop i p)) ≡ singles p) × (holds 0 p ≡ holds 0 (drop i p))
+invariant-loop p names₀ i₀ names i = (set_union names (singles (drop i p)) ≡ singles p) × (holds 0 p ≡ holds 0 (drop i p))
 
 abbrev decreases-loop : tie.decreases-loop
 decreases-loop p names₀ i₀ names i = length p - i
 
 loop-holds : tie.Need-loop-init invariant-loop decreases-loop
-unfolding setUnion
+unfolding set_union
 loop-holds c = (refl, refl)
 
 returns : tie.Need-returns invariant-loop decreases-loop
@@ -35,10 +35,10 @@ loop-again c =
     let head = at_test.before.loop in
     let test = sym c.before.at_most_one.ensures in
     let near = at_test.loop-test.true in
-    let rest = head.invariant.1 ∙ holds-pass _ head.i near at-if1.if1.false in
+    let rest = head.invariant.1 ∙ holds_pass _ head.i near at-if1.if1.false in
     ⊎_elim
     (λ w. (rw (w.2 ∙ w.1.ensures) (singles-take _ head.i head.names near (test ∙ w.0.taken) ∙ head.invariant.0), rest))
-    (λ w. (rw w.1 (singles-pass _ head.i head.names near (test ∙ w.0.left) ∙ head.invariant.0), rest))
+    (λ w. (rw w.1 (singles_pass _ head.i head.names near (test ∙ w.0.left) ∙ head.invariant.0), rest))
     c.if2.branch
 
 returns-2 : tie.Need-returns-2 invariant-loop decreases-loop

@@ -3,7 +3,7 @@
 use Prim.Native.Nat.{◌-◌}
 use mathlib.Core.Path.{◌≡◌, refl, ◌∙◌}
 use lib.ListN.{length, drop}
-use Rattle.names.specs.Sets.{setUnion}
+use Rattle.names.specs.Sets.{set_union}
 use Rattle.predicates.specs.code.Marks.{singles}
 use Rattle.predicates.proofs.MarkLaws.{singles-turn, singles-done}
 use borrow.Author.Rules.{rules}
@@ -11,13 +11,13 @@ use Rattle.predicates.proofs.marks.names_alone.Statement.{statement}
 use Rattle.predicates.proofs.marks.names_alone.Tie as tie
 
 abbrev invariant-loop : tie.invariant-loop
-invariant-loop p names₀ i₀ names i = setUnion names (singles (drop i p)) ≡ singles p
+invariant-loop p names₀ i₀ names i = set_union names (singles (drop i p)) ≡ singles p
 
 abbrev decreases-loop : tie.decreases-loop
 decreases-loop p names₀ i₀ names i = length p - i
 
 loop-holds : tie.Need-loop-init invariant-loop decreases-loop
-unfolding setUnion
+unfolding set_union
 loop-holds c = refl
 
 loop-again : tie.Need-loop-preserved invariant-loop decreases-loop

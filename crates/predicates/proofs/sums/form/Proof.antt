@@ -1,9 +1,9 @@
 -- `predicates::sums::form` meets its contract: the place behind the terms is cleared, the own name struck, the sender's term put behind what is left,
--- and `normal_form` does the rest (`form-calls`).
+-- and `normal_form` does the rest (`form_calls`).
 use native.Mathlib.Omega.{arith}
 use mathlib.Core.Path.{refl}
 use lib.ListN.{length-set}
-use Rattle.predicates.proofs.SumLaws.{form-calls}
+use Rattle.predicates.proofs.SumLaws.{form_calls}
 use borrow.Author.Rules.{rules}
 use Rattle.predicates.proofs.sums.form.Statement.{statement}
 use Rattle.predicates.proofs.sums.form.Tie as tie
@@ -34,7 +34,7 @@ returns c =
     let made = c.before.before.normal-form.ensures in
     let at-strike = c.before.before.before.before.before.before.before in
     let a = at-strike.before.before.before in
-    form-calls a.args.terms.now _ _ _ a.args.own a.args.sender a.args.n _ a.requires.0 refl at-strike.strike.ensures.0 at-strike.strike.ensures.1 (rw c.before.before.before.before.single.ensures) _ _ made.0 made.1
+    form_calls a.args.terms.now _ _ _ a.args.own a.args.sender a.args.n _ a.requires.0 refl at-strike.strike.ensures.0 at-strike.strike.ensures.1 (rw c.before.before.before.before.single.ensures) _ _ made.0 made.1
 
 pub form-spec : {M : Type 1} → statement M
 form-spec =

@@ -6,32 +6,32 @@ use native.Mathlib.Omega.{arith}
 use borrow.Author.Tests.{ltb-false, eq-eqb, ne_eqb}
 use lib.Dec.{ltb}
 use lib.ListN.{length}
-use Rattle.radio.specs.Read.{wordsLeast, readWords}
+use Rattle.radio.specs.Read.{words_least, read_words}
 use borrow.Author.Rules.{rules}
 use Rattle.radio.proofs.read.read.Statement.{statement}
 use Rattle.radio.proofs.read.read.Tie as tie
 
 -- past the test of the word count
-enough : (c : tie.Else1) → wordsLeast ≤ length c.before.before.args.words.now
-enough c = let n = length c.before.before.args.words.now in ltb-false n wordsLeast (by (ltb n wordsLeast) _ c.if1.false)
+enough : (c : tie.Else1) → words_least ≤ length c.before.before.args.words.now
+enough c = let n = length c.before.before.args.words.now in ltb-false n words_least (by (ltb n words_least) _ c.if1.false)
   where
     by : (a b : Bool) → a || b ≡ false → a ≡ false
     by true b e = e
     by false b e = refl
 
 returns : tie.Need-returns
-unfolding readWords
+unfolding read_words
 returns c = rw c.if1.true
 
 returns-2 : tie.Need-returns-2
-unfolding readWords
+unfolding read_words
 returns-2 c =
     let at-walk = c.before.before in
     let shape = c.before.shape in
     rw (at-walk.before.if1.false, ← at-walk.walk.ensures.0, ← shape.ensures, ne_eqb shape.result 0 c.if2.true)
 
 returns-3 : tie.Need-returns-3
-unfolding readWords
+unfolding read_words
 returns-3 c =
     let at-shape = c.before.before.before in
     let at-walk = at-shape.before in
@@ -45,7 +45,7 @@ returns-3 c =
     )
 
 returns-4 : tie.Need-returns-4
-unfolding readWords
+unfolding read_words
 returns-4 c =
     let at-fit = c.before.before in
     let at-shape = at-fit.before.before in

@@ -4,7 +4,7 @@ use Prim.Native.Nat.{◌-◌}
 use mathlib.Core.Path.{sym, ◌∙◌}
 use native.Mathlib.Omega.{arith}
 use lib.ListN.{length}
-use Rattle.message.specs.Read.{isEnds, termWords}
+use Rattle.message.specs.Read.{is_ends, term_words}
 use Rattle.message.proofs.WordLaws.{part_slice}
 use Rattle.message.proofs.ReadLaws.{middle-slice}
 use Rattle.radio.specs.Read.{opening}
@@ -15,20 +15,20 @@ use Rattle.radio.proofs.read.term_words.Tie as tie
 
 -- the message that was read
 live : (c : tie.After-got) → let words = c.before.before.args.words.now in let m = c.got.given.0 in
-    Live (isEnds (opening words) words) words m.0 m.1.0 m.1.1.0 m.1.1.1.0
+    Live (is_ends (opening words) words) words m.0 m.1.0 m.1.1.0 m.1.1.1.0
 live c = read_out _ (sym c.before.before.requires ∙ c.got.given.1)
 
 returns : tie.Need-returns
-unfolding termWords
+unfolding term_words
 returns c = rw c.before.enum_told.given.1
 
 returns-2 : tie.Need-returns-2
 returns-2 c =
-    let at-got = c.before.before in
-    let words = at-got.before.before.args.words.now in
+    let at_got = c.before.before in
+    let words = at_got.before.before.args.words.now in
     let last = length words - 1 in
-    rw at-got.got.given.1
-    (part_slice (last - at-got.got.given.0.1.1.1.0) last words ∙ sym (terms-middle (live at-got) ∙ middle-slice (live at-got).taken))
+    rw at_got.got.given.1
+    (part_slice (last - at_got.got.given.0.1.1.1.0) last words ∙ sym (terms-middle (live at_got) ∙ middle-slice (live at_got).taken))
 
 pub term-words-spec : {M : Type 1} → statement M
 term-words-spec =

@@ -4,7 +4,7 @@
 use Prim.Native.Nat.{◌-◌, ◌^◌}
 use mathlib.Core.Path.{◌≡◌}
 use lib.ListN.{length, drop}
-use Rattle.names.specs.Sets.{setUnion}
+use Rattle.names.specs.Sets.{set_union}
 use Rattle.message.specs.Words.{masks}
 use Rattle.radio.specs.Names.{wanted}
 use Rattle.radio.proofs.NameLaws.{wanted-start, wanted-turn, wanted-done}
@@ -14,7 +14,7 @@ use Rattle.radio.proofs.read.wanted.Tie as tie
 
 abbrev invariant-loop : tie.invariant-loop
 invariant-loop sender terms mask₀ i₀ mask i =
-    (setUnion mask (wanted sender (masks (drop i terms))) ≡ wanted sender (masks terms)) × (setUnion mask (2 ^ sender) ≡ mask)
+    (set_union mask (wanted sender (masks (drop i terms))) ≡ wanted sender (masks terms)) × (set_union mask (2 ^ sender) ≡ mask)
 
 abbrev decreases-loop : tie.decreases-loop
 decreases-loop sender terms mask₀ i₀ mask i = length terms - i

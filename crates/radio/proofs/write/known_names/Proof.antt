@@ -4,18 +4,18 @@ use Prim.Native.Nat.{ℕ, ◌-◌, ◌≤◌}
 use mathlib.Core.Path.{◌≡◌, sym, ap, ◌∙◌}
 use mathlib.Core.Logic.{⊎_elim}
 use native.Mathlib.Omega.{arith}
-use Rattle.epochs.specs.Epochs.{epochsMost, epochsIn, name}
+use Rattle.epochs.specs.Epochs.{epochs_most, epochs_in, name}
 use Rattle.radio.specs.Names.{names_of}
-use Rattle.radio.proofs.GivenNames.{Given, namesBelow, given-none, given-skip, given-next}
+use Rattle.radio.proofs.GivenNames.{Given, names_below, given-none, given_skip, given_next}
 use borrow.Author.Rules.{rules}
 use Rattle.radio.proofs.write.known_names.Statement.{statement}
 use Rattle.radio.proofs.write.known_names.Tie as tie
 
 abbrev invariant-loop : tie.invariant-loop
-invariant-loop s at mask names₀ r₀ n₀ names r n = (n ≤ epochsMost) × Given (epochsIn at s) mask n names₀ names r
+invariant-loop s at mask names₀ r₀ n₀ names r n = (n ≤ epochs_most) × Given (epochs_in at s) mask n names₀ names r
 
 abbrev decreases-loop : tie.decreases-loop
-decreases-loop s at mask names₀ r₀ n₀ names r n = epochsMost - n
+decreases-loop s at mask names₀ r₀ n₀ names r n = epochs_most - n
 
 loop-holds : tie.Need-loop-init invariant-loop decreases-loop
 loop-holds c = (search rules, given-none _ _ _)
@@ -48,15 +48,15 @@ loop-again c =
     let told = c.before.has.ensures in
     let given = at.invariant.1 in
     ⊎_elim
-    (λ x. rw (x.2, x.3) (omega (arith, more), given-next _ _ _ _ _ _ given _ (sym told ∙ x.0.taken) (ap (λ (e : ℕ). name at.n e) x.1.ensures.0)))
-    (λ x. rw (x.1, x.2) (omega (arith, more), given-skip _ _ _ _ _ _ given (sym told ∙ x.0.left)))
+    (λ x. rw (x.2, x.3) (omega (arith, more), given_next _ _ _ _ _ _ given _ (sym told ∙ x.0.taken) (ap (λ (e : ℕ). name at.n e) x.1.ensures.0)))
+    (λ x. rw (x.1, x.2) (omega (arith, more), given_skip _ _ _ _ _ _ given (sym told ∙ x.0.left)))
     c.if1.branch
 
 returns : tie.Need-returns invariant-loop decreases-loop
-unfolding names_of namesBelow
+unfolding names_of names_below
 returns c =
     let at = c.before.loop in
-    let last : at.n ≡ epochsMost = omega (arith, at.invariant.0, c.loop-test.false) in
+    let last : at.n ≡ epochs_most = omega (arith, at.invariant.0, c.loop-test.false) in
     let given = at.invariant.1 in
     ((rw last at given.counted, omega (arith, given.few, at.invariant.0)), rw last at given.stored)
 

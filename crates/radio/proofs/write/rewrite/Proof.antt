@@ -5,8 +5,8 @@ use native.Mathlib.Omega.{arith}
 use lib.ListN.{length}
 use Rattle.numbers.specs.Numbers.{put}
 use Rattle.message.specs.declared.Reading.TheVariants.{Message}
-use Rattle.radio.specs.Read.{readWords}
-use Rattle.radio.specs.Write.{rewritten, rewrittenAs}
+use Rattle.radio.specs.Read.{read_words}
+use Rattle.radio.specs.Write.{rewritten, rewritten_as}
 use Rattle.radio.proofs.ReadLaws.{read_out, terms-middle, length-middle, epochs-few}
 use borrow.Author.Rules.{rules}
 use Rattle.radio.proofs.write.rewrite.Statement.{statement}
@@ -14,11 +14,11 @@ use Rattle.radio.proofs.write.rewrite.Tie as tie
 
 -- the message that was read
 was_read : (c : tie.After-got) → let m = c.got.given.0 in
-    readWords c.before.before.before.before.before.args.words.now ≡ Message m.0 m.1.0 m.1.1.0 m.1.1.1.0
+    read_words c.before.before.before.before.before.args.words.now ≡ Message m.0 m.1.0 m.1.1.0 m.1.1.1.0
 was_read c = sym c.before.before.read.ensures ∙ c.got.given.1
 
 returns : tie.Need-returns
-unfolding rewritten rewrittenAs put
+unfolding rewritten rewritten_as put
 returns c =
     let at_read = c.before.before in
     (at_read.read.ensures, rw (← at_read.read.ensures, c.enum_told.given.1))
@@ -35,7 +35,7 @@ write-requires c κs =
     omega arith
 
 returns-2 : tie.Need-returns-2
-unfolding rewritten rewrittenAs
+unfolding rewritten rewritten_as
 returns-2 c =
     let at-write = c.before.before in
     let at_Names = at-write.before.before in

@@ -6,9 +6,9 @@ use native.Mathlib.Omega.{arith}
 use lib.ListN.{length}
 use Rattle.numbers.specs.Numbers.{put, Bytes}
 use Rattle.numbers.proofs.NumberLaws.{length-put}
-use Rattle.state.specs.Layout.{stateBytes, head_of, store_of}
-use Rattle.engine.specs.code.Hearing.{heardHead}
-use Rattle.receipts.proofs.HearingCalls.{epochs-stay, heard-form, close-stored}
+use Rattle.state.specs.Layout.{state_bytes, head_of, store_of}
+use Rattle.engine.specs.code.Hearing.{heard_head}
+use Rattle.receipts.proofs.HearingCalls.{epochs_stay, heard-form, close-stored}
 use borrow.Author.Rules.{rules}
 use Rattle.receipts.proofs.hearing.close.Statement.{statement}
 use Rattle.receipts.proofs.hearing.close.Tie as tie
@@ -17,13 +17,13 @@ use Rattle.receipts.proofs.hearing.close.Tie as tie
 heard-bytes : (c : tie.Joined1)
     → (let a = c.before.before.before in
     let s = a.args.state.now in
-    c.if1.state ≡ put 0 (stateBytes (record { head = heardHead a.args.own a.args.names.now a.args.risen (head_of s); store = store_of s })) s)
+    c.if1.state ≡ put 0 (state_bytes (record { head = heard_head a.args.own a.args.names.now a.args.risen (head_of s); store = store_of s })) s)
 unfolding Bytes
 heard-bytes c =
     let a = c.before.before.before in
     ⊎_elim
     (λ x. x.5 ∙ x.2.ensures)
-    (λ x. x.1 ∙ epochs-stay a.args.state.now a.requires.0.1 a.requires.0.0 a.args.own a.args.names.now a.requires.0.2 a.args.risen (λ i. (c.before.before.slice-known.given i).fits) a.requires.1.2 x.0.left)
+    (λ x. x.1 ∙ epochs_stay a.args.state.now a.requires.0.1 a.requires.0.0 a.args.own a.args.names.now a.requires.0.2 a.args.risen (λ i. (c.before.before.slice-known.given i).fits) a.requires.1.2 x.0.left)
     c.if1.branch
 
 heard-length : (c : tie.Joined1) → length c.if1.state ≡ length c.before.before.before.args.state.now

@@ -1,5 +1,5 @@
 -- `receipts::hearing::forget` meets its contract. Invariant: the state is stored in which the places of the identifiers passed are cleared as far as they
--- have risen (`clearedBelow`). Measure: the identifiers still to come. A turn is `forget-place` or `forget-none` of `proofs.HearingCalls`.
+-- have risen (`cleared_below`). Measure: the identifiers still to come. A turn is `forget-place` or `forget-none` of `proofs.HearingCalls`.
 use Prim.Native.Nat.{◌≤◌, ◌-◌}
 use mathlib.Core.Path.{◌≡◌, sym, ap, ◌∙◌}
 use mathlib.Core.Logic.{⊎_elim}
@@ -7,9 +7,9 @@ use native.Mathlib.Omega.{arith}
 use lib.ListN.{length}
 use Rattle.numbers.specs.Numbers.{put, Bytes}
 use Rattle.numbers.proofs.NumberLaws.{length-put}
-use Rattle.state.specs.Model.{withClocks}
-use Rattle.state.specs.Layout.{clocksMost, stateBytes, head_of, store_of}
-use Rattle.engine.specs.code.Hearing.{clearedBelow}
+use Rattle.state.specs.Model.{with_clocks}
+use Rattle.state.specs.Layout.{clocks_most, state_bytes, head_of, store_of}
+use Rattle.engine.specs.code.Hearing.{cleared_below}
 use Rattle.receipts.proofs.HearingCalls.{forget-start, forget-place, forget-none, forget-done}
 use borrow.Author.Rules.{rules}
 use Rattle.receipts.proofs.hearing.forget.Statement.{statement}
@@ -17,11 +17,11 @@ use Rattle.receipts.proofs.hearing.forget.Tie as tie
 
 abbrev invariant-loop : tie.invariant-loop
 invariant-loop state₀ risen i₀ state i =
-    (i ≤ clocksMost) × (length state ≡ length state₀)
-    × (state ≡ put 0 (stateBytes (record { head = withClocks (head_of state₀) (clearedBelow i risen (head_of state₀).clocks); store = store_of state₀ })) state₀)
+    (i ≤ clocks_most) × (length state ≡ length state₀)
+    × (state ≡ put 0 (state_bytes (record { head = with_clocks (head_of state₀) (cleared_below i risen (head_of state₀).clocks); store = store_of state₀ })) state₀)
 
 abbrev decreases-loop : tie.decreases-loop
-decreases-loop state₀ risen i₀ state i = clocksMost - i
+decreases-loop state₀ risen i₀ state i = clocks_most - i
 
 loop-holds : tie.Need-loop-init invariant-loop decreases-loop
 unfolding Bytes

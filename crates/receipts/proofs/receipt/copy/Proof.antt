@@ -6,14 +6,14 @@ use mathlib.Core.List.{List}
 use native.Mathlib.Omega.{arith}
 use lib.ListN.{length, get_or, drop, set, length-set, drop_of_length-le}
 use lib.Seq.{sets}
-use Rattle.predicates.proofs.LoopLaws.{drop-next}
+use Rattle.predicates.proofs.LoopLaws.{drop_next}
 use borrow.Author.Rules.{rules}
 use Rattle.receipts.proofs.receipt.copy.Statement.{statement}
 use Rattle.receipts.proofs.receipt.copy.Tie as tie
 
 -- a turn
 turn : (p s : List ℕ) (i : ℕ) → i < length p → sets (set s i (get_or p i 0)) (i + 1) (drop (i + 1) p) ≡ sets s i (drop i p)
-turn p s i h = let e : i + 1 ≡ suc i = omega arith in rw (drop-next p i h, e)
+turn p s i h = let e : i + 1 ≡ suc i = omega arith in rw (drop_next p i h, e)
 
 abbrev invariant-loop : tie.invariant-loop
 invariant-loop out₀ p i₀ out i = (i ≤ length p) × (length out ≡ length out₀) × (sets out i (drop i p) ≡ sets out₀ 0 p)

@@ -7,7 +7,7 @@ use native.Mathlib.Omega.{arith}
 use lib.ListN.{length, get_or, drop, set, length-set, drop_of_length-le}
 use lib.Seq.{sets}
 use Rattle.message.specs.Words.{masks, payload}
-use Rattle.predicates.proofs.LoopLaws.{drop-next}
+use Rattle.predicates.proofs.LoopLaws.{drop_next}
 use borrow.Author.Rules.{rules}
 use Rattle.receipts.proofs.receipt.copy_masks.Statement.{statement}
 use Rattle.receipts.proofs.receipt.copy_masks.Tie as tie
@@ -15,7 +15,7 @@ use Rattle.receipts.proofs.receipt.copy_masks.Tie as tie
 -- a turn
 turn : (ws s : List ℕ) (i : ℕ) → i < length ws → sets (set s i (payload (get_or ws i 0))) (i + 1) (masks (drop (i + 1) ws)) ≡ sets s i (masks (drop i ws))
 unfolding masks
-turn ws s i h = let e : i + 1 ≡ suc i = omega arith in rw (drop-next ws i h, e)
+turn ws s i h = let e : i + 1 ≡ suc i = omega arith in rw (drop_next ws i h, e)
 
 abbrev invariant-loop : tie.invariant-loop
 invariant-loop words row₀ i₀ row i = (i ≤ length words) × (length row ≡ length row₀) × (sets row i (masks (drop i words)) ≡ sets row₀ 0 (masks words))

@@ -5,11 +5,11 @@ use mathlib.Core.List.{List}
 use native.Mathlib.Omega.{arith}
 use lib.Dec.{T}
 use lib.ListN.{length, take}
-use Rattle.predicates.specs.Predicates.{isNormal, formed}
+use Rattle.predicates.specs.Predicates.{is_normal, formed}
 use Rattle.predicates.proofs.PredicateLaws.{formed-normal}
 use Rattle.message.specs.Words.{masks}
 use Rattle.epochs.specs.Epochs.{withdraw}
-use Rattle.epochs.proofs.WithdrawLaws.{withdraw-zero}
+use Rattle.epochs.proofs.WithdrawLaws.{withdraw_zero}
 use Rattle.receipts.proofs.ReceiptCalls.{formed-front, kept-front}
 use borrow.Author.Rules.{rules}
 use Rattle.receipts.proofs.receipt.form_row.Statement.{statement}
@@ -29,24 +29,24 @@ kept c = kept-front _ _ _ _ _ c.form.ensures.0.0 c.form.ensures.1 ∙ there c
 
 returns : tie.Need-returns
 returns c =
-    let at-form = c.before.before.before in
-    let a = at-form.before.before.before.before.before.before.before.before.args in
+    let at_form = c.before.before.before in
+    let a = at_form.before.before.before.before.before.before.before.before.args in
     let none : withdraw a.late (formed a.own a.sender (masks a.words.now)) ≡ formed a.own a.sender (masks a.words.now) =
-    rw c.if1.true (withdraw-zero (formed a.own a.sender (masks a.words.now)) (formed-normal a.own a.sender (masks a.words.now))) in
-    ((at-form.form.ensures.0.0 ∙ ap length (there at-form ∙ sym none), at-form.form.ensures.0.1), kept at-form ∙ sym none)
+    rw c.if1.true (withdraw_zero (formed a.own a.sender (masks a.words.now)) (formed-normal a.own a.sender (masks a.words.now))) in
+    ((at_form.form.ensures.0.0 ∙ ap length (there at_form ∙ sym none), at_form.form.ensures.0.1), kept at_form ∙ sym none)
 
 withdraw-requires : tie.Need-withdraw-requires
 withdraw-requires c κs =
-    let at-form = c.before.before.before.before in
-    let a = at-form.before.before.before.before.before.before.before.before in
-    (omega (arith, at-form.form.ensures.0.1, at-form.form.auto.0, a.requires.0), subst (λ (p : List ℕ). T (isNormal p)) (sym (kept at-form)) (formed-normal a.args.own a.args.sender (masks a.args.words.now)))
+    let at_form = c.before.before.before.before in
+    let a = at_form.before.before.before.before.before.before.before.before in
+    (omega (arith, at_form.form.ensures.0.1, at_form.form.auto.0, a.requires.0), subst (λ (p : List ℕ). T (is_normal p)) (sym (kept at_form)) (formed-normal a.args.own a.args.sender (masks a.args.words.now)))
 
 returns-2 : tie.Need-returns-2
 returns-2 c =
-    let at-form = c.before.before.before.before.before.before.before in
+    let at_form = c.before.before.before.before.before.before.before in
     let made = c.before.before.withdraw.ensures in
-    let same = ap (λ (p : List ℕ). withdraw at-form.before.before.before.before.before.before.before.before.args.late p) (kept at-form) in
-    ((made.0.0 ∙ ap length same, omega (arith, made.0.1, at-form.form.ensures.0.1)), kept-front _ _ _ _ _ made.0.0 made.1 ∙ same)
+    let same = ap (λ (p : List ℕ). withdraw at_form.before.before.before.before.before.before.before.before.args.late p) (kept at_form) in
+    ((made.0.0 ∙ ap length same, omega (arith, made.0.1, at_form.form.ensures.0.1)), kept-front _ _ _ _ _ made.0.0 made.1 ∙ same)
 
 pub form-row-spec : {M : Type 1} → statement M
 form-row-spec =

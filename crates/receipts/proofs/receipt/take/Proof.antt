@@ -3,13 +3,13 @@
 use mathlib.Core.Path.{ap, ◌∙◌}
 use mathlib.Core.Bool.{Bool}
 use Rattle.numbers.specs.Numbers.{Bytes}
-use Rattle.clocks.specs.Clocks.{violatedBy}
+use Rattle.clocks.specs.Clocks.{violated_by}
 use Rattle.state.specs.Layout.{head_of, store_of}
-use Rattle.state.specs.code.Tables.{datumOf}
+use Rattle.state.specs.code.Tables.{datum_of}
 use Rattle.steps.specs.Withdrawn.{withdrawn}
-use Rattle.engine.specs.Calls.{clockOf}
-use Rattle.receipts.specs.code.Taken.{takenBy}
-use Rattle.receipts.proofs.ReceiptCalls.{blame-implies, judged-taken, withdrawn-stays}
+use Rattle.engine.specs.Calls.{clock_of}
+use Rattle.receipts.specs.code.Taken.{taken_by}
+use Rattle.receipts.proofs.ReceiptCalls.{blame-implies, judged-taken, withdrawn_stays}
 use Rattle.receipts.proofs.RisenLaws.{risen-same, quiet_same}
 use borrow.Author.Rules.{rules}
 use Rattle.receipts.proofs.receipt.take.Statement.{statement}
@@ -17,7 +17,7 @@ use Rattle.receipts.proofs.receipt.take.Tie as tie
 
 -- the readings violate the test
 violation : tie.Start → Bool
-violation a = let h = head_of a.args.state.now in violatedBy h.drift (clockOf h a.args.sender) a.args.readings
+violation a = let h = head_of a.args.state.now in violated_by h.drift (clock_of h a.args.sender) a.args.readings
 
 take-here-requires : tie.Need-take-here-requires
 unfolding violation
@@ -38,16 +38,16 @@ take-risen-requires c κs =
 returns : tie.Need-returns
 unfolding violation Bytes
 returns c =
-    let at-then = c.before.before.before.before in
-    let at-blame = at-then.before in
+    let at_then = c.before.before.before.before in
+    let at-blame = at_then.before in
     let a = at-blame.before.before.before.before in
     let s = a.args.state.now in
-    let n = datumOf a.args.new a.args.p.now in
-    let stays = withdrawn-stays s a.args.risen a.requires.0.1 at-then.if1.true in
+    let n = datum_of a.args.new a.args.p.now in
+    let stays = withdrawn_stays s a.args.risen a.requires.0.1 at_then.if1.true in
     let same = judged-taken (violation a) a.args.sender at-blame.blame.result at-blame.blame.ensures n (withdrawn a.args.risen (store_of s)) a.requires.1.3
-    ∙ ap (takenBy at-blame.blame.result n) stays in
+    ∙ ap (taken_by at-blame.blame.result n) stays in
     let made = c.before.before.take-here.ensures in
-    quiet_same s a.args.risen _ _ _ _ same made.0 (λ i. (at-blame.before.before.before.slice-known.given i).fits) a.requires.0.1 a.requires.0.0 at-then.if1.true made.1
+    quiet_same s a.args.risen _ _ _ _ same made.0 (λ i. (at-blame.before.before.before.slice-known.given i).fits) a.requires.0.1 a.requires.0.0 at_then.if1.true made.1
 
 returns-2 : tie.Need-returns-2
 unfolding violation
@@ -56,7 +56,7 @@ returns-2 c =
     let a = at-blame.before.before.before.before in
     let s = a.args.state.now in
     let same =
-    judged-taken (violation a) a.args.sender at-blame.blame.result at-blame.blame.ensures (datumOf a.args.new a.args.p.now) (withdrawn a.args.risen (store_of s)) a.requires.1.3 in
+    judged-taken (violation a) a.args.sender at-blame.blame.result at-blame.blame.ensures (datum_of a.args.new a.args.p.now) (withdrawn a.args.risen (store_of s)) a.requires.1.3 in
     let made = c.before.before.take-risen.ensures in
     risen-same s a.args.risen _ _ _ _ same made.0 made.1
 

@@ -3,10 +3,10 @@
 use mathlib.Core.Path.{◌≡◌, sym}
 use lib.ListN.{get_or}
 use Rattle.numbers.specs.Numbers.{Bytes}
-use Rattle.predicates.proofs.PredicateLaws.{true-first}
+use Rattle.predicates.proofs.PredicateLaws.{true_first}
 use Rattle.state.specs.Layout.{store_of, state_of}
 use Rattle.state.specs.Refusal.{after}
-use Rattle.state.specs.code.Tables.{datumOf}
+use Rattle.state.specs.code.Tables.{datum_of}
 use Rattle.state.proofs.StateLaws.{put-state-same}
 use Rattle.receipts.proofs.TakenLaws.{taken_none, taken-settled}
 use Rattle.receipts.proofs.ReceiptCalls.{made-same, few-held}
@@ -20,7 +20,7 @@ returns c =
     let a = c.before.before.before.before in
     let s = a.args.state.now in
     let p = a.args.p.now in
-    let none = taken_none a.args.blame (get_or p 0 0) (datumOf a.args.new p) (store_of s) (true-first p a.requires.1.2 a.requires.1.0) c.if1.true in
+    let none = taken_none a.args.blame (get_or p 0 0) (datum_of a.args.new p) (store_of s) (true_first p a.requires.1.2 a.requires.1.0) c.if1.true in
     made-same s (store_of s) _ _ _ none (rw (few-held s a.requires.0.1)) (sym (put-state-same s a.requires.0.1 (λ i. (c.before.before.before.slice-known.given i).fits) a.requires.0.0))
 
 take-datum-requires : tie.Need-take-datum-requires
@@ -34,7 +34,7 @@ returns-2 c =
     let a = at-else.before.before.before.before in
     let s = a.args.state.now in
     let p = a.args.p.now in
-    let taken = taken-settled a.args.blame (get_or p 0 0) (datumOf a.args.new p) (store_of s) (true-first p a.requires.1.2 a.requires.1.0) at-else.if1.false in
+    let taken = taken-settled a.args.blame (get_or p 0 0) (datum_of a.args.new p) (store_of s) (true_first p a.requires.1.2 a.requires.1.0) at-else.if1.false in
     let made = c.before.before.take-datum.ensures in
     made-same s _ _ _ _ (sym taken) made.0 made.1
 

@@ -5,7 +5,7 @@ use native.Mathlib.Omega.{arith}
 use lib.Seq.{length-take-le}
 use Rattle.numbers.specs.Numbers.{Bytes}
 use Rattle.state.specs.Layout.{state_of}
-use Rattle.receipts.specs.code.Taken.{withdrawnState}
+use Rattle.receipts.specs.code.Taken.{withdrawn_state}
 use Rattle.receipts.proofs.RisenLaws.{risen-long, risen-form, risen-number, risen-taken, risen-refused}
 use borrow.Author.Rules.{rules}
 use Rattle.receipts.proofs.receipt.take_risen.Statement.{statement}
@@ -15,8 +15,8 @@ use Rattle.receipts.proofs.receipt.take_risen.Tie as tie
 abbrev at_copy : tie.After-withdraw → tie.After-copy
 at_copy c = c.before.before.before
 
-abbrev at-withdraw : tie.After-take-here → tie.After-withdraw
-at-withdraw c = c.before.before.before.before
+abbrev at_withdraw : tie.After-take-here → tie.After-withdraw
+at_withdraw c = c.before.before.before.before
 
 abbrev start : tie.After-withdraw → tie.Start
 start c = (at_copy c).before.before.before.before.before
@@ -28,7 +28,7 @@ copy-requires : tie.Need-copy-requires
 copy-requires c κs = let a = c.before.before.before.before in omega (arith, length-take-le 3160 a.args.state.now (omega (arith, a.requires.0.0)))
 
 take-here-requires : tie.Need-take-here-requires
-unfolding withdrawnState state_of
+unfolding withdrawn_state state_of
 take-here-requires c κs =
     let w = c.before.before.before in
     let a = start w in
@@ -37,11 +37,11 @@ take-here-requires c κs =
     ((omega (arith, long, a.pre.0.0), risen-form s a.pre.0.1 a.pre.0.0 a.args.risen _ w.withdraw.ensures), (a.pre.1.0, a.pre.1.1, a.pre.1.2, a.pre.1.3, a.pre.1.4))
 
 returns : tie.Need-returns
-unfolding withdrawnState state_of Bytes
+unfolding withdrawn_state state_of Bytes
 returns c =
     let t = c.before.before.before.before.before.before.before.before in
     let refused = c.before.before.before.before.before.if1.true in
-    let w = at-withdraw t in
+    let w = at_withdraw t in
     let a = start w in
     let s = a.args.state.now in
     let made = t.take-here.ensures in (
@@ -50,10 +50,10 @@ returns c =
     )
 
 returns-2 : tie.Need-returns-2
-unfolding withdrawnState state_of
+unfolding withdrawn_state state_of
 returns-2 c =
     let t = c.before.before.before in
-    let w = at-withdraw t in
+    let w = at_withdraw t in
     let a = start w in
     let s = a.args.state.now in
     let made = t.take-here.ensures in (

@@ -1,5 +1,5 @@
--- `receipts::receiving::take_in` meets its contract: in form, the columns hold what the state holds (`data-form`), the entries stand in its bytes, the four
--- steps are taken (`settle`), and what they leave is counted (`many-live`) and then written.
+-- `receipts::receiving::take_in` meets its contract: in form, the columns hold what the state holds (`data_form`), the entries stand in its bytes, the four
+-- steps are taken (`settle`), and what they leave is counted (`many_live`) and then written.
 use Prim.Native.Nat.{ℕ, ◌≤◌}
 use mathlib.Core.Path.{◌≡◌, refl, sym, ap, subst, ◌∙◌}
 use mathlib.Core.Bool.{◌||◌}
@@ -7,15 +7,15 @@ use mathlib.Core.List.{List}
 use native.Mathlib.Omega.{arith}
 use lib.Dec.{ltb}
 use Rattle.state.specs.Model.{Datum}
-use Rattle.state.specs.Layout.{store_of, entryCount}
+use Rattle.state.specs.Layout.{store_of, entry_count}
 use Rattle.state.specs.Refusal.{after}
-use Rattle.state.specs.code.Tables.{tableFrom, columns, datumOf, TableFits, storeIn}
-use Rattle.state.proofs.StateLaws.{held-count-le, entry-count-le}
-use Rattle.state.proofs.StoreLaws.{columns-fresh, table-awaiting, data-rows, datum-standing, data-form, data-columns}
-use Rattle.settling.specs.code.Rows.{withTerm}
-use Rattle.steps.specs.Steps.{settled, tooMany}
-use Rattle.receipts.specs.code.Blame.{blamedBy}
-use Rattle.settling.proofs.OutcomeLaws.{held-live, entries-live, many-live, few-counts}
+use Rattle.state.specs.code.Tables.{table_from, columns, datum_of, TableFits, store_in}
+use Rattle.state.proofs.StateLaws.{held_count_le, entry_count_le}
+use Rattle.state.proofs.StoreLaws.{columns-fresh, table_awaiting, data_rows, datum_standing, data_form, data_columns}
+use Rattle.settling.specs.code.Rows.{with_term}
+use Rattle.steps.specs.Steps.{settled, too_many}
+use Rattle.receipts.specs.code.Blame.{blamed_by}
+use Rattle.settling.proofs.OutcomeLaws.{held-live, entries-live, many_live, few-counts}
 use borrow.Author.Rules.{rules}
 use Rattle.receipts.proofs.receiving.take_in.Statement.{statement}
 use Rattle.receipts.proofs.receiving.take_in.Tie as tie
@@ -23,7 +23,7 @@ use Rattle.receipts.proofs.receiving.take_in.Tie as tie
 -- in form, at most 16 data and 32 entries
 few : (a : tie.Start) → (a.args.old.held ≤ 16) × (a.args.old.known ≤ 32)
 few a =
-    (omega (arith, a.requires.1.0.0, held-count-le a.args.state.now a.requires.0.1), omega (arith, a.requires.1.0.1, entry-count-le a.args.state.now a.requires.0.1))
+    (omega (arith, a.requires.1.0.0, held_count_le a.args.state.now a.requires.0.1), omega (arith, a.requires.1.0.1, entry_count_le a.args.state.now a.requires.0.1))
 
 get-data-requires : tie.Need-get-data-requires
 get-data-requires c κs =
@@ -38,13 +38,13 @@ settle-requires c κs =
     let h = a.requires.1.0.0 in
     let read = c.before.before.before.before.before.before.before.before.before.before.before.get-data.ensures in
     let some = few a in
-    let rows = data-rows _ s form h _ _ _ _ _ _ _ _ read.0 read.1.0 read.1.1.0 read.1.1.1 in
-    let held = data-form _ s form h _ _ _ _ _ _ _ _ read.0 read.1.0 read.1.1.0 read.1.1.1 in (
-      data-columns _ s form h _ _ _ _ _ _ _ _ read.0 read.1.0 read.1.1.0 read.1.1.1 _ (omega arith) (columns-fresh _ 34 34 17 136 (omega arith) (omega arith) (omega arith) (omega arith)),
+    let rows = data_rows _ s form h _ _ _ _ _ _ _ _ read.0 read.1.0 read.1.1.0 read.1.1.1 in
+    let held = data_form _ s form h _ _ _ _ _ _ _ _ read.0 read.1.0 read.1.1.0 read.1.1.1 in (
+      data_columns _ s form h _ _ _ _ _ _ _ _ read.0 read.1.0 read.1.1.0 read.1.1.1 _ (omega arith) (columns-fresh _ 34 34 17 136 (omega arith) (omega arith) (omega arith) (omega arith)),
       (
         (a.requires.0.0, form, a.requires.1.0.1),
         (
-          table-awaiting a.args.old.known _ 48 s a.args.masks.now (omega arith) (omega (arith, a.requires.1.1.0.2)),
+          table_awaiting a.args.old.known _ 48 s a.args.masks.now (omega arith) (omega (arith, a.requires.1.1.0.2)),
           ((a.requires.1.1.0.0, a.requires.1.1.0.1, omega arith, a.requires.1.1.0.3), (a.requires.1.1.1, rows ∙ sym held)),
         ),
       ),
@@ -52,36 +52,36 @@ settle-requires c κs =
 
 -- what the steps leave is the store of the definition
 same : (c : tie.After-settle) → let a = c.before.before.before.before.before.before.before.before.before.before.before.before.before.before.before.before.before.before.before.before.before.args in let u = c.settle in
-    storeIn u.result.held (columns u.new.0 u.new.1.0 u.new.1.1.0 u.new.1.1.1.0) u.result.known (tableFrom (entryCount a.state.now) a.state.now u.new.1.1.1.1.1.1.1.0 u.new.1.1.1.1.1.1.1.1.0)
-    ≡ settled (datumOf a.new a.p.now) (blamedBy a.blame (store_of a.state.now))
-unfolding blamedBy
+    store_in u.result.held (columns u.new.0 u.new.1.0 u.new.1.1.0 u.new.1.1.1.0) u.result.known (table_from (entry_count a.state.now) a.state.now u.new.1.1.1.1.1.1.1.0 u.new.1.1.1.1.1.1.1.1.0)
+    ≡ settled (datum_of a.new a.p.now) (blamed_by a.blame (store_of a.state.now))
+unfolding blamed_by
 same c =
     let a = c.before.before.before.before.before.before.before.before.before.before.before.before.before.before.before.before.before.before.before.before.before in
     let s = a.args.state.now in
     let u = c.settle in
     let read = c.before.before.before.before.before.before.before.before.before.before.before.before.get-data.ensures in
-    let held = data-form _ s a.requires.0.1 a.requires.1.0.0 _ _ _ _ _ _ _ _ read.0 read.1.0 read.1.1.0 read.1.1.1 in
+    let held = data_form _ s a.requires.0.1 a.requires.1.0.0 _ _ _ _ _ _ _ _ read.0 read.1.0 read.1.1.0 read.1.1.1 in
     subst
-    (λ (n : ℕ). storeIn u.result.held (columns u.new.0 u.new.1.0 u.new.1.1.0 u.new.1.1.1.0) u.result.known (tableFrom n s u.new.1.1.1.1.1.1.1.0 u.new.1.1.1.1.1.1.1.1.0) ≡ settled (datumOf a.args.new a.args.p.now) (blamedBy a.args.blame (store_of s)))
+    (λ (n : ℕ). store_in u.result.held (columns u.new.0 u.new.1.0 u.new.1.1.0 u.new.1.1.1.0) u.result.known (table_from n s u.new.1.1.1.1.1.1.1.0 u.new.1.1.1.1.1.1.1.1.0) ≡ settled (datum_of a.args.new a.args.p.now) (blamed_by a.args.blame (store_of s)))
     a.requires.1.0.1
-    (u.ensures.1.1.1 ∙ ap (λ (x : List Datum). settled (datumOf a.args.new a.args.p.now) (record { held = x; entries = withTerm a.args.blame (store_of s).entries })) held)
+    (u.ensures.1.1.1 ∙ ap (λ (x : List Datum). settled (datum_of a.args.new a.args.p.now) (record { held = x; entries = with_term a.args.blame (store_of s).entries })) held)
 
 -- the table, told by the state's own count
-fits : (c : tie.After-settle) → let a = c.before.before.before.before.before.before.before.before.before.before.before.before.before.before.before.before.before.before.before.before.before.args in let u = c.settle in TableFits 16 u.result.known (tableFrom (entryCount a.state.now) a.state.now u.new.1.1.1.1.1.1.1.0 u.new.1.1.1.1.1.1.1.1.0)
+fits : (c : tie.After-settle) → let a = c.before.before.before.before.before.before.before.before.before.before.before.before.before.before.before.before.before.before.before.before.before.args in let u = c.settle in TableFits 16 u.result.known (table_from (entry_count a.state.now) a.state.now u.new.1.1.1.1.1.1.1.0 u.new.1.1.1.1.1.1.1.1.0)
 fits c =
     let a = c.before.before.before.before.before.before.before.before.before.before.before.before.before.before.before.before.before.before.before.before.before in
     let u = c.settle in
-    subst (λ (n : ℕ). TableFits 16 u.result.known (tableFrom n a.args.state.now u.new.1.1.1.1.1.1.1.0 u.new.1.1.1.1.1.1.1.1.0)) a.requires.1.0.1 u.ensures.1.1.0.0
+    subst (λ (n : ℕ). TableFits 16 u.result.known (table_from n a.args.state.now u.new.1.1.1.1.1.1.1.0 u.new.1.1.1.1.1.1.1.1.0)) a.requires.1.0.1 u.ensures.1.1.0.0
 
 count-requires : tie.Need-count-requires
 count-requires c κs = let left = c.before.before.before.before.before.before.before.before.before.settle.ensures in (left.1.0.0.table.counted, left.1.1.0.0.counted)
 
 -- the test for 32
 many : (c : tie.After-count) → let a = c.before.before.before.before.before.before.before.before.before.before.before.before.before.before.before.before.before.before.before.before.before.before.before.before.before.before.before.before.before.before.before.args in
-    tooMany (settled (datumOf a.new a.p.now) (blamedBy a.blame (store_of a.state.now))) ≡ (ltb 16 c.count.result.held || ltb 32 c.count.result.known)
+    too_many (settled (datum_of a.new a.p.now) (blamed_by a.blame (store_of a.state.now))) ≡ (ltb 16 c.count.result.held || ltb 32 c.count.result.known)
 many c =
     let at-settle = c.before.before.before.before.before.before.before.before.before.before in
-    ap tooMany (sym (same at-settle)) ∙ many-live _ _ _ _ at-settle.settle.ensures.1.0.0 (fits at-settle) ∙ rw (← c.count.ensures.0, ← c.count.ensures.1)
+    ap too_many (sym (same at-settle)) ∙ many_live _ _ _ _ at-settle.settle.ensures.1.0.0 (fits at-settle) ∙ rw (← c.count.ensures.0, ← c.count.ensures.1)
 
 returns : tie.Need-returns
 unfolding after
@@ -98,7 +98,7 @@ put-store-requires c κs =
     let counted = at_count.count.ensures in
     let some = few a in
     let enough = few-counts at_count.count.result.held at_count.count.result.known c.before.before.before.before.before.before.before.if1.false in
-    let there = datum-standing _ s a.requires.0.1 a.requires.1.0.0 _ _ _ _ _ _ _ _ read.0 read.1.0 read.1.1.0 read.1.1.1 in (
+    let there = datum_standing _ s a.requires.0.1 a.requires.1.0.0 _ _ _ _ _ _ _ _ read.0 read.1.0 read.1.1.0 read.1.1.1 in (
       left.1.0.0,
       (
         fits at-settle,

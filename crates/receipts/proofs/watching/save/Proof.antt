@@ -2,9 +2,9 @@
 use Prim.Native.Nat.{◌<◌}
 use native.Mathlib.Omega.{arith}
 use Rattle.numbers.specs.Numbers.{Bytes}
-use Rattle.state.specs.Layout.{clocksMost}
+use Rattle.state.specs.Layout.{clocks_most}
 use Rattle.state.proofs.StateLaws.{form-place}
-use Rattle.engine.proofs.WatchLaws.{with-fits, with-saved, without-saved}
+use Rattle.engine.proofs.WatchLaws.{with_fits, with_saved, without-saved}
 use borrow.Author.Rules.{rules}
 use Rattle.receipts.proofs.watching.save.Statement.{statement}
 use Rattle.receipts.proofs.watching.save.Tie as tie
@@ -18,14 +18,14 @@ returns c =
 save-requires : tie.Need-save-requires
 save-requires c κs =
     let a = c.before.before.before.before.before in
-    let near : a.args.sender < clocksMost = omega (arith, a.requires.2) in
-    (omega (arith, a.requires.0, near), form-place a.args.state.now a.requires.1 a.args.sender near, (with-fits _ _ _ c.before.before.readings.given.1 a.requires.3).0)
+    let near : a.args.sender < clocks_most = omega (arith, a.requires.2) in
+    (omega (arith, a.requires.0, near), form-place a.args.state.now a.requires.1 a.args.sender near, (with_fits _ _ _ c.before.before.readings.given.1 a.requires.3).0)
 
 returns-2 : tie.Need-returns-2
 unfolding Bytes
 returns-2 c =
     let a = c.before.before.before.before.before.before.before.before in
-    with-saved a.args.state.now _ a.args.sender _ _ _ a.requires.1 (λ i. (c.before.before.before.before.before.before.before.slice-known.given i).fits) a.requires.0 (omega (arith, a.requires.2))
+    with_saved a.args.state.now _ a.args.sender _ _ _ a.requires.1 (λ i. (c.before.before.before.before.before.before.before.slice-known.given i).fits) a.requires.0 (omega (arith, a.requires.2))
     c.before.before.before.before.before.readings.given.1 c.before.before.save.ensures
 
 pub save-spec : {M : Type 1} → statement M

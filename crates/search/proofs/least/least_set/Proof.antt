@@ -7,10 +7,10 @@ use native.Mathlib.Omega.{arith}
 use lib.ListN.{length}
 use Rattle.names.proofs.SetLaws.{ones-empty}
 use Rattle.search.specs.code.Search.{rows_of}
-use Rattle.search.specs.code.LeftEnds.{noEnd}
+use Rattle.search.specs.code.LeftEnds.{no_end}
 use Rattle.search.proofs.EndSteps.{listed-rows, listed-needs}
-use Rattle.search.proofs.StretchLaws.{stretches-room}
-use Rattle.search.proofs.LeastLaws.{LeastOf, Passed, least-begin, least-next, least-in, least-alone, ready-rows}
+use Rattle.search.proofs.StretchLaws.{stretches_room}
+use Rattle.search.proofs.LeastLaws.{LeastOf, Passed, least-begin, least_next, least_in, least-alone, ready_rows}
 use Rattle.search.proofs.least.least_set.Statement.{statement}
 use Rattle.search.proofs.least.least_set.Tie as tie
 
@@ -19,11 +19,11 @@ invariant-loop lefts rights counts masks several singles order listed₀ n rows 
     (length listed ≡ length listed₀) × LeastOf (Passed n rows lefts rights (rows_of counts masks several singles) order limit free floor) best
 
 abbrev decreases-loop : tie.decreases-loop
-decreases-loop lefts rights counts masks several singles order listed₀ n rows limit free best₀ floor₀ listed best floor = noEnd - floor
+decreases-loop lefts rights counts masks several singles order listed₀ n rows limit free best₀ floor₀ listed best floor = no_end - floor
 
 predicate-step-requires : tie.Need-predicate-step-requires invariant-loop decreases-loop
 predicate-step-requires c κs =
-    let a = c.before.before.before.before.before.before.before.before.before in (ready-rows a.requires.0, omega arith, omega (arith, ones-empty))
+    let a = c.before.before.before.before.before.before.before.before.before in (ready_rows a.requires.0, omega arith, omega (arith, ones-empty))
 
 returns : tie.Need-returns invariant-loop decreases-loop
 returns c = (least-alone _ _ _ _ _ _ _ _ c.before.if1.true _ c.predicate-step.ensures, refl)
@@ -43,7 +43,7 @@ returns-2 : tie.Need-returns-2 invariant-loop decreases-loop
 returns-2 c =
     let head = c.before.before in
     let a = head.before.before.before.before.before.before.before.before.before.before in
-    (least-in _ _ _ _ _ _ _ _ a.requires.0 _ _ _ head.loop.invariant.1 c.before.next-end.ensures c.if2.true head.before.if1.false, head.loop.invariant.0)
+    (least_in _ _ _ _ _ _ _ _ a.requires.0 _ _ _ head.loop.invariant.1 c.before.next-end.ensures c.if2.true head.before.if1.false, head.loop.invariant.0)
 
 stretch-end-requires : tie.Need-stretch-end-requires invariant-loop decreases-loop
 stretch-end-requires c κs =
@@ -72,7 +72,7 @@ add-floor c =
     let a = head.before.before.before.before.before.before.before.before.before.before in
     let stretch = at-list.before.before.stretch-end.ensures in
     let next = at-list.before.before.before.before.next-end.ensures in
-    record { fits = omega (arith, (stretches-room _ _ _ _ _ _ a.requires.0 _ _ next at-list.before.before.before.if2.false _ stretch.0 stretch.1).0) }
+    record { fits = omega (arith, (stretches_room _ _ _ _ _ _ a.requires.0 _ _ next at-list.before.before.before.if2.false _ stretch.0 stretch.1).0) }
 
 loop-less : tie.Need-loop-smaller invariant-loop decreases-loop
 loop-less c =
@@ -80,7 +80,7 @@ loop-less c =
     let a = at-list.before.before.before.before.before.before.before.before.before.before.before.before.before.before.before in
     let stretch = at-list.before.before.stretch-end.ensures in
     let next = at-list.before.before.before.before.next-end.ensures in
-    omega (arith, stretches-room _ _ _ _ _ _ a.requires.0 _ _ next at-list.before.before.before.if2.false _ stretch.0 stretch.1)
+    omega (arith, stretches_room _ _ _ _ _ _ a.requires.0 _ _ next at-list.before.before.before.if2.false _ stretch.0 stretch.1)
 
 loop-again : tie.Need-loop-preserved invariant-loop decreases-loop
 loop-again c =
@@ -92,7 +92,7 @@ loop-again c =
     let stretch = at-list.before.before.stretch-end.ensures in
     let next = at-list.before.before.before.before.next-end.ensures in (
       at-list.list-outside.auto.1.1.1.1.1.0 ∙ head.loop.invariant.0,
-      least-next _ _ _ _ _ _ _ _ a.requires.0 _ _ _ head.loop.invariant.1 next at-list.before.before.before.if2.false _ stretch.0 stretch.1 _
+      least_next _ _ _ _ _ _ _ _ a.requires.0 _ _ _ head.loop.invariant.1 next at-list.before.before.before.if2.false _ stretch.0 stretch.1 _
           (rw same at c.predicate-step2.ensures),
     )
 

@@ -3,7 +3,7 @@ use mathlib.Core.Path.{◌∙◌}
 use native.Mathlib.Omega.{arith}
 use Rattle.names.proofs.SetLaws.{ones-empty}
 use Rattle.search.proofs.EndSteps.{kept-rows, kept-preds}
-use Rattle.search.proofs.LeastLaws.{least-unknown}
+use Rattle.search.proofs.LeastLaws.{least_unknown}
 use borrow.Author.Rules.{rules}
 use Rattle.search.proofs.least.least_within.Statement.{statement}
 use Rattle.search.proofs.least.least_within.Tie as tie
@@ -21,7 +21,7 @@ returns c =
     let a = at-list.before.before.before.before.before.before.before.before.before.before in
     let out = at-list.list-entries.ensures in
     let same = kept-preds _ _ _ _ _ _ _ _ a.requires.0 a.requires.1 _ _ out.0 out.1 out.2 in
-    (least-unknown _ _ _ _ _ _ _ _ a.requires.0 _ (rw same at c.before.predicate-step.ensures) c.if1.true, at-list.list-entries.auto.1.1.1.0)
+    (least_unknown _ _ _ _ _ _ _ _ a.requires.0 _ (rw same at c.before.predicate-step.ensures) c.if1.true, at-list.list-entries.auto.1.1.1.0)
 
 returns-2 : tie.Need-returns-2
 returns-2 c =

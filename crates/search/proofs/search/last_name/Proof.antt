@@ -7,10 +7,10 @@ use native.Mathlib.Nat.{le_refl}
 use native.Mathlib.Omega.{arith}
 use lib.Dec.{T}
 use lib.ListN.{drop}
-use Rattle.names.specs.Sets.{subset, setUnion}
+use Rattle.names.specs.Sets.{subset, set_union}
 use Rattle.names.proofs.SetLaws.{union_left}
-use Rattle.search.specs.code.Search.{rows_of, predAt, preds, narrowed}
-use Rattle.search.proofs.SearchSteps.{narrowed-turn, narrowed-done, last-stop, last-least, last_some, last_one, narrow-above}
+use Rattle.search.specs.code.Search.{rows_of, pred_at, preds, narrowed}
+use Rattle.search.proofs.SearchSteps.{narrowed-turn, narrowed-done, last_stop, last-least, last_some, last_one, narrow-above}
 use borrow.Author.Rules.{rules}
 use Rattle.search.proofs.search.last_name.Statement.{statement}
 use Rattle.search.proofs.search.last_name.Tie as tie
@@ -18,7 +18,7 @@ use Rattle.search.proofs.search.last_name.Tie as tie
 abbrev invariant-loop : tie.invariant-loop
 invariant-loop listed counts masks several singles n k set free limit best names₀ j₀ names j =
     (k ≤ j) × (j ≤ n) × T (subset set names)
-    × (narrowed limit set (setUnion set free) (drop k (preds n listed (rows_of counts masks several singles))) ≡ narrowed limit set names (drop j (preds n listed (rows_of counts masks several singles))))
+    × (narrowed limit set (set_union set free) (drop k (preds n listed (rows_of counts masks several singles))) ≡ narrowed limit set names (drop j (preds n listed (rows_of counts masks several singles))))
 
 abbrev decreases-loop : tie.decreases-loop
 decreases-loop listed counts masks several singles n k set free limit best names₀ j₀ names j = n - j
@@ -37,7 +37,7 @@ returns : tie.Need-returns invariant-loop decreases-loop
 returns c =
     let head = c.before.before in
     let a = head.before.before.before.before.before.before.before in
-    last-stop _ _ _ _ _ _ _ _ a.requires.2 a.requires.1 a.requires.3 head.loop.j _ head.loop.invariant.3 c.if1.true
+    last_stop _ _ _ _ _ _ _ _ a.requires.2 a.requires.1 a.requires.3 head.loop.j _ head.loop.invariant.3 c.if1.true
 
 returns-2 : tie.Need-returns-2 invariant-loop decreases-loop
 returns-2 c =
@@ -62,7 +62,7 @@ loop-again c =
       omega arith,
       omega arith,
       narrow-above _
-          (predAt a.args.listed.now _ head.loop.j) _ _ c.narrow.ensures head.loop.invariant.2,
+          (pred_at a.args.listed.now _ head.loop.j) _ _ c.narrow.ensures head.loop.invariant.2,
       head.loop.invariant.3
           ∙ narrowed-turn _ _ _ _ head.loop.j _ _ _ c.before.before.before.before.before.loop-test.true a.requires.2
           c.narrow.ensures,
@@ -72,7 +72,7 @@ returns-3 : tie.Need-returns-3 invariant-loop decreases-loop
 returns-3 c =
     let head = c.before.before in
     let a = head.before.before.before.before.before.before.before in
-    last-stop _ _ _ _ _ _ _ _ a.requires.2 a.requires.1 a.requires.3 head.loop.j _ head.loop.invariant.3 c.if3.true
+    last_stop _ _ _ _ _ _ _ _ a.requires.2 a.requires.1 a.requires.3 head.loop.j _ head.loop.invariant.3 c.if3.true
 
 least-name-requires : tie.Need-least-name-requires invariant-loop decreases-loop
 least-name-requires c κs =

@@ -3,20 +3,20 @@
 use mathlib.Core.Path.{refl}
 use borrow.Author.Rules.{rules}
 use lib.ListN.{get_or}
-use Rattle.search.specs.code.Search.{predAt}
-use Rattle.search.proofs.PartedLaws.{row-hit, row-narrow}
+use Rattle.search.specs.code.Search.{pred_at}
+use Rattle.search.proofs.PartedLaws.{row_hit, row-narrow}
 use Rattle.search.proofs.search.narrow.Statement.{statement}
 use Rattle.search.proofs.search.narrow.Tie as tie
 
 returns : tie.Need-returns
-unfolding predAt
+unfolding pred_at
 returns c =
     let at-shared = c.before in
     let a = at-shared.before.before.before.before.before.before.before.before in
-    rw (row-hit _ (get_or a.args.listed.now a.args.j 0) a.args.set a.requires.1 _ at-shared.shared.ensures c.if1.true) refl
+    rw (row_hit _ (get_or a.args.listed.now a.args.j 0) a.args.set a.requires.1 _ at-shared.shared.ensures c.if1.true) refl
 
 returns-2 : tie.Need-returns-2
-unfolding predAt
+unfolding pred_at
 returns-2 c =
     let at_rest = c.before.before.before in
     let at-shared = at_rest.before.before in

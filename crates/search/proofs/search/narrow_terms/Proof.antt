@@ -10,7 +10,7 @@ use lib.ListN.{length, drop}
 use Rattle.predicates.specs.Predicates.{holds}
 use Rattle.search.specs.code.Search.{gather}
 use Rattle.predicates.proofs.IndexLaws.{at_in}
-use Rattle.search.proofs.SearchSteps.{terms-hold, terms-false, terms-with, terms-past, terms-done, terms-start}
+use Rattle.search.proofs.SearchSteps.{terms_hold, terms_false, terms_with, terms_past, terms-done, terms-start}
 use Rattle.search.proofs.search.narrow_terms.Statement.{statement}
 use Rattle.search.proofs.search.narrow_terms.Tie as tie
 
@@ -32,7 +32,7 @@ returns c =
     let head = c.before.before.before.before in
     let p = head.before.before.args.p.now in
     let in-front : head.loop.i - 1 < length p = omega (arith, head.loop.invariant.0, c.before.before.before.loop-test.true) in
-    terms-hold _ p _ _ _ _ (at_in p 0 (head.loop.i - 1) in-front)
+    terms_hold _ p _ _ _ _ (at_in p 0 (head.loop.i - 1) in-front)
     c.before.minus.ensures c.if1.true
 
 loop-again : tie.Need-loop-preserved invariant-loop decreases-loop
@@ -41,10 +41,10 @@ loop-again c =
     let head = term.before.before.before in
     let inv = head.loop.invariant in (
       omega arith,
-      terms-with _ _ _ head.loop.i _ _ term.before.before.loop-test.true inv.0 inv.1 inv.2 term.minus.ensures
+      terms_with _ _ _ head.loop.i _ _ term.before.before.loop-test.true inv.0 inv.1 inv.2 term.minus.ensures
           c.before.before.before.before.if1.false _ c.before.before.before.count.ensures.0 c.before.before.if2.true _ _
           c.before.union.ensures c.union2.ensures,
-      terms-false _ _ _ head.loop.i _ _ term.before.before.loop-test.true inv.0 inv.1 inv.2 term.minus.ensures
+      terms_false _ _ _ head.loop.i _ _ term.before.before.loop-test.true inv.0 inv.1 inv.2 term.minus.ensures
           c.before.before.before.before.if1.false,
     )
 
@@ -54,9 +54,9 @@ loop-again-2 c =
     let head = term.before.before.before in
     let inv = head.loop.invariant in (
       omega arith,
-      terms-past _ _ _ head.loop.i _ _ term.before.before.loop-test.true inv.0 inv.1 inv.2 term.minus.ensures
+      terms_past _ _ _ head.loop.i _ _ term.before.before.loop-test.true inv.0 inv.1 inv.2 term.minus.ensures
           c.before.before.if1.false _ c.before.count.ensures.0 c.if2.false,
-      terms-false _ _ _ head.loop.i _ _ term.before.before.loop-test.true inv.0 inv.1 inv.2 term.minus.ensures
+      terms_false _ _ _ head.loop.i _ _ term.before.before.loop-test.true inv.0 inv.1 inv.2 term.minus.ensures
           c.before.before.if1.false,
     )
 

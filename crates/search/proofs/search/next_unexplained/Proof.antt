@@ -5,10 +5,10 @@ use mathlib.Core.Path.{◌≡◌, refl, sym, ◌∙◌}
 use native.Mathlib.Nat.{le_refl}
 use native.Mathlib.Omega.{arith}
 use borrow.Author.Rules.{rules}
-use borrow.Author.Tests.{not-true, not-false}
+use borrow.Author.Tests.{not-true, not_false}
 use lib.ListN.{drop}
 use Rattle.search.specs.code.Search.{rows_of, preds, skipped}
-use Rattle.search.proofs.SearchSteps.{skip-here, skip-next, skip-done}
+use Rattle.search.proofs.SearchSteps.{skip_here, skip_next, skip_done}
 use Rattle.search.proofs.search.next_unexplained.Statement.{statement}
 use Rattle.search.proofs.search.next_unexplained.Tie as tie
 
@@ -37,7 +37,7 @@ returns c =
     let k = head.loop.k in (
       head.loop.invariant.0,
       head.loop.invariant.1,
-      skip-here a.n a.listed.now _ a.set k c.before.before.loop-test.true (sym c.before.holds_at.ensures ∙ not-true _ c.if1.true)
+      skip_here a.n a.listed.now _ a.set k c.before.before.loop-test.true (sym c.before.holds_at.ensures ∙ not-true _ c.if1.true)
           ∙ head.loop.invariant.2,
     )
 
@@ -48,7 +48,7 @@ loop-again c =
     let k = head.loop.k in (
       omega arith,
       omega arith,
-      skip-next a.n a.listed.now _ a.set k c.before.before.loop-test.true (sym c.before.holds_at.ensures ∙ not-false _ c.if1.false)
+      skip_next a.n a.listed.now _ a.set k c.before.before.loop-test.true (sym c.before.holds_at.ensures ∙ not_false _ c.if1.false)
           ∙ head.loop.invariant.2,
     )
 
@@ -58,7 +58,7 @@ returns-2 c =
     let a = head.before.before.before.before.before.before.args in (
       omega arith,
       le_refl _,
-      skip-done a.n a.listed.now _ a.set head.loop.k c.loop-test.false ∙ head.loop.invariant.2,
+      skip_done a.n a.listed.now _ a.set head.loop.k c.loop-test.false ∙ head.loop.invariant.2,
     )
 
 pub next-unexplained-spec : {M : Type 1} → statement M

@@ -1,7 +1,7 @@
 -- `search::stretches::first_end` meets its contract: the first stretch that is explained, and the first end in it.
 use mathlib.Core.Path.{◌∙◌}
 use native.Mathlib.Omega.{arith}
-use Rattle.search.proofs.StretchLaws.{no-first}
+use Rattle.search.proofs.StretchLaws.{no_first}
 use borrow.Author.Rules.{rules}
 use Rattle.search.proofs.stretches.first_end.Statement.{statement}
 use Rattle.search.proofs.stretches.first_end.Tie as tie
@@ -10,7 +10,7 @@ returns : tie.Need-returns
 returns c =
     let at-stretch = c.before.before.before.before in
     let a = at-stretch.before.before.before.before.before.before.before.before.before.before in
-    (no-first _ _ _ _ _ _ a.requires.0 _ _ _ _ _ at-stretch.first-stretch.ensures.0 c.if1.true, at-stretch.first-stretch.ensures.1)
+    (no_first _ _ _ _ _ _ a.requires.0 _ _ _ _ _ at-stretch.first-stretch.ensures.0 c.if1.true, at-stretch.first-stretch.ensures.1)
 
 first-in-stretch-requires : tie.Need-first-in-stretch-requires
 first-in-stretch-requires c κs =

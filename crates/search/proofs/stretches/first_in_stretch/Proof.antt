@@ -7,15 +7,15 @@ use native.Mathlib.Omega.{arith}
 use lib.ListN.{length}
 use Rattle.names.proofs.SetLaws.{ones-empty}
 use Rattle.search.specs.code.Search.{rows_of, Fits}
-use Rattle.search.specs.code.LeftEnds.{IsEnd, needs as LeftEnds·needs}
+use Rattle.search.specs.code.LeftEnds.{IsEnd, needs}
 use Rattle.search.proofs.EndSteps.{listed-rows, listed-needs}
-use Rattle.search.proofs.StretchLaws.{back-le, back_end, back-explains, back_done, back-stop, last-is-end, last-lt}
+use Rattle.search.proofs.StretchLaws.{back_le, back_end, back_explains, back_done, back_stop, last-is_end, last_lt}
 use Rattle.search.proofs.stretches.first_in_stretch.Statement.{statement}
 use Rattle.search.proofs.stretches.first_in_stretch.Tie as tie
 
 abbrev invariant-loop : tie.invariant-loop
 invariant-loop lefts rights counts masks several singles order listed₀ n rows limit free from found by set₀ end₀ listed set end =
-    (length listed ≡ length listed₀) × IsEnd n rows lefts end × Fits limit 0 free (LeftEnds·needs rows lefts rights (rows_of counts masks several singles) order end) set
+    (length listed ≡ length listed₀) × IsEnd n rows lefts end × Fits limit 0 free (needs rows lefts rights (rows_of counts masks several singles) order end) set
     × (end ≤ found)
 
 abbrev decreases-loop : tie.decreases-loop
@@ -38,8 +38,8 @@ loop-holds c =
     let next = c.next-end.ensures in (
       refl,
       back_end _ _ _ _ _ _ a.requires.0 _ _ _ _ _ _ stretch.1 stretch.0 latest next,
-      back-explains _ _ _ _ _ _ a.requires.0 _ _ _ _ _ _ stretch.1 stretch.0 latest next,
-      back-le _ _ _ _ _ _ a.requires.0 _ _ _ _ _ _ stretch.1 stretch.0 latest next,
+      back_explains _ _ _ _ _ _ a.requires.0 _ _ _ _ _ _ stretch.1 stretch.0 latest next,
+      back_le _ _ _ _ _ _ a.requires.0 _ _ _ _ _ _ stretch.1 stretch.0 latest next,
     )
 
 sub-last-end : tie.Need-overflow-sub-last-end invariant-loop decreases-loop
@@ -77,7 +77,7 @@ returns c =
     let a = head.before.before.before.before.before.before.before.before.before.before.before in
     let out = at-list.list-outside.ensures in
     let same = listed-needs _ _ _ _ _ _ _ _ a.requires.0 (omega (arith, a.requires.1, head.loop.invariant.0)) _ _ out.0 out.1 out.2 in (
-      back-stop _ _ _ _ _ _ a.requires.0 _ _ a.requires.2 _ _ _ a.requires.3 a.requires.4 _ _ head.loop.invariant.1 head.loop.invariant.2
+      back_stop _ _ _ _ _ _ a.requires.0 _ _ a.requires.2 _ _ _ a.requires.3 a.requires.4 _ _ head.loop.invariant.1 head.loop.invariant.2
           at-list.before.before.before.loop-test.true head.loop.invariant.3 _ at-list.before.before.last_end.ensures _
           (rw same at c.before.predicate-step.ensures) c.if1.true,
       at-list.list-outside.auto.1.1.1.1.1.0 ∙ head.loop.invariant.0,
@@ -103,11 +103,11 @@ loop-less c =
     let last = at-list.before.before.last_end.ensures in
     let over = at-list.before.before.before.loop-test.true in
     let inv = head.loop.invariant in
-    let end = last-is-end _ _ _ _ _ _ a.requires.0 _ _ a.requires.2 _ _ _ a.requires.3 a.requires.4 _ _ inv.1 inv.2 over inv.3 _ last in
-    let lower = last-lt _ _ _ _ _ _ a.requires.0 _ _ a.requires.2 _ _ _ a.requires.3 a.requires.4 _ _ inv.1 inv.2 over inv.3 _ last in
+    let end = last-is_end _ _ _ _ _ _ a.requires.0 _ _ a.requires.2 _ _ _ a.requires.3 a.requires.4 _ _ inv.1 inv.2 over inv.3 _ last in
+    let lower = last_lt _ _ _ _ _ _ a.requires.0 _ _ a.requires.2 _ _ _ a.requires.3 a.requires.4 _ _ inv.1 inv.2 over inv.3 _ last in
     let latest = c.before.latest2.ensures in
     let next = c.next-end2.ensures in
-    omega (arith, lower, back-le _ _ _ _ _ _ a.requires.0 _ _ _ _ _ _ found end latest next)
+    omega (arith, lower, back_le _ _ _ _ _ _ a.requires.0 _ _ _ _ _ _ found end latest next)
 
 loop-again : tie.Need-loop-preserved invariant-loop decreases-loop
 loop-again c =
@@ -120,14 +120,14 @@ loop-again c =
     let last = at-list.before.before.last_end.ensures in
     let over = at-list.before.before.before.loop-test.true in
     let inv = head.loop.invariant in
-    let end = last-is-end _ _ _ _ _ _ a.requires.0 _ _ a.requires.2 _ _ _ a.requires.3 a.requires.4 _ _ inv.1 inv.2 over inv.3 _ last in
-    let lower = last-lt _ _ _ _ _ _ a.requires.0 _ _ a.requires.2 _ _ _ a.requires.3 a.requires.4 _ _ inv.1 inv.2 over inv.3 _ last in
+    let end = last-is_end _ _ _ _ _ _ a.requires.0 _ _ a.requires.2 _ _ _ a.requires.3 a.requires.4 _ _ inv.1 inv.2 over inv.3 _ last in
+    let lower = last_lt _ _ _ _ _ _ a.requires.0 _ _ a.requires.2 _ _ _ a.requires.3 a.requires.4 _ _ inv.1 inv.2 over inv.3 _ last in
     let latest = c.before.latest2.ensures in
     let next = c.next-end2.ensures in (
       at-list.list-outside.auto.1.1.1.1.1.0 ∙ inv.0,
       back_end _ _ _ _ _ _ a.requires.0 _ _ _ _ _ _ found end latest next,
-      back-explains _ _ _ _ _ _ a.requires.0 _ _ _ _ _ _ found end latest next,
-      omega (arith, inv.3, lower, back-le _ _ _ _ _ _ a.requires.0 _ _ _ _ _ _ found end latest next),
+      back_explains _ _ _ _ _ _ a.requires.0 _ _ _ _ _ _ found end latest next,
+      omega (arith, inv.3, lower, back_le _ _ _ _ _ _ a.requires.0 _ _ _ _ _ _ found end latest next),
     )
 
 same-length-2 : tie.Need-same-length-2 invariant-loop decreases-loop

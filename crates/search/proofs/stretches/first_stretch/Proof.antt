@@ -7,12 +7,12 @@ use mathlib.Core.Logic.{⊎_elim}
 use native.Mathlib.Omega.{arith}
 use lib.ListN.{length, drop}
 use Rattle.numbers.proofs.NumberLaws.{above_zero, length-put}
-use Rattle.names.specs.Sets.{noSet}
-use Rattle.search.specs.code.Search.{rows_of, masksMost, Trying, RowsFit, preds}
-use Rattle.search.specs.code.LeftEnds.{noEnd, rules as LeftEnds·needs, Unexplained}
-use Rattle.search.proofs.SearchSteps.{trying-none, trying-skip, trying-stop, worth-few}
-use Rattle.search.proofs.EndSteps.{listed-row, listed-rows, listed-needs, trying-begin, trying-next, none_needed}
-use Rattle.search.proofs.StretchLaws.{stretches-none, stretches-found, stretches-next, stretches-room}
+use Rattle.names.specs.Sets.{no_set}
+use Rattle.search.specs.code.Search.{rows_of, masks_most, Trying, RowsFit, preds}
+use Rattle.search.specs.code.LeftEnds.{no_end, rules as the_rules, Unexplained}
+use Rattle.search.proofs.SearchSteps.{trying_none, trying_skip, trying_stop, worth-few}
+use Rattle.search.proofs.EndSteps.{listed-row, listed-rows, listed-needs, trying_begin, trying_next, none_needed}
+use Rattle.search.proofs.StretchLaws.{stretches_none, stretches_found, stretches_next, stretches_room}
 use borrow.Author.Rules.{rules}
 use Rattle.search.proofs.stretches.first_stretch.Statement.{statement}
 use Rattle.search.proofs.stretches.first_stretch.Tie as tie
@@ -20,8 +20,8 @@ use Rattle.search.proofs.stretches.first_stretch.Tie as tie
 abbrev invariant-loop : tie.invariant-loop
 invariant-loop lefts rights counts masks several singles order listed n rows limit free floor from x m at₀ end rest₀ at rest =
     (end ≤ length masks) × (1 ≤ m) × RowsFit m listed (rows_of counts masks several singles)
-    × Trying noSet limit 0 free (LeftEnds·needs rows lefts rights (rows_of counts masks several singles) order x) noSet masks
-    (drop 1 (preds m listed (rows_of counts masks several singles))) end at rest noSet × (end ≤ masksMost)
+    × Trying no_set limit 0 free (the_rules rows lefts rights (rows_of counts masks several singles) order x) no_set masks
+    (drop 1 (preds m listed (rows_of counts masks several singles))) end at rest no_set × (end ≤ masks_most)
 
 abbrev decreases-loop : tie.decreases-loop
 decreases-loop lefts rights counts masks several singles order listed n rows limit free floor from x m at₀ end rest₀ at rest = end - at
@@ -31,7 +31,7 @@ invariant-ends lefts rights counts masks several singles order listed₀ n rows 
     (length listed ≡ length listed₀) × Unexplained n rows lefts rights (rows_of counts masks several singles) order limit free floor
 
 abbrev decreases-ends : tie.decreases-ends
-decreases-ends lefts rights counts masks several singles order listed₀ n rows limit free floor₀ listed floor = noEnd - floor
+decreases-ends lefts rights counts masks several singles order listed₀ n rows limit free floor₀ listed floor = no_end - floor
 
 ends-holds : tie.Need-ends-init invariant-loop decreases-loop invariant-ends decreases-ends
 ends-holds c = (refl, λ k a b d. absurd (omega arith))
@@ -71,7 +71,7 @@ loop-holds c =
       omega (arith, c.terms-at.ensures.1, (rows.parted 0 some).long),
       some,
       rows,
-      trying-begin _ _ _ _ _ _ _ _ some (listed-needs _ _ _ _ _ _ _ _ a.requires.0 (omega (arith, a.requires.1, head.ends.invariant.0)) _ _ at-list.list-outside.ensures.0 at-list.list-outside.ensures.1 at-list.list-outside.ensures.2) c.terms-at.ensures.0 c.terms-at.ensures.1,
+      trying_begin _ _ _ _ _ _ _ _ some (listed-needs _ _ _ _ _ _ _ _ a.requires.0 (omega (arith, a.requires.1, head.ends.invariant.0)) _ _ at-list.list-outside.ensures.0 at-list.list-outside.ensures.1 at-list.list-outside.ensures.2) c.terms-at.ensures.0 c.terms-at.ensures.1,
       omega (arith, c.terms-at.ensures.1, (rows.parted 0 some).few, row, a.requires.0.most),
     )
 
@@ -87,7 +87,7 @@ predicate-step-requires c κs =
       loop.invariant.2,
       loop.invariant.1,
       rw c.union.ensures
-          (worth-few _ 0 loop.rest _ noSet (sym c.before.before.before.worth.ensures ∙ c.before.before.if3.true)),
+          (worth-few _ 0 loop.rest _ no_set (sym c.before.before.before.worth.ensures ∙ c.before.before.if3.true)),
     )
 
 loop-again : tie.Need-loop-preserved invariant-loop decreases-loop invariant-ends decreases-ends
@@ -104,10 +104,10 @@ loop-again c =
       loop.invariant.1,
       loop.invariant.2,
       rw w.6
-          (trying-next _ _ _ _ _ _ loop.at loop.rest loop.invariant.3 h loop.invariant.0 _ (test ∙ w.0.taken) (rw w.2.ensures at w.3.ensures) _ w.4.left w.5.ensures),
+          (trying_next _ _ _ _ _ _ loop.at loop.rest loop.invariant.3 h loop.invariant.0 _ (test ∙ w.0.taken) (rw w.2.ensures at w.3.ensures) _ w.4.left w.5.ensures),
       loop.invariant.4,
     ))
-    (λ w. (loop.invariant.0, loop.invariant.1, loop.invariant.2, rw w.1 (trying-skip _ _ 0 _ _ _ _ _ _ loop.at loop.rest noSet loop.invariant.3 h loop.invariant.0 (test ∙ w.0.left)), loop.invariant.4))
+    (λ w. (loop.invariant.0, loop.invariant.1, loop.invariant.2, rw w.1 (trying_skip _ _ 0 _ _ _ _ _ _ loop.at loop.rest no_set loop.invariant.3 h loop.invariant.0 (test ∙ w.0.left)), loop.invariant.4))
     c.if3.branch
 
 add-floor : tie.Need-overflow-add-floor invariant-loop decreases-loop invariant-ends decreases-ends
@@ -115,14 +115,14 @@ add-floor c =
     let at-list = c.before.before.before.before.before.before.before in
     let head = at-list.before.before.before.before.before in
     let a = head.before.before.before.before.before.before.before.before.before in
-    record { fits = omega (arith, (stretches-room _ _ _ _ _ _ a.requires.0 _ _ at-list.before.before.before.before.next-end.ensures at-list.before.before.before.if1.false _ at-list.before.before.stretch-end.ensures.0 at-list.before.before.stretch-end.ensures.1).0) }
+    record { fits = omega (arith, (stretches_room _ _ _ _ _ _ a.requires.0 _ _ at-list.before.before.before.before.next-end.ensures at-list.before.before.before.if1.false _ at-list.before.before.stretch-end.ensures.0 at-list.before.before.stretch-end.ensures.1).0) }
 
 ends-less : tie.Need-ends-smaller invariant-loop decreases-loop invariant-ends decreases-ends
 ends-less c =
     let at-list = c.before.before.before.before.before.before.before in
     let head = at-list.before.before.before.before.before in
     let a = head.before.before.before.before.before.before.before.before.before in
-    omega (arith, stretches-room _ _ _ _ _ _ a.requires.0 _ _ at-list.before.before.before.before.next-end.ensures at-list.before.before.before.if1.false _ at-list.before.before.stretch-end.ensures.0 at-list.before.before.stretch-end.ensures.1)
+    omega (arith, stretches_room _ _ _ _ _ _ a.requires.0 _ _ at-list.before.before.before.before.next-end.ensures at-list.before.before.before.if1.false _ at-list.before.before.stretch-end.ensures.0 at-list.before.before.stretch-end.ensures.1)
 
 ends-again : tie.Need-ends-preserved invariant-loop decreases-loop invariant-ends decreases-ends
 ends-again c =
@@ -130,7 +130,7 @@ ends-again c =
     let head = at-list.before.before.before.before.before in
     let a = head.before.before.before.before.before.before.before.before.before in (
       ap length at-list.list-outside.ensures.2 ∙ length-put 0 _ _ ∙ head.ends.invariant.0,
-      stretches-next _ _ _ _ _ _ a.requires.0 _ _ a.requires.2 _ _ head.ends.invariant.1 at-list.before.before.before.before.next-end.ensures at-list.before.before.before.if1.false _ at-list.before.before.stretch-end.ensures.0 at-list.before.before.stretch-end.ensures.1 (trying-none _ _ _ _ _ _ _ _ _ _ _ _ c.before.loop.invariant.3 c.loop-test.false),
+      stretches_next _ _ _ _ _ _ a.requires.0 _ _ a.requires.2 _ _ head.ends.invariant.1 at-list.before.before.before.before.next-end.ensures at-list.before.before.before.if1.false _ at-list.before.before.stretch-end.ensures.0 at-list.before.before.stretch-end.ensures.1 (trying_none _ _ _ _ _ _ _ _ _ _ _ _ c.before.loop.invariant.3 c.loop-test.false),
     )
 
 same_length : tie.Need-same-length invariant-loop decreases-loop invariant-ends decreases-ends
@@ -140,7 +140,7 @@ returns : tie.Need-returns invariant-loop decreases-loop invariant-ends decrease
 returns c =
     let head = c.before.before in
     let a = head.before.before.before.before.before.before.before.before.before in
-    (stretches-none _ _ _ _ _ _ a.requires.0 _ _ a.requires.2 _ _ head.ends.invariant.1 c.before.next-end.ensures c.if1.true, head.ends.invariant.0)
+    (stretches_none _ _ _ _ _ _ a.requires.0 _ _ a.requires.2 _ _ head.ends.invariant.1 c.before.next-end.ensures c.if1.true, head.ends.invariant.0)
 
 same-length-2 : tie.Need-same-length-2 invariant-loop decreases-loop invariant-ends decreases-ends
 same-length-2 c =
@@ -154,7 +154,7 @@ returns-2 c =
     let at-list = c.before.before.before in
     let head = at-list.before.before.before.before.before in
     let a = head.before.before.before.before.before.before.before.before.before in (
-      stretches-found _ _ _ _ _ _ a.requires.0 _ _ a.requires.2 _ _ head.ends.invariant.1 at-list.before.before.before.before.next-end.ensures at-list.before.before.before.if1.false _ at-list.before.before.stretch-end.ensures.0 at-list.before.before.stretch-end.ensures.1 0 (none_needed _ _ _ _ _ _ c.if2.true (listed-needs _ _ _ _ _ _ _ _ a.requires.0 (omega (arith, a.requires.1, head.ends.invariant.0)) _ _ at-list.list-outside.ensures.0 at-list.list-outside.ensures.1 at-list.list-outside.ensures.2)) (omega arith),
+      stretches_found _ _ _ _ _ _ a.requires.0 _ _ a.requires.2 _ _ head.ends.invariant.1 at-list.before.before.before.before.next-end.ensures at-list.before.before.before.if1.false _ at-list.before.before.stretch-end.ensures.0 at-list.before.before.stretch-end.ensures.1 0 (none_needed _ _ _ _ _ _ c.if2.true (listed-needs _ _ _ _ _ _ _ _ a.requires.0 (omega (arith, a.requires.1, head.ends.invariant.0)) _ _ at-list.list-outside.ensures.0 at-list.list-outside.ensures.1 at-list.list-outside.ensures.2)) (omega arith),
       ap length at-list.list-outside.ensures.2 ∙ length-put 0 _ _ ∙ head.ends.invariant.0,
     )
 
@@ -172,8 +172,8 @@ returns-3 c =
     let a = head.before.before.before.before.before.before.before.before.before in
     let loop = c.before.before.before.before.before.before.before.before.loop in
     let b = rw c.before.before.union.ensures at c.before.predicate-step.ensures in (
-      stretches-found _ _ _ _ _ _ a.requires.0 _ _ a.requires.2 _ _ head.ends.invariant.1 at-list.before.before.before.before.next-end.ensures at-list.before.before.before.if1.false _ at-list.before.before.stretch-end.ensures.0 at-list.before.before.stretch-end.ensures.1 _
-          (trying-stop _ _ 0 _ _ _ _ _ _ loop.at loop.rest noSet loop.invariant.3 c.before.before.before.before.before.before.before.loop-test.true loop.invariant.0 _
+      stretches_found _ _ _ _ _ _ a.requires.0 _ _ a.requires.2 _ _ head.ends.invariant.1 at-list.before.before.before.before.next-end.ensures at-list.before.before.before.if1.false _ at-list.before.before.stretch-end.ensures.0 at-list.before.before.stretch-end.ensures.1 _
+          (trying_stop _ _ 0 _ _ _ _ _ _ loop.at loop.rest no_set loop.invariant.3 c.before.before.before.before.before.before.before.loop-test.true loop.invariant.0 _
           (sym c.before.before.before.before.before.worth.ensures ∙ c.before.before.before.before.if3.true) b c.if4.true) c.if4.true,
       ap length at-list.list-outside.ensures.2 ∙ length-put 0 _ _ ∙ head.ends.invariant.0,
     )

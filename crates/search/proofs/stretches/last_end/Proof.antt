@@ -6,7 +6,7 @@ use native.Mathlib.Nat.{le_refl}
 use native.Mathlib.Omega.{arith}
 use mathlib.Core.Logic.{⊎_elim}
 use Rattle.search.specs.code.LeftEnds.{Last}
-use Rattle.search.proofs.EndSteps.{last_none, last-take, last-pass}
+use Rattle.search.proofs.EndSteps.{last_none, last-take, last_pass}
 use borrow.Author.Rules.{rules}
 use Rattle.search.proofs.stretches.last_end.Statement.{statement}
 use Rattle.search.proofs.stretches.last_end.Tie as tie
@@ -25,7 +25,7 @@ loop-again c =
     let head = c.before.before.before.loop in
     ⊎_elim
     (λ w. (omega arith, omega arith, rw w.1 (last-take _ _ head.i _ _ _ head.invariant.0 head.invariant.2 w.0.taken)))
-    (λ w. (omega arith, omega arith, rw w.1 (last-pass _ _ head.i _ _ _ head.invariant.0 head.invariant.2 w.0.left)))
+    (λ w. (omega arith, omega arith, rw w.1 (last_pass _ _ head.i _ _ _ head.invariant.0 head.invariant.2 w.0.left)))
     c.if1.branch
 
 returns : tie.Need-returns invariant-loop decreases-loop

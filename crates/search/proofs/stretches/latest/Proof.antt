@@ -7,10 +7,10 @@ use mathlib.Core.Logic.{inl, inr, ⊎_elim}
 use native.Mathlib.Nat.{le_refl}
 use native.Mathlib.Omega.{arith}
 use lib.Dec.{T}
-use Rattle.predicates.proofs.ListLaws.{true-T, split}
+use Rattle.predicates.proofs.ListLaws.{true_T, split}
 use Rattle.search.specs.code.Search.{rows_of}
 use Rattle.search.specs.code.LeftEnds.{Latest}
-use Rattle.search.proofs.EndSteps.{latest-none, latest-take, latest-pass}
+use Rattle.search.proofs.EndSteps.{latest-none, latest-take, latest_pass}
 use borrow.Author.Rules.{rules}
 use Rattle.search.proofs.stretches.latest.Statement.{statement}
 use Rattle.search.proofs.stretches.latest.Tie as tie
@@ -31,17 +31,17 @@ row-holds-requires c κs =
     let h : head.loop.i < a.args.rows = c.before.before.loop-test.true in
     a.requires.2 head.loop.i h
 
-not-false : (b : Bool) → not b ≡ false → T b
-not-false b e = ⊎_elim (λ t. t) (λ t. absurd (rw e at t)) (split b)
+not_false : (b : Bool) → not b ≡ false → T b
+not_false b e = ⊎_elim (λ t. t) (λ t. absurd (rw e at t)) (split b)
 
 loop-again : tie.Need-loop-preserved invariant-loop decreases-loop
 loop-again c =
     let head = c.before.before.before.loop in
     ⊎_elim
-    (λ w. (omega arith, omega arith, rw w.3 (latest-take _ _ _ _ _ _ head.invariant.0 head.invariant.2 w.0.taken (rw w.1.ensures at (true-T (not w.1.result) w.2.taken)))))
+    (λ w. (omega arith, omega arith, rw w.3 (latest-take _ _ _ _ _ _ head.invariant.0 head.invariant.2 w.0.taken (rw w.1.ensures at (true_T (not w.1.result) w.2.taken)))))
     (⊎_elim
-    (λ w. (omega arith, omega arith, rw w.3 (latest-pass _ _ _ _ _ _ head.invariant.0 head.invariant.2 (inr (rw w.1.ensures at (not-false w.1.result w.2.left))))))
-    (λ w. (omega arith, omega arith, rw w.1 (latest-pass _ _ _ _ _ _ head.invariant.0 head.invariant.2 (inl w.0.left)))))
+    (λ w. (omega arith, omega arith, rw w.3 (latest_pass _ _ _ _ _ _ head.invariant.0 head.invariant.2 (inr (rw w.1.ensures at (not_false w.1.result w.2.left))))))
+    (λ w. (omega arith, omega arith, rw w.1 (latest_pass _ _ _ _ _ _ head.invariant.0 head.invariant.2 (inl w.0.left)))))
     c.if1.branch
 
 returns : tie.Need-returns invariant-loop decreases-loop

@@ -7,7 +7,7 @@ use native.Mathlib.Omega.{arith}
 use borrow.Author.Tests.{lt-ltb, le-ltb}
 use lib.Dec.{ltb}
 use lib.ListN.{length}
-use Rattle.search.proofs.EndSteps.{Listing, listing_none, listing-take, listing-pass}
+use Rattle.search.proofs.EndSteps.{Listing, listing_none, listing_take, listing_pass}
 use borrow.Author.Rules.{rules}
 use Rattle.search.proofs.stretches.list_entries.Statement.{statement}
 use Rattle.search.proofs.stretches.list_entries.Tie as tie
@@ -38,8 +38,8 @@ loop-again c =
     let order = head.before.args.order.now in
     let room : i < length order = omega (arith, head.before.requires.1, c.before.before.loop-test.true) in
     ⊎_elim
-    (λ w. (omega arith, rw (w.2, w.3) (listing-take _ _ i _ _ _ room head.loop.invariant.1 (lt-ltb _ _ w.0.taken))))
-    (λ w. (omega arith, rw (w.1, w.2) (listing-pass _ _ i _ _ _ room head.loop.invariant.1 (le-ltb _ _ w.0.left))))
+    (λ w. (omega arith, rw (w.2, w.3) (listing_take _ _ i _ _ _ room head.loop.invariant.1 (lt-ltb _ _ w.0.taken))))
+    (λ w. (omega arith, rw (w.1, w.2) (listing_pass _ _ i _ _ _ room head.loop.invariant.1 (le-ltb _ _ w.0.left))))
     c.if1.branch
 
 same_length : tie.Need-same-length invariant-loop decreases-loop

@@ -6,7 +6,7 @@ use lib.ListN.{length, get_or}
 use native.Mathlib.Omega.{arith}
 use mathlib.Core.Logic.{⊎_elim}
 use Rattle.search.specs.code.LeftEnds.{outside}
-use Rattle.search.proofs.EndSteps.{outside-test, Listing, listing_none, listing-take, listing-pass}
+use Rattle.search.proofs.EndSteps.{outside-test, Listing, listing_none, listing_take, listing_pass}
 use borrow.Author.Rules.{rules}
 use Rattle.search.proofs.stretches.list_outside.Statement.{statement}
 use Rattle.search.proofs.stretches.list_outside.Tie as tie
@@ -58,8 +58,8 @@ loop-again c =
     let room : i < length a.order.now = omega (arith, head.before.requires.1, c.before.before.before.before.loop-test.true) in
     let test = sym (outside-test a.lefts.now a.rights.now a.x (get_or a.order.now i 0)) in
     ⊎_elim
-    (λ w. (omega arith, rw (w.2, w.3) (listing-take _ _ i _ _ _ room head.loop.invariant.1 (test ∙ w.0.taken))))
-    (λ w. (omega arith, rw (w.1, w.2) (listing-pass _ _ i _ _ _ room head.loop.invariant.1 (test ∙ w.0.left))))
+    (λ w. (omega arith, rw (w.2, w.3) (listing_take _ _ i _ _ _ room head.loop.invariant.1 (test ∙ w.0.taken))))
+    (λ w. (omega arith, rw (w.1, w.2) (listing_pass _ _ i _ _ _ room head.loop.invariant.1 (test ∙ w.0.left))))
     c.if1.branch
 
 same_length : tie.Need-same-length invariant-loop decreases-loop

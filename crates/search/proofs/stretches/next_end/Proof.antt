@@ -6,7 +6,7 @@ use native.Mathlib.Nat.{le_refl}
 use native.Mathlib.Omega.{arith}
 use mathlib.Core.Logic.{⊎_elim}
 use Rattle.search.specs.code.LeftEnds.{Next}
-use Rattle.search.proofs.EndSteps.{next-none, next-take, next-pass}
+use Rattle.search.proofs.EndSteps.{next_none, next_take, next_pass}
 use borrow.Author.Rules.{rules}
 use Rattle.search.proofs.stretches.next_end.Statement.{statement}
 use Rattle.search.proofs.stretches.next_end.Tie as tie
@@ -18,14 +18,14 @@ abbrev decreases-loop : tie.decreases-loop
 decreases-loop ends from to floor least₀ i₀ least i = to - i
 
 loop-holds : tie.Need-loop-init invariant-loop decreases-loop
-loop-holds c = (le_refl _, search rules, next-none _ _ _)
+loop-holds c = (le_refl _, search rules, next_none _ _ _)
 
 loop-again : tie.Need-loop-preserved invariant-loop decreases-loop
 loop-again c =
     let head = c.before.before.before.loop in
     ⊎_elim
-    (λ w. (omega arith, omega arith, rw w.1 (next-take _ _ head.i _ _ head.invariant.0 head.invariant.2 w.0.taken)))
-    (λ w. (omega arith, omega arith, rw w.1 (next-pass _ _ head.i _ _ head.invariant.0 head.invariant.2 w.0.left)))
+    (λ w. (omega arith, omega arith, rw w.1 (next_take _ _ head.i _ _ head.invariant.0 head.invariant.2 w.0.taken)))
+    (λ w. (omega arith, omega arith, rw w.1 (next_pass _ _ head.i _ _ head.invariant.0 head.invariant.2 w.0.left)))
     c.if1.branch
 
 returns : tie.Need-returns invariant-loop decreases-loop

@@ -2,7 +2,7 @@
 use Prim.Native.Nat.{◌+◌}
 use mathlib.Core.Path.{refl}
 use native.Mathlib.Omega.{arith}
-use Rattle.state.proofs.FormLoops.{zero-four}
+use Rattle.state.proofs.FormLoops.{zero_four}
 use borrow.Author.Rules.{rules}
 use Rattle.state.proofs.form.block_bits.Statement.{statement}
 use Rattle.state.proofs.form.block_bits.Tie as tie
@@ -15,7 +15,7 @@ returns c =
     let a = first.before.before in
     let s = a.args.s.now in
     let at = a.args.at in
-    zero-four s 32 at (at + 32) (at + 64) (at + 96) (at + 128) first.wide-bits.result second.wide-bits2.result third.wide-bits3.result c.wide-bits4.result refl (omega arith) (omega arith) (omega arith) a.requires
+    zero_four s 32 at (at + 32) (at + 64) (at + 96) (at + 128) first.wide-bits.result second.wide-bits2.result third.wide-bits3.result c.wide-bits4.result refl (omega arith) (omega arith) (omega arith) a.requires
     first.wide-bits.ensures
     second.wide-bits2.ensures
     third.wide-bits3.ensures

@@ -1,5 +1,5 @@
 -- `state::form::datum_fits` meets its contract: the ends and the row that are tested are the definition's.
-use Rattle.state.proofs.FormLaws.{left-fails, right-fails, ends-fit}
+use Rattle.state.proofs.FormLaws.{left-fails, right-fails, ends_fit}
 use native.Mathlib.Omega.{arith}
 use borrow.Author.Rules.{rules}
 use Rattle.state.proofs.form.datum_fits.Statement.{statement}
@@ -18,7 +18,7 @@ returns-3 : tie.Need-returns-3
 returns-3 c =
     let at-get = c.before.before.before.before.before.before in
     let a = at-get.before.before.args in
-    rw (c.before.ordered.ensures, c.row-fits.ensures) (ends-fit a.own _ a.i _ at-get.get.ensures (omega arith) (omega arith))
+    rw (c.before.ordered.ensures, c.row-fits.ensures) (ends_fit a.own _ a.i _ at-get.get.ensures (omega arith) (omega arith))
 
 pub datum-fits-spec : {M : Type 1} → statement M
 datum-fits-spec =

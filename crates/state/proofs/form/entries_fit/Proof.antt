@@ -4,14 +4,14 @@ use Prim.Native.Nat.{◌-◌, ◌≤◌}
 use mathlib.Core.Path.{◌≡◌, refl}
 use native.Mathlib.Omega.{arith}
 use Rattle.predicates.specs.Lists.{all_below}
-use Rattle.state.specs.Form.{entryFits}
+use Rattle.state.specs.Form.{entry_fits}
 use Rattle.state.proofs.FormLoops.{below-turn, below-done}
 use borrow.Author.Rules.{rules}
 use Rattle.state.proofs.form.entries_fit.Statement.{statement}
 use Rattle.state.proofs.form.entries_fit.Tie as tie
 
 abbrev invariant-loop : tie.invariant-loop
-invariant-loop s own n ok₀ i₀ ok i = (i ≤ n) × (ok ≡ all_below i (entryFits own s))
+invariant-loop s own n ok₀ i₀ ok i = (i ≤ n) × (ok ≡ all_below i (entry_fits own s))
 
 abbrev decreases-loop : tie.decreases-loop
 decreases-loop s own n ok₀ i₀ ok i = n - i
@@ -23,12 +23,12 @@ loop-holds c = (search rules, refl)
 loop-again : tie.Need-loop-preserved invariant-loop decreases-loop
 loop-again c =
     let head = c.before.before.loop in
-    (search rules, below-turn (entryFits _ _) head.i head.ok _ head.invariant.1 c.entry-fits.ensures)
+    (search rules, below-turn (entry_fits _ _) head.i head.ok _ head.invariant.1 c.entry-fits.ensures)
 
 returns : tie.Need-returns invariant-loop decreases-loop
 returns c =
     let head = c.before.before.loop in
-    below-done (entryFits _ _) head.i _ _ _ _ _ head.ok _ head.invariant.0 c.before.loop-test.false (omega arith) head.invariant.1 c.is_zero.ensures
+    below-done (entry_fits _ _) head.i _ _ _ _ _ head.ok _ head.invariant.0 c.before.loop-test.false (omega arith) head.invariant.1 c.is_zero.ensures
 
 pub entries-fit-spec : {M : Type 1} → statement M
 entries-fit-spec =

@@ -6,7 +6,7 @@ use mathlib.Core.Bool.{◌&&◌}
 use lib.Dec.{eqb}
 use native.Mathlib.Omega.{arith}
 use Rattle.state.specs.Form.{is_zero}
-use Rattle.state.proofs.FormLoops.{block-begin, block-turn, block-done}
+use Rattle.state.proofs.FormLoops.{block_begin, block_turn, block_done}
 use borrow.Author.Rules.{rules}
 use Rattle.state.proofs.form.is_zero.Statement.{statement}
 use Rattle.state.proofs.form.is_zero.Tie as tie
@@ -22,7 +22,7 @@ loop-holds : tie.Need-loop-init invariant-loop decreases-loop
 loop-holds c =
     let a = c.before.before.before.args in
     let enough = c.before.if1.false in
-    (omega arith, omega arith, omega (arith, enough), block-begin a.s.now a.from _ _ c.block-bits.result c.block-bits.ensures)
+    (omega arith, omega arith, omega (arith, enough), block_begin a.s.now a.from _ _ c.block-bits.result c.block-bits.ensures)
 
 loop-again : tie.Need-loop-preserved invariant-loop decreases-loop
 loop-again c =
@@ -33,7 +33,7 @@ loop-again c =
       omega (arith, inv.0),
       omega (arith, inside),
       inv.2,
-      block-turn a.args.s.now a.args.from head.at _ _ head.v c.block-bits2.result inv.0 (omega (arith, inv.2, inside, a.requires))
+      block_turn a.args.s.now a.args.from head.at _ _ head.v c.block-bits2.result inv.0 (omega (arith, inv.2, inside, a.requires))
           inv.3 c.block-bits2.ensures,
     )
 
@@ -43,7 +43,7 @@ returns-2 c =
     let a = c.before.before.before.before.before in
     let inv = head.invariant in
     rw (← inv.2)
-    (block-done a.args.s.now a.args.from head.at _ _ head.v (omega arith) c.loop-test.false inv.1 (omega (arith, inv.2, a.requires)) inv.3)
+    (block_done a.args.s.now a.args.from head.at _ _ head.v (omega arith) c.loop-test.false inv.1 (omega (arith, inv.2, a.requires)) inv.3)
 
 pub is-zero-spec : {M : Type 1} → statement M
 is-zero-spec =

@@ -3,7 +3,7 @@
 use mathlib.Core.Path.{sym}
 use lib.Seq.{length-take-le}
 use Rattle.state.specs.Layout.{masks_at}
-use Rattle.state.proofs.FormLoops.{row-none, row-many, row-tests}
+use Rattle.state.proofs.FormLoops.{row-none, row_many, row-tests}
 use borrow.Author.Rules.{rules}
 use Rattle.state.proofs.form.row_fits.Statement.{statement}
 use Rattle.state.proofs.form.row_fits.Tie as tie
@@ -15,7 +15,7 @@ returns : tie.Need-returns
 returns c = sym (row-none _ _ _ _ _ c.before.get32.ensures.0 c.if1.true)
 
 returns-2 : tie.Need-returns-2
-returns-2 c = sym (row-many _ _ _ _ _ c.before.before.get32.ensures.0 c.before.if1.false c.if2.true)
+returns-2 c = sym (row_many _ _ _ _ _ c.before.before.get32.ensures.0 c.before.if1.false c.if2.true)
 
 returns-3 : tie.Need-returns-3
 unfolding masks_at

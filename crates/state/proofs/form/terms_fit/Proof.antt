@@ -5,7 +5,7 @@ use mathlib.Core.Path.{refl, sym, ap, ◌∙◌}
 use mathlib.Core.Logic.{⊎_elim}
 use mathlib.Core.Bool.{Bool, ◌&&◌, not}
 use lib.Dec.{ltb}
-use Rattle.state.proofs.TermLaws.{Tested, tested-none, tested-high, tested-inside, apart_none, contained-none, tested-next, tested-done}
+use Rattle.state.proofs.TermLaws.{Tested, tested_none, tested_high, tested_inside, apart_none, contained-none, tested_next, tested_done}
 use borrow.Author.Rules.{rules}
 use Rattle.state.proofs.form.terms_fit.Statement.{statement}
 use Rattle.state.proofs.form.terms_fit.Tie as tie
@@ -17,20 +17,20 @@ abbrev decreases-loop : tie.decreases-loop
 decreases-loop p own next₀ all₀ i₀ next all i = i
 
 loop-holds : tie.Need-loop-init invariant-loop decreases-loop
-loop-holds c = tested-none _ _
+loop-holds c = tested_none _ _
 
 returns : tie.Need-returns invariant-loop decreases-loop
 returns c =
     let at_test = c.before.before in
     let head = at_test.before.loop in
-    sym (tested-high _ _ _ _ _ head.invariant at_test.loop-test.true _ refl c.if1.true)
+    sym (tested_high _ _ _ _ _ head.invariant at_test.loop-test.true _ refl c.if1.true)
 
 returns-2 : tie.Need-returns-2 invariant-loop decreases-loop
 returns-2 c =
     let at_call = c.before in
     let at_test = at_call.before.before.before.before.before.before in
     let head = at_test.before.loop in
-    sym (tested-inside _ _ _ _ _ head.invariant at_test.loop-test.true _ refl _ at_call.contained.ensures c.if3.true)
+    sym (tested_inside _ _ _ _ _ head.invariant at_test.loop-test.true _ refl _ at_call.contained.ensures c.if3.true)
 
 loop-again : tie.Need-loop-preserved invariant-loop decreases-loop
 loop-again c =
@@ -38,14 +38,14 @@ loop-again c =
     let at_low = at-subset.before in
     let at_test = at_low.before.before in
     let head = at_test.before.loop in
-    rw c.union.ensures (tested-next _ _ _ _ _ head.invariant at_test.loop-test.true _ refl at_low.if1.false
+    rw c.union.ensures (tested_next _ _ _ _ _ head.invariant at_test.loop-test.true _ refl at_low.if1.false
     (⊎_elim (λ w. contained-none _ _ _ _ _ head.invariant at_test.loop-test.true _ refl _ w.2.ensures w.3.left)
     (λ w. apart_none _ _ _ _ _ head.invariant at_test.loop-test.true _ refl (sym at-subset.subset.ensures ∙ w.left)) c.before.if2.branch))
 
 returns-3 : tie.Need-returns-3 invariant-loop decreases-loop
 returns-3 c =
     let head = c.before.before.loop in
-    ap (λ (b : Bool). ltb 0 head.next && not b) c.has.ensures ∙ tested-done _ _ _ _ _ head.invariant c.before.loop-test.false
+    ap (λ (b : Bool). ltb 0 head.next && not b) c.has.ensures ∙ tested_done _ _ _ _ _ head.invariant c.before.loop-test.false
 
 pub terms-fit-spec : {M : Type 1} → statement M
 terms-fit-spec =

@@ -2,7 +2,7 @@
 use Prim.Native.Nat.{◌+◌}
 use mathlib.Core.Path.{refl}
 use native.Mathlib.Omega.{arith}
-use Rattle.state.proofs.FormLoops.{zero-wide, zero-four}
+use Rattle.state.proofs.FormLoops.{zero_wide, zero_four}
 use borrow.Author.Rules.{rules}
 use Rattle.state.proofs.form.wide_bits.Statement.{statement}
 use Rattle.state.proofs.form.wide_bits.Tie as tie
@@ -16,11 +16,11 @@ returns c =
     let s = a.args.s.now in
     let at = a.args.at in
     let l = a.requires in
-    zero-four s 8 at (at + 8) (at + 16) (at + 24) (at + 32) first.get64.result second.get642.result third.get643.result c.get644.result refl (omega arith) (omega arith) (omega arith) l
-    (zero-wide s at _ (omega (arith, l)) first.get64.ensures.0)
-    (zero-wide s (at + 8) _ (omega (arith, l)) second.get642.ensures.0)
-    (zero-wide s (at + 16) _ (omega (arith, l)) third.get643.ensures.0)
-    (zero-wide s (at + 24) _ (omega (arith, l)) c.get644.ensures.0)
+    zero_four s 8 at (at + 8) (at + 16) (at + 24) (at + 32) first.get64.result second.get642.result third.get643.result c.get644.result refl (omega arith) (omega arith) (omega arith) l
+    (zero_wide s at _ (omega (arith, l)) first.get64.ensures.0)
+    (zero_wide s (at + 8) _ (omega (arith, l)) second.get642.ensures.0)
+    (zero_wide s (at + 16) _ (omega (arith, l)) third.get643.ensures.0)
+    (zero_wide s (at + 24) _ (omega (arith, l)) c.get644.ensures.0)
 
 pub wide-bits-spec : {M : Type 1} → statement M
 wide-bits-spec =

@@ -6,7 +6,7 @@ use mathlib.Core.Bool.{◌&&◌}
 use native.Mathlib.Nat.{add-zero}
 use lib.Dec.{eqb}
 use Rattle.state.specs.Form.{is_zero}
-use Rattle.state.proofs.FormLoops.{run-turn, run-done}
+use Rattle.state.proofs.FormLoops.{run_turn, run_done}
 use borrow.Author.Rules.{rules}
 use Rattle.state.proofs.form.words_zero.Statement.{statement}
 use Rattle.state.proofs.form.words_zero.Tie as tie
@@ -24,13 +24,13 @@ loop-again : tie.Need-loop-preserved invariant-loop decreases-loop
 loop-again c =
     let head = c.before.before.loop in
     let a = c.before.before.before.before in
-    (search rules, run-turn _ _ _ head.i head.v _ _ c.before.loop-test.true a.requires c.get32.ensures.0 head.invariant.1)
+    (search rules, run_turn _ _ _ head.i head.v _ _ c.before.loop-test.true a.requires c.get32.ensures.0 head.invariant.1)
 
 returns : tie.Need-returns invariant-loop decreases-loop
 returns c =
     let head = c.before.loop in
     let a = c.before.before.before.args in
-    run-done a.s.now a.from _ head.i head.v _ head.invariant.0 c.loop-test.false head.invariant.1
+    run_done a.s.now a.from _ head.i head.v _ head.invariant.0 c.loop-test.false head.invariant.1
 
 pub words-zero-spec : {M : Type 1} → statement M
 words-zero-spec =

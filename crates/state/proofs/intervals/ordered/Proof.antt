@@ -1,12 +1,12 @@
--- `state::intervals::ordered` meets its contract: the whole microseconds tell (`ordered-soon`), or both numbers do (`ordered-both`).
+-- `state::intervals::ordered` meets its contract: the whole microseconds tell (`ordered_soon`), or both numbers do (`ordered-both`).
 use native.Mathlib.Omega.{arith}
-use Rattle.state.proofs.FormLaws.{ordered-soon, ordered-both}
+use Rattle.state.proofs.FormLaws.{ordered_soon, ordered-both}
 use borrow.Author.Rules.{rules}
 use Rattle.state.proofs.intervals.ordered.Statement.{statement}
 use Rattle.state.proofs.intervals.ordered.Tie as tie
 
 returns : tie.Need-returns
-returns c = let a = c.before.before.before in ordered-soon a.args.e (omega arith, omega arith) c.if1.true
+returns c = let a = c.before.before.before in ordered_soon a.args.e (omega arith, omega arith) c.if1.true
 
 returns-2 : tie.Need-returns-2
 returns-2 c =

@@ -1,11 +1,11 @@
 -- `state::intervals::put` meets its contract: the four numbers are stored one after the other.
-use Rattle.state.specs.code.Tables.{withEnds}
+use Rattle.state.specs.code.Tables.{with_ends}
 use borrow.Author.Rules.{rules}
 use Rattle.state.proofs.intervals.put.Statement.{statement}
 use Rattle.state.proofs.intervals.put.Tie as tie
 
 returns : tie.Need-returns
-unfolding withEnds
+unfolding with_ends
 returns c =
     let at_low = c.before.before.before.before.before.before in
     let at_right = at_low.before.before.before.before in

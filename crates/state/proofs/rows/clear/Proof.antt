@@ -3,7 +3,7 @@
 use Prim.Native.Nat.{◌-◌}
 use mathlib.Core.Path.{◌≡◌, refl, sym, ◌∙◌}
 use lib.ListN.{length, length-set}
-use Rattle.predicates.proofs.SumLaws.{zeros-turn, zeros-end}
+use Rattle.predicates.proofs.SumLaws.{zeros-turn, zeros_end}
 use Rattle.numbers.specs.Numbers.{put}
 use Rattle.state.specs.Layout.{zeros}
 use borrow.Author.Rules.{rules}
@@ -27,7 +27,7 @@ loop-again c =
 
 returns : tie.Need-returns invariant-loop decreases-loop
 unfolding put
-returns c = let head = c.before.loop in sym (zeros-end head.s head.i _ c.loop-test.false) ∙ head.invariant.1
+returns c = let head = c.before.loop in sym (zeros_end head.s head.i _ c.loop-test.false) ∙ head.invariant.1
 
 pub clear_spec : {M : Type 1} → statement M
 clear_spec =

@@ -1,11 +1,11 @@
 -- `state::rows::put_entry` meets its contract: an entry is a row of sixteen masks.
-use Rattle.state.specs.Layout.{entryBytes}
+use Rattle.state.specs.Layout.{entry_bytes}
 use borrow.Author.Rules.{rules}
 use Rattle.state.proofs.rows.put_entry.Statement.{statement}
 use Rattle.state.proofs.rows.put_entry.Tie as tie
 
 returns : tie.Need-returns
-unfolding entryBytes
+unfolding entry_bytes
 returns c = c.before.before.put-row.ensures
 
 pub put-entry-spec : {M : Type 1} → statement M

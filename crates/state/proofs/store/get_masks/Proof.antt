@@ -5,7 +5,7 @@ use mathlib.Core.Path.{◌≡◌, refl}
 use native.Mathlib.Omega.{arith}
 use lib.ListN.{length, length-set}
 use Rattle.numbers.specs.Numbers.{num, put, tab}
-use Rattle.numbers.proofs.NumberLaws.{tab-next}
+use Rattle.numbers.proofs.NumberLaws.{tab_next}
 use Rattle.state.specs.Layout.{masks_at}
 use borrow.Author.Rules.{rules}
 use Rattle.state.proofs.store.get_masks.Statement.{statement}
@@ -24,7 +24,7 @@ loop-holds c = (search rules, refl, refl)
 loop-again : tie.Need-loop-preserved invariant-loop decreases-loop
 loop-again c =
     let at_head = c.before.before.loop in
-    (search rules, simp length-set at_head.invariant.1, tab-next _ _ at_head.j _ _ _ _ refl c.get32.ensures.0 at_head.invariant.2)
+    (search rules, simp length-set at_head.invariant.1, tab_next _ _ at_head.j _ _ _ _ refl c.get32.ensures.0 at_head.invariant.2)
 
 returns : tie.Need-returns invariant-loop decreases-loop
 unfolding masks_at

@@ -1,13 +1,13 @@
 -- `state::store::get_seen` meets its contract: in form the masks that are read are those in use and zeros, which stay where no name counts as failed
--- (`seen_read`), and else the terms in use are withdrawn (`seen-withdrawn`).
+-- (`seen_read`), and else the terms in use are withdrawn (`seen_withdrawn`).
 use mathlib.Core.Path.{ap, ◌∙◌}
 use mathlib.Core.List.{List}
 use Prim.Native.Nat.{ℕ}
 use native.Mathlib.Omega.{arith}
 use lib.ListN.{length}
 use Rattle.epochs.specs.Epochs.{withdraw}
-use Rattle.state.proofs.FormLaws.{row-le}
-use Rattle.state.proofs.SeenLaws.{row-normal, seen_read, taken-read, length-read, seen-withdrawn}
+use Rattle.state.proofs.FormLaws.{row_le}
+use Rattle.state.proofs.SeenLaws.{row-normal, seen_read, taken-read, length-read, seen_withdrawn}
 use borrow.Author.Rules.{rules}
 use Rattle.state.proofs.store.get_seen.Statement.{statement}
 use Rattle.state.proofs.store.get_seen.Tie as tie
@@ -38,8 +38,8 @@ returns-2 c =
     let made = at_out.withdraw.ensures in
     let used = at-used.get32.ensures.0 in
     let taken = taken-read _ a.args.width a.args.at a.args.s.now a.requires.1 a.args.row.now _ a.requires.0.1 at_words.get-words.ensures _ used in (
-      (made.0.0 ∙ ap (λ (l : List ℕ). length (withdraw a.args.risen l)) taken, omega (arith, made.0.1, used, row-le _ a.args.width a.args.at a.args.s.now a.requires.1)),
-      seen-withdrawn _ a.args.width a.args.at a.args.s.now a.requires.1 a.args.row.now _ a.requires.0.1 at_words.get-words.ensures _ used _ _ made.1,
+      (made.0.0 ∙ ap (λ (l : List ℕ). length (withdraw a.args.risen l)) taken, omega (arith, made.0.1, used, row_le _ a.args.width a.args.at a.args.s.now a.requires.1)),
+      seen_withdrawn _ a.args.width a.args.at a.args.s.now a.requires.1 a.args.row.now _ a.requires.0.1 at_words.get-words.ensures _ used _ _ made.1,
     )
 
 pub get-seen-spec : {M : Type 1} → statement M

@@ -6,19 +6,19 @@ use native.Mathlib.Omega.{arith}
 use lib.ListN.{length, take}
 use lib.Seq.{length-take-le}
 use Rattle.numbers.specs.Numbers.{put}
-use Rattle.state.specs.Layout.{entryTerms, entryBytes, masks_at, zeros}
+use Rattle.state.specs.Layout.{entry_terms, entry_bytes, masks_at, zeros}
 use Rattle.state.proofs.StoreLaws.{masks-fresh, length-masks}
 use borrow.Author.Rules.{rules}
 use Rattle.state.proofs.store.move_entry.Statement.{statement}
 use Rattle.state.proofs.store.move_entry.Tie as tie
 
-module _ (at count : ℕ) (s row : List ℕ) (e : row ≡ put 0 (masks_at entryTerms at s) (zeros entryTerms)) where
+module _ (at count : ℕ) (s row : List ℕ) (e : row ≡ put 0 (masks_at entry_terms at s) (zeros entry_terms)) where
   -- as many terms as were asked for
-  long : count ≤ entryTerms → length (take count row) ≡ count
-  long h = length-take-le count row (omega (arith, ap length (e ∙ masks-fresh at s), length-masks entryTerms at s))
+  long : count ≤ entry_terms → length (take count row) ≡ count
+  long h = length-take-le count row (omega (arith, ap length (e ∙ masks-fresh at s), length-masks entry_terms at s))
 
-  moved : (k : ℕ) (u : List ℕ) → u ≡ put k (entryBytes (take count row)) s → u ≡ put k (entryBytes (take count (masks_at entryTerms at s))) s
-  moved k u p = p ∙ ap (λ (l : List ℕ). put k (entryBytes (take count l)) s) (e ∙ masks-fresh at s)
+  moved : (k : ℕ) (u : List ℕ) → u ≡ put k (entry_bytes (take count row)) s → u ≡ put k (entry_bytes (take count (masks_at entry_terms at s))) s
+  moved k u p = p ∙ ap (λ (l : List ℕ). put k (entry_bytes (take count l)) s) (e ∙ masks-fresh at s)
 
 slice-aggregate-put-entry : tie.Need-slice-aggregate-put-entry
 slice-aggregate-put-entry c = sym (long _ _ _ _ c.before.before.before.get-masks.ensures (search rules))

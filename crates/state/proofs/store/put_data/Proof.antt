@@ -9,11 +9,11 @@ use native.Mathlib.Omega.{arith}
 use borrow.Author.Tests.{ltb-false, leb-false}
 use lib.Dec.{leb, ltb}
 use Rattle.numbers.specs.Numbers.{tab}
-use Rattle.state.specs.Layout.{datumBytes}
-use Rattle.state.specs.code.Tables.{columns, dataIn}
+use Rattle.state.specs.Layout.{datum_bytes}
+use Rattle.state.specs.code.Tables.{columns, data_in}
 use Rattle.state.proofs.RowLaws.{table-room}
-use Rattle.state.proofs.StoreLaws.{length-part-le, Written, written_none}
-use Rattle.state.proofs.StoreLaws.{datum-stored, datum-stays, data-skip, data-room}
+use Rattle.state.proofs.StoreLaws.{length_part_le, Written, written_none}
+use Rattle.state.proofs.StoreLaws.{datum-stored, datum_stays, data_skip, data_room}
 use borrow.Author.Rules.{rules}
 use Rattle.state.proofs.store.put_data.Statement.{statement}
 use Rattle.state.proofs.store.put_data.Tie as tie
@@ -29,14 +29,14 @@ neither r i standing e = go (ltb r i) (leb standing i) refl refl e
 
 abbrev invariant-loop : tie.invariant-loop
 invariant-loop s₀ lefts rights counts masks n standing r₀ i₀ s r i =
-    (i ≤ n) × (r ≤ i) × Written datumBytes 60 24 (dataIn i (columns lefts rights counts masks)) r s₀ s
+    (i ≤ n) × (r ≤ i) × Written datum_bytes 60 24 (data_in i (columns lefts rights counts masks)) r s₀ s
 
 abbrev decreases-loop : tie.decreases-loop
 decreases-loop s₀ lefts rights counts masks n standing r₀ i₀ s r i = n - i
 
 loop-holds : tie.Need-loop-init invariant-loop decreases-loop
-unfolding dataIn tab
-loop-holds c = (search rules, search rules, written_none datumBytes 60 24 _)
+unfolding data_in tab
+loop-holds c = (search rules, search rules, written_none datum_bytes 60 24 _)
 
 cast-count : tie.Need-overflow-cast-count invariant-loop decreases-loop
 cast-count c =
@@ -63,8 +63,8 @@ put-datum-requires : tie.Need-put-datum-requires invariant-loop decreases-loop
 put-datum-requires c κs =
     let head = c.before.before.before.before.before.before.before in
     let a = head.before.before.before.before.before.before in (
-      data-room _ head.loop.i _ _ _ _ a.requires.0 c.before.before.before.before.before.before.loop-test.true _ _ _ head.loop.invariant.2 _ c.before.before.before.before.if1.true a.requires.1.0,
-      length-part-le 8 _ head.loop.i _ _ a.requires.0.table,
+      data_room _ head.loop.i _ _ _ _ a.requires.0 c.before.before.before.before.before.before.loop-test.true _ _ _ head.loop.invariant.2 _ c.before.before.before.before.if1.true a.requires.1.0,
+      length_part_le 8 _ head.loop.i _ _ a.requires.0.table,
       omega arith,
       c.before.before.both.ensures.2,
     )
@@ -83,11 +83,11 @@ loop-again c =
           (⊎_elim
           (λ v. rw v.7 (datum-stored _ head.loop.i _ _ _ _ a.requires.0 turn _ _ _ w _ _ _ v.1.ensures.0 v.1.ensures.1 live.0.taken v.4.ensures))
           (λ v. let still = neither head.loop.r head.loop.i _ v.0.left in
-          rw v.1 (datum-stays _ head.loop.i _ _ _ _ a.requires.0 turn _ _ _ w live.0.taken still.0 head.loop.invariant.1
+          rw v.1 (datum_stays _ head.loop.i _ _ _ _ a.requires.0 turn _ _ _ w live.0.taken still.0 head.loop.invariant.1
           (a.requires.1.1.1 head.loop.i still.1 (λ e. omega arith))))
           live.1.came),
     ))
-    (λ gone. (search rules, omega arith, rw (gone.1, gone.2) (data-skip _ head.loop.i _ _ _ _ a.requires.0 turn _ _ _ w gone.0.left)))
+    (λ gone. (search rules, omega arith, rw (gone.1, gone.2) (data_skip _ head.loop.i _ _ _ _ a.requires.0 turn _ _ _ w gone.0.left)))
     c.if1.branch
 
 returns : tie.Need-returns invariant-loop decreases-loop

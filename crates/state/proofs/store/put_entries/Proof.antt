@@ -6,22 +6,22 @@ use mathlib.Core.Path.{◌≡◌}
 use mathlib.Core.Logic.{⊎_elim}
 use native.Mathlib.Omega.{arith}
 use Rattle.numbers.specs.Numbers.{tab}
-use Rattle.state.specs.Layout.{entryBytes}
-use Rattle.state.specs.code.Tables.{tableFrom, entriesIn}
-use Rattle.state.proofs.StoreLaws.{Written, written_none, entries-skip, entries-room, room-behind, length-behind-le, entry-stored, entry-moved, entry-stays}
+use Rattle.state.specs.Layout.{entry_bytes}
+use Rattle.state.specs.code.Tables.{table_from, entries_in}
+use Rattle.state.proofs.StoreLaws.{Written, written_none, entries_skip, entries-room, room-behind, length-behind_le, entry_stored, entry_moved, entry_stays}
 use borrow.Author.Rules.{rules}
 use Rattle.state.proofs.store.put_entries.Statement.{statement}
 use Rattle.state.proofs.store.put_entries.Tie as tie
 
 abbrev invariant-loop : tie.invariant-loop
-invariant-loop s₀ first counts masks n r₀ i₀ s r i = (i ≤ n) × (r ≤ i) × Written entryBytes 68 984 (entriesIn i (tableFrom first s₀ counts masks)) r s₀ s
+invariant-loop s₀ first counts masks n r₀ i₀ s r i = (i ≤ n) × (r ≤ i) × Written entry_bytes 68 984 (entries_in i (table_from first s₀ counts masks)) r s₀ s
 
 abbrev decreases-loop : tie.decreases-loop
 decreases-loop s₀ first counts masks n r₀ i₀ s r i = n - i
 
 loop-holds : tie.Need-loop-init invariant-loop decreases-loop
-unfolding entriesIn tab
-loop-holds c = (search rules, search rules, written_none entryBytes 68 984 _)
+unfolding entries_in tab
+loop-holds c = (search rules, search rules, written_none entry_bytes 68 984 _)
 
 cast-count : tie.Need-overflow-cast-count invariant-loop decreases-loop
 cast-count c =
@@ -43,7 +43,7 @@ put-entry-requires c κs =
     let head = c.before.before.before.before.before.before in
     let a = head.before.before.before.before in (
       entries-room _ head.loop.i _ _ a.requires.0 c.before.before.before.before.before.loop-test.true _ _ _ head.loop.invariant.2 _ c.before.before.before.if1.true a.requires.1.0,
-      length-behind-le _ head.loop.i _ _ _ _ a.requires.0 c.before.before.if2.true,
+      length-behind_le _ head.loop.i _ _ _ _ a.requires.0 c.before.before.if2.true,
       omega arith,
     )
 
@@ -65,14 +65,14 @@ loop-again c =
       omega arith,
       rw (live.2, live.3)
           (⊎_elim
-          (λ v. rw v.6 (entry-stored _ _ head.loop.i _ _ _ a.requires.0 turn _ _ w live.0.taken _ v.0.taken v.3.ensures))
+          (λ v. rw v.6 (entry_stored _ _ head.loop.i _ _ _ a.requires.0 turn _ _ w live.0.taken _ v.0.taken v.3.ensures))
           (⊎_elim
-          (λ v. rw v.6 (entry-moved _ _ head.loop.i _ _ _ a.requires.0 turn _ _ w live.0.taken _ v.0.left head.loop.invariant.1 v.3.ensures))
-          (λ v. rw v.2 (entry-stays _ _ head.loop.i _ _ _ a.requires.0 turn _ _ w live.0.taken v.1.left head.loop.invariant.1
+          (λ v. rw v.6 (entry_moved _ _ head.loop.i _ _ _ a.requires.0 turn _ _ w live.0.taken _ v.0.left head.loop.invariant.1 v.3.ensures))
+          (λ v. rw v.2 (entry_stays _ _ head.loop.i _ _ _ a.requires.0 turn _ _ w live.0.taken v.1.left head.loop.invariant.1
           (a.requires.1.1.1 head.loop.i v.0.left (λ e. omega arith)))))
           live.1.came),
     ))
-    (λ gone. (search rules, omega arith, rw (gone.1, gone.2) (entries-skip _ head.loop.i _ _ a.requires.0 turn _ _ _ w gone.0.left)))
+    (λ gone. (search rules, omega arith, rw (gone.1, gone.2) (entries_skip _ head.loop.i _ _ a.requires.0 turn _ _ _ w gone.0.left)))
     c.if1.branch
 
 returns : tie.Need-returns invariant-loop decreases-loop

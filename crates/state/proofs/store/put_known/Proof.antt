@@ -16,9 +16,9 @@ returns : tie.Need-returns
 returns c =
     let at_count = c.before.before in
     let at_clear = at_count.before.before.before.before in
-    let at-entries = at_clear.before.before.before.before in
-    let p = at-entries.before.before.before.before.before.requires in
-    let made = at-entries.put_entries.ensures in
+    let at_entries = at_clear.before.before.before.before in
+    let p = at_entries.before.before.before.before.before.requires in
+    let made = at_entries.put_entries.ensures in
     at_count.put32.ensures
     ∙ ap₂ (λ (n : ℕ) (l : List ℕ). put known_at (bytes 4 n) l) made.0.0 (entries-put _ _ _ _ _ _ made.0.0 made.0.1 p.1.0 p.1.1.1.1.0 p.1.1.0.2 p.1.1.1.1.1 made.1 at_clear.clear.ensures)
 

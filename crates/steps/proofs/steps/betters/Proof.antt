@@ -3,7 +3,7 @@ use mathlib.Core.Bool.{true, false, and-true, and-false}
 use Rattle.ends.specs.Ends.{count_of}
 use Rattle.steps.specs.Steps.{betters}
 use native.Mathlib.Omega.{arith}
-use Rattle.steps.proofs.StepLaws.{within-told, beyond-soon}
+use Rattle.steps.proofs.StepLaws.{within-told, beyond_soon}
 use borrow.Author.Rules.{rules}
 use Rattle.steps.proofs.steps.betters.Statement.{statement}
 use Rattle.steps.proofs.steps.betters.Tie as tie
@@ -12,7 +12,7 @@ returns : tie.Need-returns
 unfolding betters
 returns c =
     let i = c.before.before.before.before.before.before.before.args in
-    rw (beyond-soon i.a i.b (omega arith, omega arith) (omega arith, omega arith) c.if1.true, and-false)
+    rw (beyond_soon i.a i.b (omega arith, omega arith) (omega arith, omega arith) c.if1.true, and-false)
 
 returns-2 : tie.Need-returns-2
 unfolding betters

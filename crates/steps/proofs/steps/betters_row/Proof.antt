@@ -1,12 +1,12 @@
 -- `steps::steps::betters_row` meets its contract: the row is a part of the array.
-use Rattle.state.specs.code.Tables.{datumIn}
+use Rattle.state.specs.code.Tables.{datum_in}
 use Rattle.state.proofs.RowLaws.{row-lent}
 use borrow.Author.Rules.{rules}
 use Rattle.steps.proofs.steps.betters_row.Statement.{statement}
 use Rattle.steps.proofs.steps.betters_row.Tie as tie
 
 returns : tie.Need-returns
-unfolding datumIn
+unfolding datum_in
 returns c =
     let at_both = c.before.before in
     let a = at_both.before.before.before.before.before.before.before.args in

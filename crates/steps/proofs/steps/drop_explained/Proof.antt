@@ -7,29 +7,29 @@ use mathlib.Core.Logic.{⊎_elim}
 use native.Mathlib.Omega.{arith}
 use lib.ListN.{length, get_or, length-set}
 use Rattle.entries.specs.Entries.{explained}
-use Rattle.state.specs.code.Tables.{table, tableFrom, row_of, entriesIn}
-use Rattle.entries.specs.code.Marks.{givenUp}
-use Rattle.entries.proofs.TableLaws.{given-up-none, given-up-at, given-up-turn, row_count}
+use Rattle.state.specs.code.Tables.{table, table_from, row_of, entries_in}
+use Rattle.entries.specs.code.Marks.{given_up}
+use Rattle.entries.proofs.TableLaws.{given_up-none, given_up_at, given_up-turn, row_count}
 use Rattle.state.proofs.RowLaws.{table-room}
 use borrow.Author.Rules.{rules}
 use Rattle.steps.proofs.steps.drop_explained.Statement.{statement}
 use Rattle.steps.proofs.steps.drop_explained.Tie as tie
 
 abbrev invariant-loop : tie.invariant-loop
-invariant-loop held₀ terms h s first counts masks marks n i₀ held i = (i ≤ h) × (length held ≡ length held₀) × (held ≡ givenUp i (λ k. explained (entriesIn n (tableFrom first s counts masks)) (row_of 8 (table held₀ terms) k)) held₀)
+invariant-loop held₀ terms h s first counts masks marks n i₀ held i = (i ≤ h) × (length held ≡ length held₀) × (held ≡ given_up i (λ k. explained (entries_in n (table_from first s counts masks)) (row_of 8 (table held₀ terms) k)) held₀)
 
 abbrev decreases-loop : tie.decreases-loop
 decreases-loop held₀ terms h s first counts masks marks n i₀ held i = h - i
 
 loop-holds : tie.Need-loop-init invariant-loop decreases-loop
-loop-holds c = (search rules, refl, sym (given-up-none _ _))
+loop-holds c = (search rules, refl, sym (given_up-none _ _))
 
 explained-row-requires : tie.Need-explained-row-requires invariant-loop decreases-loop
 explained-row-requires c κs =
     let head = c.before.before in
     let a = head.before.before.before.before.before.before.before in
     let i = head.loop.i in
-    let same : get_or head.loop.held i 0 ≡ get_or a.args.held.now i 0 = ap (λ l. get_or l i 0) head.loop.invariant.2 ∙ given-up-at _ _ i in
+    let same : get_or head.loop.held i 0 ≡ get_or a.args.held.now i 0 = ap (λ l. get_or l i 0) head.loop.invariant.2 ∙ given_up_at _ _ i in
     ((omega (arith, a.requires.0.counted), omega (arith, same, table-room 8 _ _ _ a.requires.0 i c.before.loop-test.true)), a.requires.1)
 
 loop-again : tie.Need-loop-preserved invariant-loop decreases-loop
@@ -37,12 +37,12 @@ loop-again c =
     let head = c.before.before.before.before in
     let a = head.before.before.before.before.before.before.before in
     let i = head.loop.i in
-    let same : get_or head.loop.held i 0 ≡ get_or a.args.held.now i 0 = ap (λ l. get_or l i 0) head.loop.invariant.2 ∙ given-up-at _ _ i in
+    let same : get_or head.loop.held i 0 ≡ get_or a.args.held.now i 0 = ap (λ l. get_or l i 0) head.loop.invariant.2 ∙ given_up_at _ _ i in
     let near : i < length a.args.held.now = omega (arith, a.requires.0.counted) in
-    let test = c.before.explained-row.ensures ∙ ap (λ p. explained (entriesIn a.args.n (tableFrom a.args.first a.args.s.now a.args.counts.now a.args.masks.now)) p) (row_count 8 i _ _ _ same) in
+    let test = c.before.explained-row.ensures ∙ ap (λ p. explained (entries_in a.args.n (table_from a.args.first a.args.s.now a.args.counts.now a.args.masks.now)) p) (row_count 8 i _ _ _ same) in
     ⊎_elim
-    (λ w. (search rules, ap length w.1 ∙ simp length-set head.loop.invariant.1, given-up-turn _ _ _ _ i true near head.loop.invariant.2 (sym w.0.taken ∙ test) w.1))
-    (λ w. (search rules, ap length w.1 ∙ head.loop.invariant.1, given-up-turn _ _ _ _ i false near head.loop.invariant.2 (sym w.0.left ∙ test) w.1))
+    (λ w. (search rules, ap length w.1 ∙ simp length-set head.loop.invariant.1, given_up-turn _ _ _ _ i true near head.loop.invariant.2 (sym w.0.taken ∙ test) w.1))
+    (λ w. (search rules, ap length w.1 ∙ head.loop.invariant.1, given_up-turn _ _ _ _ i false near head.loop.invariant.2 (sym w.0.left ∙ test) w.1))
     c.if1.branch
 
 returns : tie.Need-returns invariant-loop decreases-loop

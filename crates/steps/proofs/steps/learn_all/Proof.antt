@@ -6,10 +6,10 @@ use native.Mathlib.Omega.{arith}
 use lib.ListN.{length, get_or}
 use Rattle.numbers.specs.Numbers.{tab}
 use Rattle.steps.specs.Steps.{learnt}
-use Rattle.state.specs.code.Tables.{tableFrom, columns, TableFits, entriesIn, datumOf, datumIn}
+use Rattle.state.specs.code.Tables.{table_from, columns, TableFits, entries_in, datum_of, datum_in}
 use Rattle.entries.specs.code.Marks.{Marked, Left}
-use Rattle.state.proofs.RowLaws.{table-less, table-room, row-lent, row-length}
-use Rattle.steps.proofs.StepLaws.{learnt-next, table-held}
+use Rattle.state.proofs.RowLaws.{table_less, table-room, row-lent, row-length}
+use Rattle.steps.proofs.StepLaws.{learnt_next, table-held}
 use borrow.Author.Rules.{rules}
 use Rattle.steps.proofs.steps.learn_all.Statement.{statement}
 use Rattle.steps.proofs.steps.learn_all.Tie as tie
@@ -17,10 +17,10 @@ use Rattle.steps.proofs.steps.learn_all.Tie as tie
 abbrev invariant-loop : tie.invariant-loop
 invariant-loop lefts rights held terms new p s counts₀ masks₀ marks₀ h first known₀ i₀ counts masks marks known i =
     (i ≤ h) × (first ≤ known) × (known ≤ first + i) × (length counts ≡ length counts₀) × (length masks ≡ length masks₀)
-    × TableFits 16 known (tableFrom first s counts masks)
-    × (entriesIn known (tableFrom first s counts masks)
-    ≡ learnt (datumOf new p) (tab i (datumIn (columns lefts rights held terms))) (entriesIn first (tableFrom first s counts₀ masks₀)))
-    × (length marks ≡ length marks₀) × Marked known (tableFrom first s counts masks) marks × Left first counts₀ counts
+    × TableFits 16 known (table_from first s counts masks)
+    × (entries_in known (table_from first s counts masks)
+    ≡ learnt (datum_of new p) (tab i (datum_in (columns lefts rights held terms))) (entries_in first (table_from first s counts₀ masks₀)))
+    × (length marks ≡ length marks₀) × Marked known (table_from first s counts masks) marks × Left first counts₀ counts
 
 abbrev decreases-loop : tie.decreases-loop
 decreases-loop lefts rights held terms new p s counts₀ masks₀ marks₀ h first known₀ i₀ counts masks marks known i = h - i
@@ -29,7 +29,7 @@ loop-holds : tie.Need-loop-init invariant-loop decreases-loop
 unfolding tab learnt
 loop-holds c =
     let a = c.before.before.before.before.before.before.before.before.before in
-    (search rules, search rules, search rules, refl, refl, table-less 16 _ _ _ _ a.requires.1.1.0 (omega arith), refl, refl, a.requires.1.1.1.1.0, λ i l f. refl)
+    (search rules, search rules, search rules, refl, refl, table_less 16 _ _ _ _ a.requires.1.1.0 (omega arith), refl, refl, a.requires.1.1.1.1.0, λ i l f. refl)
 
 -- row i lies within its array
 room : (c : tie.In-loop invariant-loop decreases-loop) → let a = c.before.before.before.before.before.before.before.before.before.before.before.args in
@@ -81,7 +81,7 @@ add-i c =
     omega (arith, at_test.loop-test.true, at_test.before.before.before.before.before.before.before.before.before.before.before.well-formed)
 
 loop-again : tie.Need-loop-preserved invariant-loop decreases-loop
-unfolding datumIn
+unfolding datum_in
 loop-again c =
     let at_both = c.before.before.before.before.before.before.before.before.before.before.before in
     let at_test = at_both.before.before in
@@ -94,7 +94,7 @@ loop-again c =
       search rules,
       search rules,
       made.0.2,
-      learnt-next _ (datumIn (columns a.lefts.now a.rights.now a.held.now a.terms.now)) head.i _ _ _ head.invariant.6
+      learnt_next _ (datum_in (columns a.lefts.now a.rights.now a.held.now a.terms.now)) head.i _ _ _ head.invariant.6
           (rw (at_both.both.ensures.0, at_both.both.ensures.1, row-lent 8 head.i a.held.now a.terms.now) at made.1),
       search rules,
       made.0.3,

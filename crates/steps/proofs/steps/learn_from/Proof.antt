@@ -1,9 +1,9 @@
 -- `steps::steps::learn_from` meets its contract: intervals that overlap teach nothing; else the sum of both predicates is learnt.
 use mathlib.Core.Path.{refl, sym, ◌∙◌}
 use native.Mathlib.Omega.{arith}
-use borrow.Author.Tests.{not-true, not-false}
+use borrow.Author.Tests.{not-true, not_false}
 use Rattle.steps.specs.Steps.{disjoint}
-use Rattle.state.proofs.RowLaws.{table-less}
+use Rattle.state.proofs.RowLaws.{table_less}
 use borrow.Author.Rules.{rules}
 use Rattle.steps.proofs.steps.learn_from.Statement.{statement}
 use Rattle.steps.proofs.steps.learn_from.Tie as tie
@@ -12,7 +12,7 @@ returns : tie.Need-returns
 unfolding disjoint
 returns c =
     let a = c.before.before.before.before.before.before.before.before in
-    ((search rules, search rules, table-less 16 _ _ _ _ a.requires.1.0 (omega arith), a.requires.1.1.1.0, λ i l f. refl), rw (sym c.before.disjoint.ensures ∙ not-true _ c.if1.true))
+    ((search rules, search rules, table_less 16 _ _ _ _ a.requires.1.0 (omega arith), a.requires.1.1.1.0, λ i l f. refl), rw (sym c.before.disjoint.ensures ∙ not-true _ c.if1.true))
 
 learn-sum-requires : tie.Need-learn-sum-requires
 learn-sum-requires c κs =
@@ -26,7 +26,7 @@ returns-2 c =
     let at-learn = c.before.before.before.before.before.before in
     let at-if = at-learn.before.before.before.before in
     let learnt = at-learn.learn-sum.ensures.0 in
-    ((learnt.0, learnt.1, learnt.2, learnt.3, learnt.4), rw (sym at-if.before.disjoint.ensures ∙ not-false _ at-if.if1.false) at-learn.learn-sum.ensures.1)
+    ((learnt.0, learnt.1, learnt.2, learnt.3, learnt.4), rw (sym at-if.before.disjoint.ensures ∙ not_false _ at-if.if1.false) at-learn.learn-sum.ensures.1)
 
 pub learn-from-spec : {M : Type 1} → statement M
 learn-from-spec =
