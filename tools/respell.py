@@ -94,6 +94,7 @@ def aliases(text):
 
 
 def main():
+    own_crates = set(os.listdir("crates"))
     specs, lemmas, functions = set(), set(), set()
     for path in files(".antt", ".rt"):
         text = read(path)
@@ -133,6 +134,11 @@ def main():
             for each in said:
                 print(f"alias: {path}: {each}")
         words = set(WORD.findall(text))
+        # what the file has from the library
+        library = set()
+        for module, group in re.findall(r"^\s*(?:ghost )?use ([\w.]+)\.\{([^}]*)\}", text, re.M):
+            if not (module.startswith("Rattle.") and module.split(".")[1] in own_crates):
+                library |= {w.strip() for w in re.split(r",| as ", group)}
 
         def turn(m):
             word = m.group(0)
@@ -140,6 +146,8 @@ def main():
             if text[start - 1 : start] == "." and ("-" in word or camel(word) == word):
                 return word
             if path.endswith(".rt") and names.get(word, "").endswith("_lem"):
+                return word
+            if word in library:
                 return word
             if word in names:
                 return names[word]

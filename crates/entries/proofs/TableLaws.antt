@@ -3,7 +3,7 @@
 -- a row stays right until the row is gone. No contract cites this file. Assumes nothing.
 use Prim.Native.Nat.{ℕ, zero, suc, ◌+◌, ◌*◌, ◌-◌, ◌^◌, ◌≤◌, ◌<◌}
 use mathlib.Core.Path.{◌≡◌, refl, sym, ap, ap₂, subst, ◌∙◌}
-use mathlib.Core.Bool.{Bool, true, false, ◌&&◌, ◌||◌, not, cond, and-false, or-false, or_true}
+use mathlib.Core.Bool.{Bool, true, false, ◌&&◌, ◌||◌, not, cond, and-false, or-false, or-true}
 use mathlib.Core.List.{List, [], ◌∷◌, ◌++◌, append_assoc}
 use native.Mathlib.Nat.{mul-le-mul_right, suc-mul}
 use native.Mathlib.Numerals.{add-one}
@@ -45,7 +45,7 @@ any_below-here zero i f h e = absurd (omega arith)
 any_below-here (suc n) i f h e = go (λ p. any_below-here n i f p e) (ℕ_discrete i n)
   where
     go : (i < n → any_below n f ≡ true) → Dec (i ≡ n) → any_below n f || f n ≡ true
-    go rest (yes p) = ap (λ (b : Bool). any_below n f || b) (ap f (sym p) ∙ e) ∙ or_true (any_below n f)
+    go rest (yes p) = ap (λ (b : Bool). any_below n f || b) (ap f (sym p) ∙ e) ∙ or-true (any_below n f)
     go rest (no p) = ap (λ (b : Bool). b || f n) (rest (omega arith))
 
 -- a test of the rows in use, row by row

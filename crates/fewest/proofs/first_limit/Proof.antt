@@ -3,7 +3,7 @@
 use Prim.Native.Nat.{◌-◌}
 use mathlib.Core.Path.{sym, ◌∙◌}
 use native.Mathlib.Omega.{arith}
-use borrow.Author.Tests.{not-true, not_false}
+use borrow.Author.Tests.{not-true, not-false}
 use Rattle.state.specs.Layout.{state_of}
 use Rattle.fewest.proofs.FailureSteps.{RuledOut, ruled_none, ruled_next, ruled_first}
 use borrow.Author.Rules.{rules}
@@ -23,7 +23,7 @@ returns : tie.Need-returns invariant-loop decreases-loop
 returns c = ruled_first _ _ c.before.before.before.loop.invariant (λ _. sym c.before.hopeless.ensures ∙ not-true _ c.if1.true)
 
 loop-again : tie.Need-loop-preserved invariant-loop decreases-loop
-loop-again c = ruled_next _ _ c.before.before.before.loop.invariant c.before.before.loop-test.true (sym c.before.hopeless.ensures ∙ not_false _ c.if1.false)
+loop-again c = ruled_next _ _ c.before.before.before.loop.invariant c.before.before.loop-test.true (sym c.before.hopeless.ensures ∙ not-false _ c.if1.false)
 
 returns-2 : tie.Need-returns-2 invariant-loop decreases-loop
 returns-2 c = ruled_first _ _ c.before.loop.invariant (λ l. absurd (omega arith))

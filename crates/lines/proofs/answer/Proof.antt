@@ -7,7 +7,7 @@ use mathlib.Core.Bool.{true}
 use mathlib.Core.List.{map}
 use native.Mathlib.Nat.{zero-add}
 use native.Mathlib.Omega.{arith}
-use borrow.Author.Tests.{not-true, not_false}
+use borrow.Author.Tests.{not-true, not-false}
 use lib.ListN.{length, take, length-map, length-take}
 use lib.Seq.{length-take-le}
 use Rattle.predicates.specs.Lists.{all}
@@ -46,7 +46,7 @@ returns-2 c =
 -- behind the second test every field behind the first is a number
 good : (c : tie.Else2) → let at_length = c.before.before.before.before.before.before in
     let line = at_length.before.before.before.before.args.line.now in all is_number (later (fields line)) ≡ true
-good c = sym c.before.before.before.numbers-behind.ensures.0.0 ∙ not_false _ c.if2.false
+good c = sym c.before.before.before.numbers-behind.ensures.0.0 ∙ not-false _ c.if2.false
 
 few : (c : tie.Else2) → c.before.before.before.numbers-behind.result.count ≤ values_most
 few c = c.before.before.before.numbers-behind.ensures.0.2

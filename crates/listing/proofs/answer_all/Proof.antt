@@ -4,7 +4,7 @@ use Prim.Native.Nat.{ℕ, ◌+◌, ◌≤◌}
 use mathlib.Core.Path.{◌≡◌, sym, ap, ◌∙◌}
 use mathlib.Core.Bool.{true}
 use native.Mathlib.Omega.{arith}
-use borrow.Author.Tests.{not-true, not_false}
+use borrow.Author.Tests.{not-true, not-false}
 use lib.ListN.{length, take}
 use lib.Seq.{length-take-le}
 use Rattle.predicates.proofs.ListLaws.{true_T}
@@ -35,7 +35,7 @@ long c = length-take-le c.last_Line.result c.last_Line.new.1.0 (short c)
 ended : (c : tie.After-last-line) → is_end c.before.before.before.before.before.before.before.before.take_all.result.tally.input.got ≡ true
 ended c =
     let at-else = c.before.before.before in
-    sym at-else.before.is-end.ensures ∙ not_false _ at-else.if1.false
+    sym at-else.before.is-end.ensures ∙ not-false _ at-else.if1.false
 
 slice-aggregate-hand-on : tie.Need-slice-aggregate-hand-on
 slice-aggregate-hand-on c = sym (long c.before.before)

@@ -2,7 +2,7 @@
 -- Invariant: the answer for all terms is the answer from term i on. Measure: the terms still to try.
 use Prim.Native.Nat.{◌-◌}
 use mathlib.Core.Path.{◌≡◌, refl, sym, ◌∙◌}
-use borrow.Author.Tests.{not-true, not_false}
+use borrow.Author.Tests.{not-true, not-false}
 use lib.ListN.{length, drop}
 use Rattle.predicates.specs.Predicates.{is_normal}
 use Rattle.predicates.proofs.LoopLaws.{normal_stop, normal_next, normal-done}
@@ -27,7 +27,7 @@ returns c =
 loop-again : tie.Need-loop-preserved invariant-loop decreases-loop
 loop-again c =
     let at_head = c.before.before.before.before.before.loop in
-    at_head.invariant ∙ normal_next _ at_head.i c.before.before.before.before.loop-test.true _ c.before.precedes-all.ensures (not_false _ c.if1.false)
+    at_head.invariant ∙ normal_next _ at_head.i c.before.before.before.before.loop-test.true _ c.before.precedes-all.ensures (not-false _ c.if1.false)
 
 returns-2 : tie.Need-returns-2 invariant-loop decreases-loop
 returns-2 c = sym (c.before.loop.invariant ∙ normal-done _ c.before.loop.i c.loop-test.false)

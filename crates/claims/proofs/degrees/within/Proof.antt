@@ -4,7 +4,7 @@ use Prim.Native.Nat.{◌-◌, ◌≤◌}
 use mathlib.Core.Path.{◌≡◌, refl, sym, ◌∙◌}
 use mathlib.Core.Bool.{true}
 use native.Mathlib.Omega.{arith}
-use borrow.Author.Tests.{not-true, not_false}
+use borrow.Author.Tests.{not-true, not-false}
 use Rattle.predicates.specs.Lists.{all_below}
 use Rattle.predicates.proofs.IndexLaws.{below_stop}
 use Rattle.state.proofs.FormLoops.{below-turn}
@@ -52,7 +52,7 @@ loop-again c =
     let a = at_test.before.before.before in
     let head = at_test.before.loop in
     let told = claim_within _ a.requires.1 _ a.requires.2 head.i (omega arith) _ at_place.place.ensures.0 _ _ c.before.degree-within.ensures in
-    (omega arith, sym (below-turn _ head.i true true (sym head.invariant.1) (sym (sym told ∙ not_false _ c.if1.false))))
+    (omega arith, sym (below-turn _ head.i true true (sym head.invariant.1) (sym (sym told ∙ not-false _ c.if1.false))))
 
 returns-2 : tie.Need-returns-2 invariant-loop decreases-loop
 returns-2 c =

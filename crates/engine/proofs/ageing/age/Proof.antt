@@ -4,7 +4,7 @@ use Prim.Native.Nat.{◌-◌, ◌≤◌, ◌<◌}
 use mathlib.Core.Path.{◌≡◌, refl, sym, ap, ◌∙◌}
 use mathlib.Core.Bool.{cond}
 use native.Mathlib.Omega.{arith}
-use borrow.Author.Tests.{not-true, not_false}
+use borrow.Author.Tests.{not-true, not-false}
 use Rattle.numbers.specs.Numbers.{put, Bytes}
 use Rattle.state.specs.Model.{Store, reading_limit}
 use Rattle.clocks.specs.Clocks.{drift_most}
@@ -70,7 +70,7 @@ returns-4 c =
     let s = a.args.state.now in
     let same = aged_code s a.args.reading _ _ at-if2.before.get64.ensures.0 at-hi.before.get32.ensures.0 _ _ (store_of s)
     at-lo.least-advance.ensures.0 at-hi.greatest-advance.ensures.0 in (
-      sym (tested at-if3.before ∙ ap (λ b. cond b 0 30) (not_false at-if3.before.stays-below.result at-if3.if3.false)),
+      sym (tested at-if3.before ∙ ap (λ b. cond b 0 30) (not-false at-if3.before.stays-below.result at-if3.if3.false)),
       age-put s a.requires.1 (λ i. (at_start.slice-known.given i).fits) a.requires.0 a.args.reading at-widen.widen.new.0 _
           (at-widen.widen.ensures ∙ ap (λ (k : Store). put data_at (joined datum_bytes k.held) s) same) c.before.before.put64.ensures,
     )

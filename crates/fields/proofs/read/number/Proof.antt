@@ -5,7 +5,7 @@ use Prim.Native.Nat.{◌+◌, ◌*◌, ◌-◌, ◌^◌, ◌≤◌, ◌<◌}
 use mathlib.Core.Path.{◌≡◌, refl, sym, ◌∙◌}
 use mathlib.Core.Bool.{true, false}
 use native.Mathlib.Omega.{arith}
-use borrow.Author.Tests.{not-true, not_false, leb-true}
+use borrow.Author.Tests.{not-true, not-false, leb-true}
 use lib.Dec.{leb}
 use lib.ListN.{length, get_or, drop}
 use Rattle.predicates.specs.Lists.{all}
@@ -44,7 +44,7 @@ returns-2 c =
 
 sub-d : tie.Need-overflow-sub-d invariant-loop decreases-loop
 sub-d c =
-    let test : is_digit c.before.byte.result ≡ true = not_false _ c.if2.false in
+    let test : is_digit c.before.byte.result ≡ true = not-false _ c.if2.false in
     let low : 48 ≤ c.before.byte.result = leb-true 48 _ (T_true _ (both_l (leb 48 c.before.byte.result) (leb c.before.byte.result 57) (true_T _ test))) in
     omega arith
 
@@ -65,7 +65,7 @@ loop-again : tie.Need-loop-preserved invariant-loop decreases-loop
 loop-again c =
     let head = c.before.before.before.before.before.loop in
     let f = c.before.before.before.before.before.before.before.before.args.field.now in
-    let test : is_digit c.before.before.byte.result ≡ true = not_false _ c.before.if2.false in
+    let test : is_digit c.before.before.byte.result ≡ true = not-false _ c.before.if2.false in
     let digit : is_digit (get_or f head.i 0) ≡ true = rw c.before.before.byte.ensures at test in
     let below = c.before.before.before.before.loop-test.true in (
       omega arith,
@@ -81,7 +81,7 @@ returns-4 c =
     let whole : value_from head.v (drop head.i f) ≡ value f = head.invariant.3 in
     let value-is : head.v ≡ value f = sym (value-done head.v f head.i c.loop-test.false) ∙ whole in
     let digits = sym head.invariant.2 ∙ all_done is_digit f head.i c.loop-test.false in
-    let good = number_good f (not_false _ c.before.before.if1.false) digits (rw (← value-is) head.invariant.0) in
+    let good = number_good f (not-false _ c.before.before.if1.false) digits (rw (← value-is) head.invariant.0) in
     (sym good, rw good value-is)
 
 pub number-spec : {M : Type 1} → statement M

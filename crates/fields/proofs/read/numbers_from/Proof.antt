@@ -4,7 +4,7 @@
 use Prim.Native.Nat.{◌+◌, ◌*◌, ◌-◌, ◌≤◌}
 use mathlib.Core.Path.{◌≡◌, refl, sym, ◌∙◌}
 use native.Mathlib.Omega.{arith}
-use borrow.Author.Tests.{not-true, not_false}
+use borrow.Author.Tests.{not-true, not-false}
 use lib.ListN.{length, drop, length-set}
 use Rattle.predicates.specs.Lists.{all}
 use Rattle.numbers.specs.Numbers.{put}
@@ -41,7 +41,7 @@ returns-2 : tie.Need-returns-2 invariant-loop decreases-loop
 returns-2 c =
     let head = c.before.before.before.before.before.before.loop in
     let l = c.before.before.before.before.before.before.before.before.before.args.line.now in
-    let good = sym c.before.before.before.number.ensures.0 ∙ not_false _ c.before.if1.false in
+    let good = sym c.before.before.before.number.ensures.0 ∙ not-false _ c.before.if1.false in
     let last = numbers-last l head.at c.before.before.before.before.before.field-end.result head.n head.values head.invariant.0 c.before.before.before.before.before.field-end.ensures.0 good c.if2.true in
     let all-good = sym head.invariant.3 ∙ last.0 in
     let stored = rw good at c.before.before.before.number.ensures.1 in
@@ -55,7 +55,7 @@ loop-again : tie.Need-loop-preserved invariant-loop decreases-loop
 loop-again c =
     let head = c.before.before.before.before.before.before.loop in
     let l = c.before.before.before.before.before.before.before.before.before.args.line.now in
-    let good = sym c.before.before.before.number.ensures.0 ∙ not_false _ c.before.if1.false in
+    let good = sym c.before.before.before.number.ensures.0 ∙ not-false _ c.before.if1.false in
     let more = numbers_more l head.at c.before.before.before.before.before.field-end.result head.n head.values head.invariant.0 c.before.before.before.before.before.field-end.ensures.0 good c.if2.false in
     let stored = rw good at c.before.before.before.number.ensures.1 in
     let some = field_some (c.before.before.before.before.before.field-end.result - head.at) (drop head.at l) good in (

@@ -1,7 +1,7 @@
 -- `lines::commands::get_line` meets its contract: the words behind the two delays are the message, as bytes; too few fields, or a number that is no
 -- word, are a bad line. Assumes nothing.
 use mathlib.Core.Path.{sym, ◌∙◌}
-use borrow.Author.Tests.{le-leb, lt-leb, not-true, not_false}
+use borrow.Author.Tests.{le-leb, lt-leb, not-true, not-false}
 use native.Mathlib.Omega.{arith}
 use lib.Seq.{length-take-le}
 use Rattle.lines.specs.Lines.{get_line, bad_line}
@@ -40,7 +40,7 @@ returns-3 c =
     let at-two = at_words.before.before.before in
     let ns = at-two.before.before.before.before.args.values.now in
     let many = le-leb _ _ at-two.if1.false in
-    let fit = rw (behind_two ns) at (sym at_words.before.words-fit.ensures ∙ not_false _ at_words.if2.false) in
+    let fit = rw (behind_two ns) at (sym at_words.before.words-fit.ensures ∙ not-false _ at_words.if2.false) in
     let message = message_at_front ns _ _ (omega arith) at-bytes.message-bytes.ensures in
     let number = rw message at at-receive.monitor-receive.ensures.0 in
     let state = rw message at at-receive.monitor-receive.ensures.1 in

@@ -6,7 +6,7 @@ use mathlib.Core.Bool.{true, false, ◌&&◌}
 use native.Mathlib.Omega.{arith}
 use lib.ListN.{get_or}
 use Rattle.predicates.proofs.ListLaws.{true_T, T_true, both_l, both_r}
-use borrow.Author.Tests.{eq-eqb, ne_eqb, not-true, not_false, ltb-true}
+use borrow.Author.Tests.{eq-eqb, ne_eqb, not-true, not-false, ltb-true}
 use Rattle.fields.specs.Fields.{is_word}
 use Rattle.lines.specs.Lines.{set_line, bad_line}
 use borrow.Author.Rules.{rules}
@@ -34,7 +34,7 @@ returns-2 c =
 fits : (c : tie.Else2) → let ns = c.before.before.before.before.before.before.before.args.values.now in (get_or ns 0 0 < 2 ^ 32) × (get_or ns 1 0 < 2 ^ 32)
 fits c =
     let ns = c.before.before.before.before.before.before.before.args.values.now in
-    let both = true_T (is_word (get_or ns 0 0) && is_word (get_or ns 1 0)) (not_false _ c.if2.false) in (
+    let both = true_T (is_word (get_or ns 0 0) && is_word (get_or ns 1 0)) (not-false _ c.if2.false) in (
       ltb-true _ _ (T_true _ (both_l (is_word (get_or ns 0 0)) (is_word (get_or ns 1 0)) both)),
       ltb-true _ _ (T_true _ (both_r (is_word (get_or ns 0 0)) (is_word (get_or ns 1 0)) both)),
     )
@@ -52,7 +52,7 @@ returns-3 c =
     let at-four = at_words.before.before.before in
     let four = eq-eqb _ _ at-four.if1.false in
     let ns = at-four.before.before.before.before.args.values.now in
-    let fit : is_word (get_or ns 0 0) && is_word (get_or ns 1 0) ≡ true = not_false _ at_words.if2.false in
+    let fit : is_word (get_or ns 0 0) && is_word (get_or ns 1 0) ≡ true = not-false _ at_words.if2.false in
     let set = c.before.before.before.before.before.before.monitor-set-up.ensures in
     let printed = c.before.before.put-number.ensures in (
       rw (four, fit, ← set.0),

@@ -1,6 +1,6 @@
 -- `lines::commands::word_line` meets its contract: `set` at any time, another command after a taken `set` only. Assumes nothing.
 use mathlib.Core.Path.{sym, ◌∙◌}
-use borrow.Author.Tests.{not-true, not_false}
+use borrow.Author.Tests.{not-true, not-false}
 use Rattle.lines.specs.Lines.{word_line, bad_line}
 use Rattle.lines.proofs.LineLaws.{later-begun}
 use borrow.Author.Rules.{rules}
@@ -29,7 +29,7 @@ unfolding word_line
 returns-3 c =
     let at_set = c.before.before.before.before.before.before.before.before in
     let other = sym at_set.before.same.ensures ∙ at_set.if1.false in
-    let after = not_false at_set.before.before.before.before.before.before.before.args.begun c.before.before.before.before.before.before.before.if2.false in
+    let after = not-false at_set.before.before.before.before.before.before.before.args.begun c.before.before.before.before.before.before.before.if2.false in
     let told = c.before.before.before.before.later-line.ensures in
     (rw (other, after) (sym (later-begun _ _ _)), rw (other, after) told.0, rw (other, after) told.1, rw (other, after) told.2)
 

@@ -1,7 +1,7 @@
 -- `message::read::contents` meets its contract: each return is a case of the definition's tests, in their order.
 -- The test for normal form is made on the term words themselves: being of one kind they stand in the order of their payloads.
 use Rattle.std.proofs.Common.{◌≡◌, ◌+◌, ◌-◌, ◌≤◌, eqb, length, get_or, sym, ◌∙◌, arith, rules}
-use borrow.Author.Tests.{not-true, not_false}
+use borrow.Author.Tests.{not-true, not-false}
 use Rattle.predicates.specs.Predicates.{is_normal}
 use Rattle.message.specs.Words.{masks}
 use Rattle.message.specs.Read.{sender_of, term_count, is_ends, start, middle, span, with_span, contents}
@@ -78,7 +78,7 @@ returns-4 c =
     let at-normal = c.before in
     let at-span = at-normal.before.before.before.before.before.before in
     let found = at-normal.before.before.before.before.interval.given.1 in
-    let yes = not_false at-normal.is_normal.result c.if2.false in
+    let yes = not-false at-normal.is_normal.result c.if2.false in
     sym (checked at-span.before ∙ rw (normal at-normal, ← (told at-span.before.before.before), ← at-span.span.ensures, found, yes))
 
 pub contents-spec : {M : Type 1} → statement M

@@ -1,6 +1,6 @@
 -- `message::read::shape` meets its contract: each return is a case of the definition's tests, in their order.
 use Rattle.std.proofs.Common.{◌≡◌, ℕ, ◌+◌, ◌<◌, Bool, true, false, cond, not, ◌||◌, eqb, length, get_or, sym, refl, ◌∙◌, arith, rules, eq-eqb, ne_eqb, eqb-true}
-use borrow.Author.Tests.{not-true, not_false}
+use borrow.Author.Tests.{not-true, not-false}
 use Rattle.message.specs.Read.{head_word_fits, is_ends, opens, start, term_count, kinds_fit, shape_refusal}
 use Rattle.message.proofs.read.shape.Statement.{statement}
 use Rattle.message.proofs.read.shape.Tie as tie
@@ -13,7 +13,7 @@ returns c =
 
 -- a word that opens a form is one of the words
 opened : (c : tie.Else2) → let at_kind = c.before.before in let a = at_kind.before.before.before.before.args in a.at < length a.words.now
-opened c = c.before.before.kind_at.ensures.1 (by c.before.before.kind_at.result (not_false _ c.if2.false))
+opened c = c.before.before.kind_at.ensures.1 (by c.before.before.kind_at.result (not-false _ c.if2.false))
   where
     two : (b : Bool) (k : ℕ) → eqb k 2 ≡ b → b || eqb k 4 ≡ true → 0 < k
     two true k e h = omega (arith, eqb-true k 2 e)
@@ -24,11 +24,11 @@ opened c = c.before.before.kind_at.ensures.1 (by c.before.before.kind_at.result 
 
 -- past the tests of the head and of the opening word
 head : (c : tie.Else1) → head_word_fits (get_or c.before.before.before.before.before.args.words.now 0 0) ≡ true
-head c = let fits = c.before.before.head-word-fits in sym fits.ensures ∙ not_false fits.result c.if1.false
+head c = let fits = c.before.before.head-word-fits in sym fits.ensures ∙ not-false fits.result c.if1.false
 
 form : (c : tie.Else2) → let a = c.before.before.before.before.before.before.args in opens a.at a.words.now ≡ true
 unfolding opens is_ends
-form c = rw (← c.before.before.kind_at.ensures.0) (not_false _ c.if2.false)
+form c = rw (← c.before.before.kind_at.ensures.0) (not-false _ c.if2.false)
 
 returns-2 : tie.Need-returns-2
 unfolding shape_refusal opens is_ends

@@ -2,7 +2,7 @@
 -- Invariant: the answer for all terms is the answer from term i on. Measure: the terms still to try.
 use Prim.Native.Nat.{◌-◌}
 use mathlib.Core.Path.{◌≡◌, refl, sym, ◌∙◌}
-use borrow.Author.Tests.{not-true, not_false}
+use borrow.Author.Tests.{not-true, not-false}
 use lib.ListN.{length, drop}
 use Rattle.predicates.specs.Predicates.{holds, implies}
 use Rattle.predicates.proofs.LoopLaws.{all_here, all_next, all_done}
@@ -29,7 +29,7 @@ loop-again : tie.Need-loop-preserved invariant-loop decreases-loop
 unfolding implies
 loop-again c =
     let at_head = c.before.before.before.before.loop in
-    at_head.invariant ∙ all_next (λ t. holds t _) _ at_head.i c.before.before.before.loop-test.true (sym c.before.holds-by-mark.ensures ∙ not_false _ c.if1.false)
+    at_head.invariant ∙ all_next (λ t. holds t _) _ at_head.i c.before.before.before.loop-test.true (sym c.before.holds-by-mark.ensures ∙ not-false _ c.if1.false)
 
 returns-2 : tie.Need-returns-2 invariant-loop decreases-loop
 unfolding implies

@@ -5,7 +5,7 @@ use Prim.Native.Nat.{ℕ, ◌<◌}
 use mathlib.Core.Path.{◌≡◌, refl, sym, ap, ◌∙◌}
 use mathlib.Core.List.{List}
 use native.Mathlib.Omega.{arith}
-use borrow.Author.Tests.{ltb-true, ltb-false, not-true, not_false}
+use borrow.Author.Tests.{ltb-true, ltb-false, not-true, not-false}
 use lib.Dec.{T}
 use lib.ListN.{length, take}
 use Rattle.numbers.specs.Numbers.{put}
@@ -111,7 +111,7 @@ right-grown c = c.grow.ensures.1.0
 below_limit : (c : tie.Else2) → let a = start (from_other (at_grow c)) in (grown (state_of (bytes_at a)).head (given a)).right < end_limit
 below_limit c =
     let new = (at_grow c).grow.result in
-    omega (arith, right-grown (at_grow c), ltb-true (count_of new.right) end_limit (sym c.before.storable.ensures ∙ not_false _ c.if2.false))
+    omega (arith, right-grown (at_grow c), ltb-true (count_of new.right) end_limit (sym c.before.storable.ensures ∙ not-false _ c.if2.false))
 
 -- the identifiers that are heard
 heard_there : (c : tie.After-hear) → let a = start_of_hear c in

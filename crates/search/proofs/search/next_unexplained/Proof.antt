@@ -5,7 +5,7 @@ use mathlib.Core.Path.{◌≡◌, refl, sym, ◌∙◌}
 use native.Mathlib.Nat.{le_refl}
 use native.Mathlib.Omega.{arith}
 use borrow.Author.Rules.{rules}
-use borrow.Author.Tests.{not-true, not_false}
+use borrow.Author.Tests.{not-true, not-false}
 use lib.ListN.{drop}
 use Rattle.search.specs.code.Search.{rows_of, preds, skipped}
 use Rattle.search.proofs.SearchSteps.{skip_here, skip_next, skip_done}
@@ -48,7 +48,7 @@ loop-again c =
     let k = head.loop.k in (
       omega arith,
       omega arith,
-      skip_next a.n a.listed.now _ a.set k c.before.before.loop-test.true (sym c.before.holds_at.ensures ∙ not_false _ c.if1.false)
+      skip_next a.n a.listed.now _ a.set k c.before.before.loop-test.true (sym c.before.holds_at.ensures ∙ not-false _ c.if1.false)
           ∙ head.loop.invariant.2,
     )
 

@@ -4,7 +4,7 @@ use Prim.Native.Nat.{◌-◌, ◌≤◌}
 use mathlib.Core.Path.{◌≡◌, refl, sym, ◌∙◌}
 use mathlib.Core.Bool.{true}
 use native.Mathlib.Omega.{arith}
-use borrow.Author.Tests.{not-true, not_false}
+use borrow.Author.Tests.{not-true, not-false}
 use Rattle.predicates.specs.Lists.{all_below}
 use Rattle.clocks.specs.Places.{place_fits}
 use Rattle.state.specs.Layout.{clocks_most, clock_place}
@@ -33,7 +33,7 @@ returns c =
 loop-again : tie.Need-loop-preserved invariant-loop decreases-loop
 loop-again c =
     let head = c.before.before.before.loop in
-    let fits = sym (not_false _ c.if1.false) ∙ c.before.fits2.ensures in
+    let fits = sym (not-false _ c.if1.false) ∙ c.before.fits2.ensures in
     (search rules, below-turn (λ k. place_fits (clock_place k) _) head.i true true head.invariant.1 fits)
 
 returns-2 : tie.Need-returns-2 invariant-loop decreases-loop

@@ -3,7 +3,7 @@
 use mathlib.Core.Path.{◌≡◌, sym, ◌∙◌}
 use mathlib.Core.Bool.{true}
 use native.Mathlib.Omega.{arith}
-use borrow.Author.Tests.{not-true, not_false}
+use borrow.Author.Tests.{not-true, not-false}
 use Rattle.state.specs.Form.{head_fits, data_fit, entries_fit, epochs_fit, in_form}
 use Rattle.state.proofs.FormLoops.{head_out}
 use borrow.Author.Rules.{rules}
@@ -12,7 +12,7 @@ use Rattle.state.proofs.form.in_form.Tie as tie
 
 -- the head fits
 fits : (c : tie.Else1) → head_fits c.before.before.before.args.s.now ≡ true
-fits c = sym c.before.head-fits.ensures ∙ not_false _ c.if1.false
+fits c = sym c.before.head-fits.ensures ∙ not-false _ c.if1.false
 
 returns : tie.Need-returns
 unfolding in_form

@@ -1,6 +1,6 @@
 -- `state::form::refusal` meets its contract: the tests stand in the definition's order.
 use mathlib.Core.Path.{sym, ◌∙◌}
-use borrow.Author.Tests.{lt-ltb, le-ltb, not-true, not_false}
+use borrow.Author.Tests.{lt-ltb, le-ltb, not-true, not-false}
 use Rattle.state.specs.Layout.{state_size}
 use Rattle.state.specs.Refusal.{lent}
 use borrow.Author.Rules.{rules}
@@ -17,7 +17,7 @@ returns-2 c = rw (le-ltb _ state_size c.before.before.if1.false, sym c.before.in
 
 returns-3 : tie.Need-returns-3
 unfolding lent
-returns-3 c = rw (le-ltb _ state_size c.before.before.if1.false, sym c.before.in-form.ensures ∙ not_false _ c.if2.false)
+returns-3 c = rw (le-ltb _ state_size c.before.before.if1.false, sym c.before.in-form.ensures ∙ not-false _ c.if2.false)
 
 pub refusal-spec : {M : Type 1} → statement M
 refusal-spec =

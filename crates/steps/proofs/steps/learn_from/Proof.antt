@@ -1,7 +1,7 @@
 -- `steps::steps::learn_from` meets its contract: intervals that overlap teach nothing; else the sum of both predicates is learnt.
 use mathlib.Core.Path.{refl, sym, ◌∙◌}
 use native.Mathlib.Omega.{arith}
-use borrow.Author.Tests.{not-true, not_false}
+use borrow.Author.Tests.{not-true, not-false}
 use Rattle.steps.specs.Steps.{disjoint}
 use Rattle.state.proofs.RowLaws.{table_less}
 use borrow.Author.Rules.{rules}
@@ -26,7 +26,7 @@ returns-2 c =
     let at-learn = c.before.before.before.before.before.before in
     let at-if = at-learn.before.before.before.before in
     let learnt = at-learn.learn-sum.ensures.0 in
-    ((learnt.0, learnt.1, learnt.2, learnt.3, learnt.4), rw (sym at-if.before.disjoint.ensures ∙ not_false _ at-if.if1.false) at-learn.learn-sum.ensures.1)
+    ((learnt.0, learnt.1, learnt.2, learnt.3, learnt.4), rw (sym at-if.before.disjoint.ensures ∙ not-false _ at-if.if1.false) at-learn.learn-sum.ensures.1)
 
 pub learn-from-spec : {M : Type 1} → statement M
 learn-from-spec =
