@@ -108,6 +108,10 @@ def main():
             # of a function's own proof only what is no goal
             own = "as tie" in text
             lemmas |= {m for m in found if not (own and (MADE.search(m) or re.search(rf"^{re.escape(m)} : tie\.", text, re.M)))}
+    fields = set()
+    for path in files(".antt"):
+        for block in re.findall(r"record [^\n]* where\n((?:[ ]+[^\n]*\n|\n(?=[ ]))+)", read(path)):
+            fields |= set(re.findall(r"^[ ]+(?:pub )?(\S+) :", block, re.M))
     known = {camel(s) for s in specs if not s.startswith("◌")} | functions | LIBRARY
     names = {}
     for name in sorted(specs | lemmas):
@@ -143,6 +147,8 @@ def main():
         def turn(m):
             word = m.group(0)
             start = m.start()
+            if text[start - 1 : start] == "." and word in fields and word in names:
+                return names[word]
             if text[start - 1 : start] == "." and ("-" in word or camel(word) == word):
                 return word
             if path.endswith(".rt") and names.get(word, "").endswith("_lem"):

@@ -150,7 +150,7 @@ module _ (k : Store) (n rows : ℕ) (table : Rows) (order : List ℕ) (loaded : 
   terms = row_terms table
 
   rows-count : rows ≡ length k.entries + length k.held
-  rows-count = omega (arith, loaded.rows_are, loaded.entries-are)
+  rows-count = omega (arith, loaded.rows_are, loaded.entries_are)
 
   -- the order read as rows is as long as the search asks
   pub order-rows : RowsFit rows order table

@@ -121,7 +121,7 @@ module _ (limit : ℕ) (st : State) (n rows : ℕ) (table : Rows) (order : List 
   row_of : (d : Datum) → In d k.held → (i : ℕ) × (n ≤ i) × (i < rows) × (claim_at k i ≡ d)
   row_of d m =
       let w = in_at k.held (entry_claim []) d m in
-      (length k.entries + w.0, omega (arith, loaded.entries-are), omega (arith, loaded.rows_are, loaded.entries-are, w.1), claim_datum k w.0 ∙ sym w.2)
+      (length k.entries + w.0, omega (arith, loaded.entries_are), omega (arith, loaded.rows_are, loaded.entries_are, w.1), claim_datum k w.0 ∙ sym w.2)
 
   module _ (every : Explained limit st (everything k) → ⊥) (lefts rights : List ℕ) (bounded : Bounded k rows lefts rights) where
     left-same : (x y : ℕ) → x ≡ y → (i : ℕ) → i < rows → outside lefts rights x i ≡ not (inside y (claim_at k i))
@@ -231,7 +231,7 @@ last = last_key
 module _ (s : List ℕ) (t : T (in_form s)) (n rows : ℕ) (table : Rows) (order : List ℕ) (loaded : Loaded (store_of s) n rows table)
     (complete : Complete rows order) where
   entries-count : n ≡ entry_count s
-  entries-count = loaded.entries-are ∙ length-entries s
+  entries-count = loaded.entries_are ∙ length-entries s
 
   pub rows-count : rows ≡ n + held_count s
   rows-count = loaded.rows_are ∙ ap (λ (h : ℕ). n + h) (length-held s)
@@ -283,13 +283,13 @@ module _ (s : List ℕ) (t : T (in_form s)) (n rows : ℕ) (table : Rows) (order
       mirror_ready =
           let w = ends_ready in
           record {
-            entries_le = w.entries-le;
+            entries_le = w.entries_le;
             most = w.most;
             lefts-long = omega (arith, length_column (λ k. last - get_or r k 0) rows low₀ low c a);
             rights-long = omega (arith, length_column (λ k. last - get_or l k 0) rows high₀ high d b);
             below = λ i h. omega (arith, low_is i h);
             empty = λ i h.
-                let j : i < rows = omega (arith, w.entries-le) in omega (arith, low_is i j, high_is i j, w.empty i h, ends_low i j);
+                let j : i < rows = omega (arith, w.entries_le) in omega (arith, low_is i j, high_is i j, w.empty i h, ends_low i j);
             ordered = w.ordered;
             placed = w.placed;
             present = w.present;

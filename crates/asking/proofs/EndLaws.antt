@@ -106,7 +106,7 @@ module _ (limit : ℕ) (st : State) where
         → exact limit st ≡ Contradicted
     answer-none f =
         sym (answer_is limit st Contradicted (λ x c.
-        let e = counts-reached x c in f e.first e.first-held (c.0, c.1, e.first-true)))
+        let e = counts-reached x c in f e.first e.first-held (c.0, c.1, e.first_true)))
 
     pub answer-between : (l r : ℕ) → Explained limit st (needed_at l st.store)
         → ((d : Datum) → In d st.store.held → d.left < l → Explained limit st (needed_at d.left st.store) → ⊥)
@@ -122,11 +122,11 @@ module _ (limit : ℕ) (st : State) where
           where
             low : Dec (l ≤ e.first.left) → l ≤ e.first.left
             low (yes h) = h
-            low (no h) = absurd (f e.first e.first-held (omega arith) (c.0, c.1, e.first-true))
+            low (no h) = absurd (f e.first e.first-held (omega arith) (c.0, c.1, e.first_true))
 
             high : Dec (e.last.right ≤ r) → e.last.right ≤ r
             high (yes h) = h
-            high (no h) = absurd (g e.last e.last-held (omega arith) (c.0, c.1, e.last-true))
+            high (no h) = absurd (g e.last e.last-held (omega arith) (c.0, c.1, e.last_true))
 
     -- once an instant counts, a right end does
     pub right_too : (l : ℕ) → Explained limit st (needed_at l st.store)
@@ -134,4 +134,4 @@ module _ (limit : ℕ) (st : State) where
     right_too l h =
         let c = counts_in limit st l h in
         let e = counts-reached (pos l) c in
-        (e.last, e.last-held, (c.0, c.1, e.last-true))
+        (e.last, e.last-held, (c.0, c.1, e.last_true))

@@ -153,7 +153,7 @@ Seen u k = T (all (holds u) (everything k)) ⊎ ((d : Datum) × In d k.held × T
 module _ (st : State) where
   pub works-ends : (u : ℕ) → Works st u → Seen u st.store
   works-ends u w =
-      ⊎_elim (λ t. inl t) (λ e. inr (e.first, e.first-held, e.first-true))
+      ⊎_elim (λ t. inl t) (λ e. inr (e.first, e.first-held, e.first_true))
       (fine_ends u st.store w.1.0 w.1.1)
 
   pub ends-works : (u : ℕ) → Allowed 4 st.head.own u → Seen u st.store → Works st u

@@ -83,7 +83,7 @@ Spanning ds u i left right =
 module _ (ds : List Datum) {lefts rights masks : List ℕ} (kept : InArrays ds lefts rights masks) where
   pub mask_count : length masks ≡ length ds
   unfolding masks_of
-  mask_count = ap length kept.masks-are ∙ length-map ds (λ (d : Datum). singles d.terms)
+  mask_count = ap length kept.masks_are ∙ length-map ds (λ (d : Datum). singles d.terms)
 
   module _ (u : ℕ) (one : ones u ≤ 1) where
     module _ (i : ℕ) (h : i < length masks) (x left right : ℕ) (e : x ≡ shared (get_or masks i 0) u) (w : Spanning ds u i left right) where
@@ -101,7 +101,7 @@ module _ (ds : List Datum) {lefts rights masks : List ℕ} (kept : InArrays ds l
       mask =
           e
           ∙ ap (λ (n : ℕ). shared n u)
-          (ap (λ (l : List ℕ). get_or l i 0) kept.masks-are ∙ get_d_map (λ (d : Datum). singles d.terms) ds (entry_claim []) 0 i inside)
+          (ap (λ (l : List ℕ). get_or l i 0) kept.masks_are ∙ get_d_map (λ (d : Datum). singles d.terms) ds (entry_claim []) 0 i inside)
 
       pub span-take : x ≡ 0 → (a b : ℕ) → a ≡ max left (get_or lefts i 0) → b ≡ min right (get_or rights i 0) → Spanning ds u (i + 1) a b
       unfolding active greatest_left least_right

@@ -399,9 +399,9 @@ module _ (f : ℕ → ℕ) (k : Store) where
   unfolding mapped
   mapped_loaded {m} w =
       record {
-        entries_are = w.entries-are;
+        entries_are = w.entries_are;
         rows_are = w.rows_are ∙ ap (λ (h : ℕ). m + h) (sym (length-map k.held (map_ends f)));
-        means = λ i h s. w.means i h s ∙ ap (holds s) (sym (mapped-terms i (omega (arith, w.rows_are, w.entries-are))));
+        means = λ i h s. w.means i h s ∙ ap (holds s) (sym (mapped-terms i (omega (arith, w.rows_are, w.entries_are))));
         parted = w.parted;
       }
 

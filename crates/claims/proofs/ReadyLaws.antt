@@ -29,7 +29,7 @@ module _ {k : Store} {n rows : ℕ} {table : Rows} (loaded : Loaded k n rows tab
         lefts-long = bounded.lefts-long;
         rights-long = bounded.rights-long;
         below = below;
-        empty = λ i h. hollow i (omega (arith, loaded.entries-are)) (bounded.left_is i (omega (arith, loaded.rows_are))) (bounded.right_is i (omega (arith, loaded.rows_are)));
+        empty = λ i h. hollow i (omega (arith, loaded.entries_are)) (bounded.left_is i (omega (arith, loaded.rows_are))) (bounded.right_is i (omega (arith, loaded.rows_are)));
         ordered = complete.ordered;
         placed = complete.placed;
         present = complete.present;
@@ -44,7 +44,7 @@ module _ {k : Store} {n rows : ℕ} {table : Rows} (loaded : Loaded k n rows tab
 -- ---- the rows
 
 pub rows_most_lem : (st : State) → T (state_ok st) → {n rows : ℕ} {table : Rows} → Loaded st.store n rows table → rows ≤ 48
-rows_most_lem st ok loaded = let o = state_out st ok in omega (arith, o.held-le, o.entries-le, loaded.rows_are, loaded.entries-are)
+rows_most_lem st ok loaded = let o = state_out st ok in omega (arith, o.held_le, o.entries_le, loaded.rows_are, loaded.entries_are)
 
 -- ---- what the calls before a search leave of a state in form: its ends are keys
 

@@ -101,7 +101,7 @@ age_back s reading last e h k = rw (lt-leb reading_limit reading h, ← e, lt-lt
 -- the drift that the state holds
 pub drift-held : (s : List ℕ) → T (in_form s) → num drift_at 4 s ≤ drift_most
 unfolding state_of head_of
-drift-held s t = (state_out (state_of s) (form_ok s t)).drift-le
+drift-held s t = (state_out (state_of s) (form_ok s t)).drift_le
 
 -- the code's words for what passed: the last reading, the drift, and both advances
 module _ (s : List ℕ) (reading last drift : ℕ) (at_last : last ≡ num reading_at 8 s) (at_drift : drift ≡ num drift_at 4 s) where

@@ -162,7 +162,7 @@ arrived_ok h g e p n =
       ends = grown-ends h g e;
       below = p.below;
       fit = withdraw_fit h.own (length terms) datum_terms (late h g) terms
-          (formed_fit h.own g.sender g.terms e.sender-le p.other e.small before) n p.few;
+          (formed_fit h.own g.sender g.terms e.sender_le p.other e.small before) n p.few;
     }
 
 -- it has terms, in normal form
@@ -195,7 +195,7 @@ unfolding made state_ok
 made_ok st g t h p =
     let own = st.head.own in
     let old : T (store_ok own st.store) = search (both_l, both_r) depth 9 in
-    judged_ok own (violated st.head g) g.sender (arrived st.head g) (withdrawn (risen st.head g) st.store) h.sender-le p.other
+    judged_ok own (violated st.head g) g.sender (arrived st.head g) (withdrawn (risen st.head g) st.store) h.sender_le p.other
     (arrived-single st.head g) (withdrawn_ok own (risen st.head g) st.store old) (arrived_ok st.head g h p)
 
 -- the same, before the readings are saved
@@ -218,7 +218,7 @@ moved_ok h g t e =
     let right : T (all saved_ok cs) = search (both_l, both_r) depth 9 in
     let there : length cs ≡ clocks_most = eqb→eq (length cs) clocks_most (search (both_l, both_r) depth 9) in
     let clocks-there : T (eqb (length (watched (heeded h g) g.sender cs)) clocks_most) = rw (length-watched (heeded h g) g.sender cs, there) tt in
-    let clocks = watched_ok (heeded h g) g.sender cs (heeded-fits h g e.readings) (omega (arith, there, e.sender-le)) right in
+    let clocks = watched_ok (heeded h g) g.sender cs (heeded-fits h g e.readings) (omega (arith, there, e.sender_le)) right in
     search (both, both_l, both_r) depth 14
 
 pub receive_ok : (st : State) (g : Delivery) → T (state_ok st) → Heard g → receipt_refusal st g ≡ 0 → T (state_ok (done st (receive g)))

@@ -68,7 +68,7 @@ module _ (st : State) (t : T (state_ok st)) where
       let o = state_out st t in
       let last = st.head.reading in (
         rw (
-          lt-leb reading_limit last o.reading-lt,
+          lt-leb reading_limit last o.reading_lt,
           le-ltb last last (omega arith),
           slow-none st.head,
           fast-none st.head,
@@ -130,6 +130,6 @@ module _ (st : State) (t : T (state_ok st)) (g : Delivery) (w : g.readings ≡ W
         T_false (grows_past st g) below,
         le-ltb datum_terms (length (arrived st.head g).terms) (omega (arith, few-terms)),
         T_true (is_true (arrived st.head g).terms) h,
-        le-ltb data_most (length st.store.held) o.held-le,
-        le-ltb entries_most (length st.store.entries) o.entries-le,
+        le-ltb data_most (length st.store.held) o.held_le,
+        le-ltb entries_most (length st.store.entries) o.entries_le,
       )

@@ -74,7 +74,7 @@ module _ (k : Store) (n rows : ℕ) (table : Rows) (order lefts rights : List �
   -- a row behind the entries has a held datum
   row-datum : (i : ℕ) → n ≤ i → claim_at k i ≡ get_or k.held (i - n) (entry_claim [])
   row-datum i h =
-      let place : i ≡ length k.entries + (i - n) = omega (arith, loaded.entries-are) in ap (claim_at k) place ∙ claim_datum k (i - n)
+      let place : i ≡ length k.entries + (i - n) = omega (arith, loaded.entries_are) in ap (claim_at k) place ∙ claim_datum k (i - n)
 
   tried_seen : Tried n rows lefts rights table order limit (others own) u → Allowed limit own u × Seen u k
   tried_seen (inl f) = (fits_allowed limit own u _ f, inl (order-everything k n rows table order loaded complete u f.holding))

@@ -329,7 +329,7 @@ module _ {s l r n : ℕ} (at : ℕ) (ws : List ℕ) (p : 0 < at) (e : read_from 
       let place : 1 + length (slice 1 at ws) ≡ at = omega (arith, length-slice 1 at ws (omega (arith, start_bounds at (is_ends at ws)))) in
       subst (λ (k : ℕ). Taken k true (again at s l r ws) s l r n) place
       (subst (λ (k : ℕ). Taken (1 + length (slice 1 at ws)) true (again at s l r ws) s l r k) (length-terms t)
-      (taken-message s (slice 1 at ws) l r ts t.sender-le t.left_le t.right_lt (omega (arith, length-terms t)) t.normal (masks_lt _)))
+      (taken-message s (slice 1 at ws) l r ts t.sender_le t.left_le t.right_lt (omega (arith, length-terms t)) t.normal (masks_lt _)))
 
   -- an accepted message in ends form is rewritten as the same words
   pub again_ends : T (is_ends at ws) → again at s l r ws ≡ ws
@@ -389,4 +389,4 @@ words-rewritten ws = by (read_plain ws) refl
     by (Message s l r n) e =
         let t = read_out ws e in
         rw (e, terms-middle t)
-        (words-message s l r _ t.sender-le t.left_le t.right_lt (omega (arith, length-terms t)) (masks_lt _))
+        (words-message s l r _ t.sender_le t.left_le t.right_lt (omega (arith, length-terms t)) (masks_lt _))

@@ -196,7 +196,7 @@ module _ {ends : Bool} {ws : List ℕ} {s l r n : ℕ} where
       let known = start_bounds at ends in
       shape_in
       (record {
-        head = true_T _ (head_in _ s n t.head t.sender-le t.count-le);
+        head = true_T _ (head_in _ s n t.head t.sender_le t.count_le);
         form = true_T _ (opens_in at ends ws t.form t.kinds (omega arith));
         size = rw t.form (omega arith);
         kinds = rw t.form t.kinds;

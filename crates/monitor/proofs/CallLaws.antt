@@ -113,12 +113,12 @@ module _ (s : List ℕ) (position : ℕ) (f : Held s position) where
   given = names_of (epochs_in epochs_at s) (wanted (num own_at 4 s) (datum_at s position).terms)
 
   pub given_fit : T (names_fit (wanted (num own_at 4 s) (datum_at s position).terms) given)
-  given_fit = names_known (num own_at 4 s) (datum_at s position).terms (epochs_in epochs_at s) f.own-le f.small f.epochs
+  given_fit = names_known (num own_at 4 s) (datum_at s position).terms (epochs_in epochs_at s) f.own_le f.small f.epochs
 
   pub given-few : length given ≤ epochs_most
   given-few =
       fit_few (wanted (num own_at 4 s) (datum_at s position).terms) given given_fit
-      (wanted_lt (num own_at 4 s) (datum_at s position).terms f.own-le f.small)
+      (wanted_lt (num own_at 4 s) (datum_at s position).terms f.own_le f.small)
 
   -- those that are looked up are these
   pub given-told : (mask own : ℕ) (terms names : List ℕ) → own ≡ num own_at 4 s → terms ≡ (datum_at s position).terms → mask ≡ wanted own (masks terms)
@@ -166,7 +166,7 @@ module _ (s : List ℕ) (position : ℕ) (f : Held s position) where
 
   words_small : Words (written_words s position)
   unfolding written_words
-  words_small = words-message _ given _ _ _ given_fit f.own-le f.ends f.below f.few f.norm f.small
+  words_small = words-message _ given _ _ _ given_fit f.own_le f.ends f.below f.few f.norm f.small
 
   pub words_back : words_of (written_bytes s position) ≡ written_words s position
   unfolding written_bytes
@@ -181,13 +181,13 @@ module _ (s : List ℕ) (t : T (in_form s)) (position : ℕ) (h : position < hel
   write-reads =
       let f = held_out s t position h in
       rw (eq-eqb (length (written_bytes s position) % 4) 0 (omega (arith, length-written_bytes s position)), words_back s position f)
-      (read-write _ _ _ _ _ (given_fit s position f) f.own-le f.ends f.below f.few f.norm f.small)
+      (read-write _ _ _ _ _ (given_fit s position f) f.own_le f.ends f.below f.few f.norm f.small)
 
   pub write-terms : masks (term_words (read_bytes (written_bytes s position)) (words_of (written_bytes s position))) ≡ (datum_at s position).terms
   unfolding written_words
   write-terms =
       let f = held_out s t position h in
-      rw (write-reads, words_back s position f) (terms-write _ _ _ _ _ (given_fit s position f) f.own-le f.ends f.below f.few f.norm f.small)
+      rw (write-reads, words_back s position f) (terms-write _ _ _ _ _ (given_fit s position f) f.own_le f.ends f.below f.few f.norm f.small)
 
   -- with the epochs known
   pub write-epochs : epoch_words (read_bytes (written_bytes s position)) (words_of (written_bytes s position))
@@ -196,7 +196,7 @@ module _ (s : List ℕ) (t : T (in_form s)) (position : ℕ) (h : position < hel
   write-epochs =
       let f = held_out s t position h in
       rw (write-reads, words_back s position f)
-      (epochs-write _ _ _ _ _ (given_fit s position f) f.own-le f.ends f.below f.few f.norm f.small)
+      (epochs-write _ _ _ _ _ (given_fit s position f) f.own_le f.ends f.below f.few f.norm f.small)
 
   -- so reading it is taken, in an output of at least 32 bytes
   pub write-accepted : (out : List ℕ) → 32 ≤ length out → read_number (written_bytes s position) out ≡ 0

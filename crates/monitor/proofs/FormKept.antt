@@ -90,7 +90,7 @@ heard_in {sender} {left} {right} {n} least greatest readings m d f e =
     let t = read_out ws read in
     record {
       delays = d;
-      sender_le = t.taken.sender-le;
+      sender_le = t.taken.sender_le;
       ends = t.taken.left_le;
       small = masks-small (term_words (Message sender left right n) ws);
       names = heard-names t;

@@ -100,7 +100,7 @@ module _ {s l r n : ℕ} (m : List ℕ) (e : read_bytes m ≡ Message s l r n) w
   size = length (epoch_words (Message s l r n) (words_in m)) + n + 6
 
   pub rewritten-few : size ≤ words_most
-  rewritten-few = let t = read_out (words_in m) again in omega (arith, epochs-few t, t.taken.count-le)
+  rewritten-few = let t = read_out (words_in m) again in omega (arith, epochs-few t, t.taken.count_le)
 
   pub length-rewritten_bytes : length (rewritten_bytes m) ≡ size * 4
   unfolding rewritten_bytes
@@ -132,7 +132,7 @@ pub taken_says : {s l r n : ℕ} (m : List ℕ) → read_bytes m ≡ Message s l
 taken_says m e =
     let t = read_out (words_in m) (read_words_in m ∙ e) in
     let here = t.taken in
-    (here.sender-le, here.left_le, here.right_lt, omega (arith, ap length (terms-middle t), length-middle t, here.count-le), heard-names t)
+    (here.sender_le, here.left_le, here.right_lt, omega (arith, ap length (terms-middle t), length-middle t, here.count_le), heard-names t)
 
 -- ---- delays that pass the test for 21
 

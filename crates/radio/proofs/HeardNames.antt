@@ -38,7 +38,7 @@ heard-names {ends} {ws} {s} {l} {r} {n} live =
     record {
       small = λ i h. ltb→lt (get_or names i 0) name_limit (all_get_d (λ w. ltb w name_limit) names i 0 (epochs-below live) h);
       few = λ i h.
-          fit_identifier (wanted s terms) names fit (wanted_lt s terms live.taken.sender-le (masks_lt (term_words (Message s l r n) ws)))
+          fit_identifier (wanted s terms) names fit (wanted_lt s terms live.taken.sender_le (masks_lt (term_words (Message s l r n) ws)))
           (get_or names i 0) (at_in names 0 i h);
       rising = rises_at names (epochs_rise live);
     }

@@ -99,7 +99,7 @@ module _ {s l r n : ℕ} (ws : List ℕ) (e : read_words ws ≡ Message s l r n)
   count = length-terms live.taken
 
   few : length terms ≤ terms_most
-  few = omega (arith, count, live.taken.count-le)
+  few = omega (arith, count, live.taken.count_le)
 
   live-rewritten : Live true (rewritten ws) s l r n
   unfolding epoch_part
@@ -107,7 +107,7 @@ module _ {s l r n : ℕ} (ws : List ℕ) (e : read_words ws ≡ Message s l r n)
       let t = live.taken in
       rw rewritten_as_lem
       (subst (λ (k : ℕ). Live true (message_words s (epoch_part ws) l r terms) s l r k) count
-      (live-message s (epoch_part ws) l r terms live.fit t.sender-le t.left_le t.right_lt few t.normal (masks_lt _)))
+      (live-message s (epoch_part ws) l r terms live.fit t.sender_le t.left_le t.right_lt few t.normal (masks_lt _)))
 
   -- an accepted message in ends form is rewritten as the same words
   pub rewrite-ends : T (is_ends (opening ws) ws) → rewritten ws ≡ ws
@@ -129,7 +129,7 @@ module _ {s l r n : ℕ} (ws : List ℕ) (e : read_words ws ≡ Message s l r n)
   rewrite-terms =
       let t = live.taken in
       rw (rewrite-reads, e, rewritten_as_lem)
-      (terms-write s (epoch_part ws) l r terms live.fit t.sender-le t.left_le t.right_lt few t.normal (masks_lt _)
+      (terms-write s (epoch_part ws) l r terms live.fit t.sender_le t.left_le t.right_lt few t.normal (masks_lt _)
       ∙ sym (ap (λ (x : List ℕ). masks x) (terms-middle live)))
 
   pub rewrite-epochs : epoch_words (read_words (rewritten ws)) (rewritten ws) ≡ epoch_words (read_words ws) ws
@@ -137,7 +137,7 @@ module _ {s l r n : ℕ} (ws : List ℕ) (e : read_words ws ≡ Message s l r n)
   rewrite-epochs =
       let t = live.taken in
       rw (rewrite-reads, e, rewritten_as_lem)
-      (epochs-write s (epoch_part ws) l r terms live.fit t.sender-le t.left_le t.right_lt few t.normal (masks_lt _)
+      (epochs-write s (epoch_part ws) l r terms live.fit t.sender_le t.left_le t.right_lt few t.normal (masks_lt _)
       ∙ sym (epochs_part live))
 
 -- what is rewritten, or the nothing of a refused message, is words below 2 ^ 32
@@ -153,4 +153,4 @@ words-rewritten ws = by (read_words ws) refl
         let ts = masks (middle (opening ws) (is_ends (opening ws) ws) ws) in
         let few : length ts ≤ terms_most = omega (arith, length-terms t) in
         rw (e, epochs_part live, terms-middle live)
-        (words-message s (epoch_part ws) l r ts live.fit t.sender-le t.left_le t.right_lt few t.normal (masks_lt _))
+        (words-message s (epoch_part ws) l r ts live.fit t.sender_le t.left_le t.right_lt few t.normal (masks_lt _))

@@ -114,7 +114,7 @@ module _ {ends : Bool} {ws : List ℕ} {s l r n : ℕ} (t : Live ends ws s l r n
   part_few =
       let here = t.taken in
       let ts = terms ends ws in
-      fit_few (wanted s ts) (epoch_part ws) t.fit (wanted_lt s ts here.sender-le (masks_lt (middle (opening ws) ends ws)))
+      fit_few (wanted s ts) (epoch_part ws) t.fit (wanted_lt s ts here.sender_le (masks_lt (middle (opening ws) ends ws)))
 
   -- the sender has its epoch word
   part_some : 0 < length (epoch_part ws)

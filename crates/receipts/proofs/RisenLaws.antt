@@ -42,8 +42,8 @@ module _ (s : List ℕ) (t : T (in_form s)) (h : state_size ≤ length s) (r : �
       let o = state_out (state_of s) ok in
       let k = (state_of s).store in
       let store = withdrawn_ok (state_of s).head.own r k (search (both_l, both_r) depth 9) in
-      let few = le→leb (length (withdrawn r k).held) 16 (omega (arith, withdrawn-held_le r k, o.held-le)) in
-      let less = le→leb (length (withdrawn r k).entries) 32 (omega (arith, withdrawn_entries_le r k, o.entries-le)) in
+      let few = le→leb (length (withdrawn r k).held) 16 (omega (arith, withdrawn-held_le r k, o.held_le)) in
+      let less = le→leb (length (withdrawn r k).entries) 32 (omega (arith, withdrawn_entries_le r k, o.entries_le)) in
       search (both, both_l) depth 9
 
   module _ (u : List ℕ) (e : u ≡ put 0 (state_bytes (withdrawn_state r (state_of s))) s) where

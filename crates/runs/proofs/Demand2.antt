@@ -78,7 +78,7 @@ module _ (s : List ℕ) (position : ℕ) (out : List ℕ) (e : write_number s po
       let f = held_out s form position there in
       let reads = write-reads s form position there in
       let d = datum_at s position in
-      let small = small-numbers (num own_at 4 s) (down d.left) (up d.right) (length d.terms) (omega (arith, f.own-le)) (omega (arith, f.ends, f.below)) (omega (arith, f.below)) (omega (arith, f.few)) in
+      let small = small-numbers (num own_at 4 s) (down d.left) (up d.right) (length d.terms) (omega (arith, f.own_le)) (omega (arith, f.ends, f.below)) (omega (arith, f.below)) (omega (arith, f.few)) in
       record {
         accepted = taken-reading (written_bytes s position) reads small;
         numbers = reading_shown (written_bytes s position) reads small;

@@ -81,7 +81,7 @@ module _ (n rows : ℕ) (lefts rights : List ℕ) (table : Rows) (order : List �
         }
       where
         here : n < rows
-        here = go some ready.entries-le
+        here = go some ready.entries_le
           where
             go : (n ≡ rows → ⊥) → n ≤ rows → n < rows
             go f l = omega arith

@@ -31,8 +31,8 @@ columns_less n m c t h =
       table = table_less datum_terms n m c.counts c.masks t.table h;
       lefts-long = omega (arith, t.lefts-long);
       rights-long = omega (arith, t.rights-long);
-      lefts_split = t.lefts-split;
-      rights_split = t.rights-split;
+      lefts_split = t.lefts_split;
+      rights_split = t.rights_split;
     }
 
 pub data_left : (n : ℕ) (lefts rights a b masks : List ℕ) → Left n a b → DataLeft n (columns lefts rights a masks) (columns lefts rights b masks)
@@ -62,8 +62,8 @@ module _ (h : ℕ) (lefts rights counts masks p : List ℕ) (e : Ends) (t : Colu
         table = table_appended datum_terms h counts masks p t.table few;
         lefts-long = omega (arith, t.lefts-long, length_with lefts h e.left);
         rights-long = omega (arith, t.rights-long, length_with rights h e.right);
-        lefts_split = split_with lefts h e.left (omega (arith, t.lefts-long)) split.0 t.lefts-split;
-        rights_split = split_with rights h e.right (omega (arith, t.rights-long)) split.1 t.rights-split;
+        lefts_split = split_with lefts h e.left (omega (arith, t.lefts-long)) split.0 t.lefts_split;
+        rights_split = split_with rights h e.right (omega (arith, t.rights-long)) split.1 t.rights_split;
       }
 
   rows-kept : (i : ℕ) → i < h → datum_in added i ≡ datum_in (columns lefts rights counts masks) i

@@ -80,7 +80,7 @@ nothing_in : (at : ℕ) (s : List ℕ) → At at (saved_bytes nothing) s → (sa
 unfolding saved_at place_fits blank_at
 nothing_in at s k =
     let r = place_read at 0 none none none s (omega arith) tt tt tt (rw nothing-bytes at k) in
-    (rw r.flag_is, rw (r.flag_is, r.previous-is, r.ahead-is, r.behind-is) tt)
+    (rw r.flag_is, rw (r.flag_is, r.previous_is, r.ahead_is, r.behind_is) tt)
 
 three_in : (at : ℕ) (p a b : Triple) (s : List ℕ) → T (saved_ok (three p a b)) → At at (saved_bytes (three p a b)) s
     → (saved_at at s ≡ three p a b) × T (place_fits at s)
@@ -88,7 +88,7 @@ unfolding saved_ok saved_bytes three_at saved_at place_fits
 three_in at p a b s h k =
     let low = both_r (small p) (small a && small b) h in
     let r = place_read at 1 p a b s (omega arith) (both_l (small p) _ h) (both_l (small a) (small b) low) (both_r (small a) (small b) low) k in
-    (rw (r.flag_is, r.previous-is, r.ahead-is, r.behind-is), rw (r.flag_is, r.previous-is, r.ahead-is, r.behind-is) h)
+    (rw (r.flag_is, r.previous_is, r.ahead_is, r.behind_is), rw (r.flag_is, r.previous_is, r.ahead_is, r.behind_is) h)
 
 -- what stands at a place is read, and in form
 pub saved_in : (at : ℕ) (v : Saved) (s : List ℕ) → T (saved_ok v) → At at (saved_bytes v) s → (saved_at at s ≡ v) × T (place_fits at s)

@@ -93,9 +93,9 @@ module _ (st : State) (t : T (state_ok st)) where
           (
             length-bytes 4 _,
             (
-              length_filled datum_bytes datum_size data_most data_at (datum_ok _) (datum_size_lem _) st.store.held ok.held ok.held-le,
+              length_filled datum_bytes datum_size data_most data_at (datum_ok _) (datum_size_lem _) st.store.held ok.held ok.held_le,
               (
-                length_filled entry_bytes entry_size entries_most entries_at (terms_fit _ entry_terms) (entry_size_lem _) st.store.entries ok.entries ok.entries-le,
+                length_filled entry_bytes entry_size entries_most entries_at (terms_fit _ entry_terms) (entry_size_lem _) st.store.entries ok.entries ok.entries_le,
                 (clocks_sized, (ok.epochs-all, tt)),
               ),
             ),
@@ -132,14 +132,14 @@ module _ (st : State) (t : T (state_ok st)) where
         × T (all_below (length st.store.held) (datum_fits st.head.own s) && is_zero (datum_place (length st.store.held)) (datum_place data_most) s)
     unfolding parts data_bytes
     data_in_lem =
-        places_in datum_bytes datum_size data_most data_at (datum_ok _) (datum_size_lem _) st.store.held ok.held ok.held-le
+        places_in datum_bytes datum_size data_most data_at (datum_ok _) (datum_size_lem _) st.store.held ok.held ok.held_le
         (datum_at s) (datum_fits _ s) s (datum_in_lem _ s) (record { left = 0; right = 0; terms = [] }) (stands 5 (omega arith))
 
     entries_in_lem : (tab (length st.store.entries) (entry_at s) ≡ st.store.entries)
         × T (all_below (length st.store.entries) (entry_fits st.head.own s) && is_zero (entry_place (length st.store.entries)) (entry_place entries_most) s)
     unfolding parts entries_bytes
     entries_in_lem =
-        places_in entry_bytes entry_size entries_most entries_at (terms_fit _ entry_terms) (entry_size_lem _) st.store.entries ok.entries ok.entries-le
+        places_in entry_bytes entry_size entries_most entries_at (terms_fit _ entry_terms) (entry_size_lem _) st.store.entries ok.entries ok.entries_le
         (entry_at s) (entry_fits _ s) s (entry_in _ s) [] (stands 6 (omega arith))
 
     clocks_at_lem : (tab clocks_most (λ i. saved_at (clock_place i) s) ≡ st.head.clocks) × T (all_below clocks_most (λ i. place_fits (clock_place i) s))
@@ -349,4 +349,4 @@ epochs_fit_lem s t n = all_places (epochs_in epochs_at s) (search (both_l, both_
 -- the own name of a state in form
 pub own-fits : (s : List ℕ) → T (in_form s) → num own_at 4 s ≤ name_most
 unfolding state_of head_of
-own-fits s t = (state_out (state_of s) (form_ok s t)).own-le
+own-fits s t = (state_out (state_of s) (form_ok s t)).own_le

@@ -363,8 +363,8 @@ module _ (n : ℕ) (s l₀ r₀ c₀ m₀ l r c m : List ℕ) (e : l ≡ joined 
         table = table-read 8 n (λ i. datum_place i + row_in) s c₀ (drop (n * 8) m₀) c m p q few k m₀ h long t.table;
         lefts-long = omega (arith, t.lefts-long, ends-long (λ i. (ends_at s i).left) n l₀ l e (omega (arith, t.lefts-long)));
         rights-long = omega (arith, t.rights-long, ends-long (λ i. (ends_at s i).right) n r₀ r f (omega (arith, t.rights-long)));
-        lefts_split = split_read (λ i. (ends_at s i).left) n l₀ l e (λ i j. (split i j).0) t.lefts-split;
-        rights_split = split_read (λ i. (ends_at s i).right) n r₀ r f (λ i j. (split i j).1) t.rights-split;
+        lefts_split = split_read (λ i. (ends_at s i).left) n l₀ l e (λ i j. (split i j).0) t.lefts_split;
+        rights_split = split_read (λ i. (ends_at s i).right) n r₀ r f (λ i j. (split i j).1) t.rights_split;
       }
 
 -- ---- entries whose terms stand in the bytes, and those behind them

@@ -56,7 +56,7 @@ unfolding state_of head_of
 others-requires c κs =
     let at_own = c.before.before.before.before.before.before.before.before.before.before.before.before.before.before.before.before.before.before in
     let a = at_own.before.before in
-    omega (arith, at_own.get32.ensures.0, (state_out _ (form_ok _ a.requires.1)).own-le)
+    omega (arith, at_own.get32.ensures.0, (state_out _ (form_ok _ a.requires.1)).own_le)
 
 loop-holds : tie.Need-loop-init invariant-loop decreases-loop
 unfolding keyed_state head_of

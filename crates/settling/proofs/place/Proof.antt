@@ -27,8 +27,8 @@ met-fits c =
       table = rw c.meet.ensures.1.1 (table-given_up 8 _ _ _ _ _ fits.table (omega arith));
       lefts-long = fits.lefts-long;
       rights-long = fits.rights-long;
-      lefts_split = fits.lefts-split;
-      rights_split = fits.rights-split;
+      lefts_split = fits.lefts_split;
+      rights_split = fits.rights_split;
     }
 
 bettered-requires : tie.Need-bettered-requires
@@ -56,8 +56,8 @@ room c =
       table = rw c.drop-bettered.ensures (table-given_up 8 _ _ _ _ _ more (omega arith));
       lefts-long = fits.lefts-long;
       rights-long = fits.rights-long;
-      lefts_split = fits.lefts-split;
-      rights_split = fits.rights-split;
+      lefts_split = fits.lefts_split;
+      rights_split = fits.rights_split;
     }
 
 -- what is left, and the new datum behind it, is what rule 14 stores

@@ -64,8 +64,8 @@ room c =
       table = rw c.drop-explained.ensures (table-given_up 8 _ _ _ _ _ fits.table (omega arith));
       lefts-long = fits.lefts-long;
       rights-long = fits.rights-long;
-      lefts_split = fits.lefts-split;
-      rights_split = fits.rights-split;
+      lefts_split = fits.lefts_split;
+      rights_split = fits.rights_split;
     }
 
 -- no row of data is another than it was

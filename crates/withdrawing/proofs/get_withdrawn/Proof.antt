@@ -58,8 +58,8 @@ loop-again c =
         table = table_more 8 _ (a.args.n + 1) _ _ made.0.1.table (omega (arith, fits.table.counted, kept.1.1.0)) (omega (arith, fits.table.long, kept.1.1.1.0));
         lefts-long = omega (arith, fits.lefts-long, kept.0);
         rights-long = omega (arith, fits.rights-long, kept.1.0);
-        lefts_split = made.0.1.lefts-split;
-        rights_split = made.0.1.rights-split;
+        lefts_split = made.0.1.lefts_split;
+        rights_split = made.0.1.rights_split;
       },
       withdrawn_next a.args.risen a.args.s.now head.i _ _ head.invariant.3 made.1,
       kept.0 ∙ head.invariant.4,

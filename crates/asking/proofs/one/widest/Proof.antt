@@ -24,7 +24,7 @@ returns c =
     let at-minus = at-if.before in
     let at_Names = at-minus.before in
     let a = at_Names.before.before.before.before in λ ds kept lacks.
-    let some = at_Names.all-names.ensures ∙ ap (all_names 0) kept.masks-are in
+    let some = at_Names.all-names.ensures ∙ ap (all_names 0) kept.masks_are in
     let many : 0 < length ds = omega (arith, a.requires.2, mask_count ds kept) in
     let less : Lacking ds at-shared.shared.result = λ v o. lacks v (o.0, subset_trans _ _ _ o.1 (rw at-shared.shared.ensures (shared-left _ _))) in
     ⊎_elim

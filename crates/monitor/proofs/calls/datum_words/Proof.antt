@@ -67,7 +67,7 @@ slice-aggregate-wanted : tie.Need-slice-aggregate-wanted
 slice-aggregate-wanted c = long c.before.before
 
 wanted-requires : tie.Need-wanted-requires
-wanted-requires c κs = let w = c.before.before in omega (arith, (held w).own-le, w.before.before.before.before.before.get32.ensures.0)
+wanted-requires c κs = let w = c.before.before in omega (arith, (held w).own_le, w.before.before.before.before.before.get32.ensures.0)
 
 known-names-requires : tie.Need-known-names-requires
 known-names-requires c κs = let a = c.before.before.before.before.before.before.before.before.before.before.before.before in (omega (arith, a.requires.0.0), omega arith)
@@ -93,7 +93,7 @@ write-requires c κs =
     let read = at_right.before.get.ensures in
     let ends = ends_lt _ _ f _ _ (left_down _ _ f _ read) (right-up _ _ f _ read _ at_right.round_up.ensures) in
     let a = at_right.before.before.before.before.before in
-    ((omega (arith, f.own-le, at_right.before.before.get32.ensures.0), ends.0, ends.1, omega (arith, long w, few w)), omega (arith, long w, few w, counted k, k.known-names.ensures.0.1, a.pre.1.2))
+    ((omega (arith, f.own_le, at_right.before.before.get32.ensures.0), ends.0, ends.1, omega (arith, long w, few w)), omega (arith, long w, few w, counted k, k.known-names.ensures.0.1, a.pre.1.2))
 
 add-result : tie.Need-overflow-add-result
 add-result c = let k = c.before.before.before.before.before.before.before in omega (arith, few (at_words k), k.known-names.ensures.0.1)

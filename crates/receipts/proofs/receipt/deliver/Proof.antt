@@ -159,7 +159,7 @@ unfolding state_of
 form-row-requires c κs =
     let e = from_other (at_grow (below c.before)) in
     let a = start e in
-    let own = (state_out (state_of (bytes_at a)) (form_ok (bytes_at a) a.pre.0.1)).own-le in
+    let own = (state_out (state_of (bytes_at a)) (form_ok (bytes_at a) a.pre.0.1)).own_le in
     (omega (arith, a.pre.1.1.2), omega (arith, own, own_there e), omega (arith, a.pre.1.0.2))
 
 returns : tie.Need-returns

@@ -33,7 +33,7 @@ loop-holds c = (refl, least-begin _ _ _ _ _ _ _ _)
 
 next-end-requires : tie.Need-next-end-requires invariant-loop decreases-loop
 next-end-requires c κs =
-    let ready = c.before.before.before.before.before.before.before.before.before.before.requires.0 in (ready.entries-le, ready.lefts-long)
+    let ready = c.before.before.before.before.before.before.before.before.before.before.requires.0 in (ready.entries_le, ready.lefts-long)
 
 same_length : tie.Need-same-length invariant-loop decreases-loop
 same_length c =
@@ -47,7 +47,7 @@ returns-2 c =
 
 stretch-end-requires : tie.Need-stretch-end-requires invariant-loop decreases-loop
 stretch-end-requires c κs =
-    let ready = c.before.before.before.before.before.before.before.before.before.before.before.before.requires.0 in (ready.entries-le, ready.lefts-long, ready.rights-long)
+    let ready = c.before.before.before.before.before.before.before.before.before.before.before.before.requires.0 in (ready.entries_le, ready.lefts-long, ready.rights-long)
 
 list-outside-requires : tie.Need-list-outside-requires invariant-loop decreases-loop
 list-outside-requires c κs =

@@ -24,11 +24,11 @@ decreases-loop lefts rights counts masks several singles order listed₀ n rows 
 latest-requires : tie.Need-latest-requires invariant-loop decreases-loop
 latest-requires c κs =
     let ready = c.before.before.before.before.before.before.before.before.requires.0 in
-    (ready.entries-le, ready.lefts-long, ready.parted)
+    (ready.entries_le, ready.lefts-long, ready.parted)
 
 next-end-requires : tie.Need-next-end-requires invariant-loop decreases-loop
 next-end-requires c κs =
-    let ready = c.before.before.before.before.before.before.before.before.before.requires.0 in (ready.entries-le, ready.lefts-long)
+    let ready = c.before.before.before.before.before.before.before.before.before.requires.0 in (ready.entries_le, ready.lefts-long)
 
 loop-holds : tie.Need-loop-init invariant-loop decreases-loop
 loop-holds c =
@@ -48,7 +48,7 @@ sub-last-end c =
 
 last-end-requires : tie.Need-last-end-requires invariant-loop decreases-loop
 last-end-requires c κs =
-    let ready = c.before.before.before.before.before.before.before.before.before.before.before.before.requires.0 in (ready.entries-le, ready.lefts-long)
+    let ready = c.before.before.before.before.before.before.before.before.before.before.before.before.requires.0 in (ready.entries_le, ready.lefts-long)
 
 list-outside-requires : tie.Need-list-outside-requires invariant-loop decreases-loop
 list-outside-requires c κs =
@@ -86,11 +86,11 @@ returns c =
 latest-requires-2 : tie.Need-latest-requires-2 invariant-loop decreases-loop
 latest-requires-2 c κs =
     let ready = c.before.before.before.before.before.before.before.before.before.before.before.before.before.before.before.before.before.before.before.before.requires.0 in
-    (ready.entries-le, ready.lefts-long, ready.parted)
+    (ready.entries_le, ready.lefts-long, ready.parted)
 
 next-end-requires-2 : tie.Need-next-end-requires-2 invariant-loop decreases-loop
 next-end-requires-2 c κs =
-    let ready = c.before.before.before.before.before.before.before.before.before.before.before.before.before.before.before.before.before.before.before.before.before.requires.0 in (ready.entries-le, ready.lefts-long)
+    let ready = c.before.before.before.before.before.before.before.before.before.before.before.before.before.before.before.before.before.before.before.before.before.requires.0 in (ready.entries_le, ready.lefts-long)
 
 loop-less : tie.Need-loop-smaller invariant-loop decreases-loop
 loop-less c =

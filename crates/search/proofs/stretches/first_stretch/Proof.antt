@@ -37,12 +37,12 @@ ends-holds : tie.Need-ends-init invariant-loop decreases-loop invariant-ends dec
 ends-holds c = (refl, λ k a b d. absurd (omega arith))
 
 next-end-requires : tie.Need-next-end-requires invariant-loop decreases-loop invariant-ends decreases-ends
-next-end-requires c κs = let a = c.before.before.before.before.before.before.before.before.before in (a.requires.0.entries-le, a.requires.0.lefts-long)
+next-end-requires c κs = let a = c.before.before.before.before.before.before.before.before.before in (a.requires.0.entries_le, a.requires.0.lefts-long)
 
 stretch-end-requires : tie.Need-stretch-end-requires invariant-loop decreases-loop invariant-ends decreases-ends
 stretch-end-requires c κs =
     let a = c.before.before.before.before.before.before.before.before.before.before.before in
-    (a.requires.0.entries-le, a.requires.0.lefts-long, a.requires.0.rights-long)
+    (a.requires.0.entries_le, a.requires.0.lefts-long, a.requires.0.rights-long)
 
 list-outside-requires : tie.Need-list-outside-requires invariant-loop decreases-loop invariant-ends decreases-ends
 list-outside-requires c κs =

@@ -52,7 +52,7 @@ both-requires : tie.Need-both-requires invariant-loop decreases-loop
 both-requires c κs =
     let head = c.before.before.before.before in
     let fit = head.before.before.before.before.before.before.requires.0 in
-    (omega (arith, fit.lefts-long), fit.lefts-split, omega (arith, fit.rights-long), fit.rights-split)
+    (omega (arith, fit.lefts-long), fit.lefts_split, omega (arith, fit.rights-long), fit.rights_split)
 
 part-put-datum-end : tie.Need-slice-bounds-put-datum-end invariant-loop decreases-loop
 part-put-datum-end c =

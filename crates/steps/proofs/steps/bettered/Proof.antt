@@ -29,7 +29,7 @@ row-betters-requires c κs =
     let a = c.before.before.before.before.before.before.before in
     let i = c.before.loop.i in (
       (omega (arith, a.requires.0.table.counted), table-room 8 _ _ _ a.requires.0.table i c.loop-test.true),
-      (omega (arith, a.requires.0.lefts-long), a.requires.0.lefts-split, omega (arith, a.requires.0.rights-long), a.requires.0.rights-split, a.requires.1),
+      (omega (arith, a.requires.0.lefts-long), a.requires.0.lefts_split, omega (arith, a.requires.0.rights-long), a.requires.0.rights_split, a.requires.1),
     )
 
 returns : tie.Need-returns invariant-loop decreases-loop

@@ -32,7 +32,7 @@ betters-row-requires c κs =
     let i = head.loop.i in
     let same : get_or head.loop.held i 0 ≡ get_or a.args.held.now i 0 = ap (λ l. get_or l i 0) head.loop.invariant.2 ∙ given_up_at _ _ i in (
       (omega (arith, a.requires.0.table.counted), omega (arith, same, table-room 8 _ _ _ a.requires.0.table i c.before.loop-test.true)),
-      (omega (arith, a.requires.0.lefts-long), a.requires.0.lefts-split, omega (arith, a.requires.0.rights-long), a.requires.0.rights-split, a.requires.1),
+      (omega (arith, a.requires.0.lefts-long), a.requires.0.lefts_split, omega (arith, a.requires.0.rights-long), a.requires.0.rights_split, a.requires.1),
     )
 
 loop-again : tie.Need-loop-preserved invariant-loop decreases-loop

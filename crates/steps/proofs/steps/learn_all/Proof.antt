@@ -45,7 +45,7 @@ add-to c = omega (arith, room c.before)
 both-requires : tie.Need-both-requires invariant-loop decreases-loop
 both-requires c κs =
     let fit = c.before.before.before.before.before.before.before.before.before.before.before.before.requires.0 in
-    (omega (arith, fit.lefts-long), fit.lefts-split, omega (arith, fit.rights-long), fit.rights-split)
+    (omega (arith, fit.lefts-long), fit.lefts_split, omega (arith, fit.rights-long), fit.rights_split)
 
 part-learn-from-start : tie.Need-slice-bounds-learn-from-start invariant-loop decreases-loop
 part-learn-from-start c = omega (arith, room c.before.before)
