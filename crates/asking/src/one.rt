@@ -13,7 +13,7 @@ ghost use Rattle.asking.specs.code.One.{common_names, all_names, InArrays, Lacki
 use super::Answer;
 
 // From one key to another, in order or not.
-#[derive(Drop)]
+#[derive(Clone, Copy)]
 pub struct Overlap {
     pub left: u64,
     pub right: u64,

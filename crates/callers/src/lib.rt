@@ -1,5 +1,7 @@
 // Each exported call as C calls it: any bytes and numbers, so no function here has a `requires`, and each gets what demand 1 speaks of. Where an
 // exported call asks something of its caller, or promises less than demand 1 says, its function here is not proved. No program uses this crate.
+#![tactic(auto)]
+
 ghost use Rattle.clocks.specs.declared.Triple.{Triple};
 ghost use Rattle.engine.specs.Calls.{setup};
 ghost use Rattle.runs.specs.Demand1.{monitor_set_up, monitor_age, monitor_receive, monitor_receive_with_readings};

@@ -25,14 +25,14 @@ pub const LAST: u64 = state::LAST_WHOLE * RANK_STEP;
 const COUNT_LIMIT: u64 = 17_592_186_044_416;
 
 // How keys are made and read: whether they are counts, and the whole microsecond that these start from; 0 for ranks.
-#[derive(Drop)]
+#[derive(Clone, Copy)]
 pub struct Scale {
     pub counted: bool,
     pub base: u64,
 }
 
 // From the least whole microsecond of the held data's left ends to the greatest of their right ends.
-#[derive(Drop)]
+#[derive(Clone, Copy)]
 struct Reach {
     first: u64,
     last: u64,
@@ -84,7 +84,7 @@ fn rank(parts: &[u32; PARTS_MOST], x: u32) -> u32
 }
 
 // The keys of a claim's ends.
-#[derive(Drop)]
+#[derive(Clone, Copy)]
 struct Keys {
     left: u64,
     right: u64,

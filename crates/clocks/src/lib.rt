@@ -1,5 +1,7 @@
 // The sender's clock (document 02, W-201; document 002, 3.3.2): what a monitor saves of a sender's clock readings, and the test that finds a clock
 // that has jumped. Every function here is proved, and the crate assumes nothing of its own.
+#![tactic(auto)]
+
 ghost use Rattle.std.specs.Prelude.{◌≡◌, ◌+◌, ◌*◌, ◌≤◌, ◌<◌};
 ghost use Rattle.clocks.specs.Clocks.{apart, strays, fails};
 ghost use Rattle.clocks.specs.Clocks.{ahead as the_ahead, behind as the_behind, three, violates};
@@ -9,7 +11,7 @@ ghost use Rattle.clocks.specs.code.Drifts.{drifts_most};
 pub mod place;
 
 // A sender's clock reading, the own reading beside it, and the half width.
-#[derive(Drop)]
+#[derive(Clone, Copy)]
 pub struct Triple {
     pub there: u64,
     pub here: u64,
@@ -17,7 +19,7 @@ pub struct Triple {
 }
 
 // What the host gives with a receipt: no readings, or a triple and the sender's drift.
-#[derive(Drop)]
+#[derive(Clone, Copy)]
 pub enum Readings {
     Without,
     With(Triple, u32),

@@ -1,5 +1,7 @@
 // Ends with their millionths (document 02, W-205): an end is two numbers, since its count of millionths passes 64 bits. The whole microseconds are
 // compared first. Every function here is proved, and the crate assumes nothing of its own.
+#![tactic(auto)]
+
 ghost use Rattle.std.specs.Prelude.{◌≡◌, ◌+◌, ◌<◌, ◌^◌, min, max, ltb};
 ghost use Rattle.ends.specs.Ends.{count_of, Split, up};
 
@@ -9,14 +11,14 @@ pub mod column;
 pub const MILLION: u64 = 1_000_000;
 
 // An end, in whole microseconds and millionths of one.
-#[derive(Drop)]
+#[derive(Clone, Copy)]
 pub struct End {
     pub whole: u64,
     pub millionths: u64,
 }
 
 // The two ends of an interval.
-#[derive(Drop)]
+#[derive(Clone, Copy)]
 pub struct Ends {
     pub left: End,
     pub right: End,

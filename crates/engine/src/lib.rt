@@ -1,5 +1,7 @@
 // What a call makes of a state (document 01): the definitions of setting up, ageing and receiving, and the first two on the bytes of a state in form.
 // Every function here is proved, and the crate assumes nothing of its own.
+#![tactic(auto)]
+
 pub mod ageing;
 pub mod set_up;
 

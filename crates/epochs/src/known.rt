@@ -6,7 +6,7 @@ ghost use Rattle.epochs.specs.Epochs.{epoch_most, epochs_most, epochs_in, older,
 ghost use Rattle.epochs.specs.code.Known.{bit_where, Named};
 
 // The identifiers whose old names a message withdraws, and those that it names under an older epoch, as masks.
-#[derive(Drop)]
+#[derive(Clone, Copy)]
 pub struct Heard {
     pub risen: u32,
     pub late: u32,

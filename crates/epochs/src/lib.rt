@@ -1,6 +1,8 @@
 // Epochs (document 02, W-204): a mended monitor has a new name. Names that count as failed in a predicate, and the epochs known of each identifier,
 // in 29 bytes of a lent buffer: their form, what a message's names make of them.
 // Every function here is proved, and the crate assumes nothing of its own.
+#![tactic(auto)]
+
 pub mod known;
 pub mod withdraw;
 

@@ -1,5 +1,7 @@
 // The fewest failures (document 01, "Fewest failures"): by rising counts, the least of the sets for which an instant counts.
 // Every function here is proved, and the crate assumes nothing of its own.
+#![tactic(auto)]
+
 ghost use Rattle.std.specs.Prelude.{◌≡◌, ◌≤◌, T, length};
 ghost use Rattle.state.specs.Layout.{state_of, state_size, entry_count};
 ghost use Rattle.state.specs.Form.{in_form};

@@ -6,7 +6,7 @@ ghost use Rattle.fields.specs.Fields.{fields, value, is_number, is_word, same_by
 ghost use Rattle.fields.specs.code.Scan.{later, space_at, numbers_in};
 
 // Whether a field is a number, and the number; 0 where it is none.
-#[derive(Drop)]
+#[derive(Clone, Copy)]
 struct Field {
     good: bool,
     value: u64,
@@ -73,7 +73,7 @@ fn number(field: &[u8]) -> Field
 }
 
 // Whether each field that was read is a number, and how many they are; 0 where one is none.
-#[derive(Drop)]
+#[derive(Clone, Copy)]
 pub struct Numbers {
     pub good: bool,
     pub count: usize,

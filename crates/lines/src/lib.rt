@@ -1,5 +1,7 @@
 // A line of the listing: read, carried out on the state bytes, and answered (document 01, "A listing, complete").
 // Every function here is proved, and the crate assumes nothing of its own.
+#![tactic(auto)]
+
 ghost use Rattle.std.specs.Prelude.{◌≡◌, ◌≤◌, length};
 ghost use Rattle.numbers.specs.Numbers.{put};
 ghost use Rattle.lines.specs.code.Sizes.{answer_most};
@@ -18,7 +20,7 @@ const VALUES_MOST: usize = LINE_MOST / 2 + 1;
 pub const ANSWER_MOST: usize = 64;
 
 // Whether a `set` was taken by now, and how many bytes were printed.
-#[derive(Drop)]
+#[derive(Clone, Copy)]
 pub struct Answered {
     pub begun: bool,
     pub size: usize,

@@ -8,7 +8,7 @@ use crate::system;
 use crate::system::Call;
 
 // How many bytes were read, handed on to be written, and written; and the last calls.
-#[derive(Drop)]
+#[derive(Clone, Copy)]
 pub struct Tally {
     read: u64,
     handed: u64,

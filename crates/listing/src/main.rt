@@ -4,6 +4,8 @@
 // contracts tie these counts to the definitions and to the last calls: a read that failed taken for the input's end, output that is lost and not told,
 // a piece that is dropped or taken twice, a text that is not sent or sent twice, a start with something kept, an end before the input's end and a last
 // line that is passed over each make a count wrong.
+#![tactic(auto)]
+
 ghost use Rattle.std.specs.Prelude.{◌≡◌, ◌||◌, List, ℕ, ◌+◌, ◌*◌, ◌≤◌, ◌<◌, T, leb, length, take};
 ghost use Rattle.numbers.specs.Numbers.{put};
 ghost use Rattle.lines.specs.code.Sizes.{answer_most};

@@ -5,7 +5,7 @@ ghost use Rattle.listing.specs.System.{moved_by, is_end, is_failure, tries_again
 ghost use Rattle.listing.specs.code.Calls.{no_call, call_after};
 
 // A call of the system: what it returned, the error number then, and how many calls for the same bytes have moved nothing by now.
-#[derive(Drop)]
+#[derive(Clone, Copy)]
 pub struct Call {
     got: isize,
     error: i32,
@@ -130,7 +130,7 @@ fn rest(text: &[u8], at: usize) -> &[u8]
 }
 
 // How many bytes of a text were written, and the last call.
-#[derive(Drop)]
+#[derive(Clone, Copy)]
 pub struct Sent {
     pub written: usize,
     pub last: Call,

@@ -1,5 +1,7 @@
 // The radio message (document 01): read from words or refused, its term words as a part of the caller's slice, written in ends form, rewritten.
 // Every function here is proved, and the crate assumes nothing of its own.
+#![tactic(auto)]
+
 pub mod read;
 pub mod write;
 
@@ -20,14 +22,14 @@ pub const PAYLOAD_SIZE: u32 = 536_870_912;
 pub const ENDS_LIMIT: u64 = 288_230_376_151_711_744;
 
 // An interval of instants, left at most right, both from 0 to 2^58 - 1; or none.
-#[derive(Drop)]
+#[derive(Clone, Copy)]
 pub enum Interval {
     Span(u64, u64),
     Bad,
 }
 
 // A message that is taken: sender, left, right and term count; or the number of its refusal.
-#[derive(Drop)]
+#[derive(Clone, Copy)]
 pub enum Reading {
     Message(u32, u64, u64, u32),
     Refused(u32),

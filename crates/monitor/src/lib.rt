@@ -1,5 +1,7 @@
 // The engine's calls for C: numbers and byte slices only. Each returns the number of the refusal, 0 for taken, and a refusal leaves every lent
 // byte as it was. Every function here is proved, and the crate assumes nothing of its own.
+#![tactic(auto)]
+
 ghost use Rattle.std.specs.Prelude.{◌≡◌, ◌++◌, ◌≤◌, length, drop};
 ghost use Rattle.numbers.specs.Numbers.{bytes, put};
 ghost use Rattle.radio.specs.Read.{words_most};

@@ -1,5 +1,7 @@
 // Sets of names as 29-bit masks (document 01, "Instants, names, predicates"): name n is the bit of value 2^n.
 // Every function here is proved, and the crate assumes nothing of its own.
+#![tactic(auto)]
+
 ghost use Rattle.std.specs.Prelude.{◌≡◌, ◌<◌, ◌≤◌, ◌^◌, leb};
 ghost use Rattle.std.specs.Int.Count.{ones};
 ghost use Rattle.names.specs.Sets.{subset, set_union, has, minus};

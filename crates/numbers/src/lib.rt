@@ -1,5 +1,7 @@
 // Little-endian numbers in byte slices (document 01, "State bytes"): the least byte comes first, and four bytes make a word.
 // Every function here is proved, and the crate assumes nothing of its own.
+#![tactic(auto)]
+
 ghost use Rattle.std.specs.Prelude.{◌≡◌, ◌++◌, ◌+◌, ◌*◌, ◌≤◌, ◌<◌, ◌^◌, min, max, length, take, drop};
 ghost use Rattle.numbers.specs.Numbers.{num, bytes, put, tab, bytes_of};
 

@@ -1,5 +1,7 @@
 // Predicates over failed names (document 01, "Instants, names, predicates"): a predicate is a slice of masks, its terms.
 // Every function here is proved, and the crate assumes nothing of its own.
+#![tactic(auto)]
+
 pub mod marks;
 pub mod normal;
 pub mod sums;

@@ -1,6 +1,8 @@
 // The live radio message (document 02, W-204): document 01's message with the epochs of its sender and of each identifier in its terms.
 // Read from words or refused, its term words and its epoch words as parts of the caller's slice, and rewritten in ends form.
 // Every function here is proved, and the crate assumes nothing of its own.
+#![tactic(auto)]
+
 pub mod read;
 pub mod write;
 

@@ -9,7 +9,7 @@ use super::{NAME_LIMIT, WORDS_LEAST, WORDS_MOST};
 use message::Reading;
 
 // What the epoch words tell: the place behind them, whether each is well formed and above those before it, and the identifiers that they name.
-#[derive(Drop)]
+#[derive(Clone, Copy)]
 struct Walked {
     at: usize,
     ok: bool,

@@ -1,5 +1,6 @@
 // The search for failed names (document 01, "Fewest failures"): over predicates in flat arrays, over the left ends of intervals, and for the least
 // set of all. It knows nothing of states. Every function here is proved, and the crate assumes nothing of its own.
+#![tactic(auto)]
 
 pub mod least;
 pub mod search;

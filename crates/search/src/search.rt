@@ -19,7 +19,7 @@ fn lesser(a: u32, b: u32) -> u32
 }
 
 // Where the terms of a predicate stand in the array.
-#[derive(Drop)]
+#[derive(Clone, Copy)]
 pub(crate) struct Part {
     pub at: usize,
     pub end: usize,

@@ -8,7 +8,7 @@ ghost use Rattle.search.specs.code.Search.{rows_most, Rows, rows_of, Parted};
 ghost use Rattle.search.specs.code.LeftEnds.{outside, Next, Last, IsEnd, Unbroken, FirstStretch, Latest, Ready, FirstEnd};
 
 // An end and the set that explains it; 2^29, the mask of no set, where there is none.
-#[derive(Drop)]
+#[derive(Clone, Copy)]
 pub struct Reached {
     pub end: u64,
     pub set: u32,
@@ -16,7 +16,7 @@ pub struct Reached {
 
 // A stretch of left ends with no right end between them: its first and its last end, and the set that explains the last; 2^29 where no stretch has
 // one.
-#[derive(Drop)]
+#[derive(Clone, Copy)]
 struct Stretch {
     pub from: u64,
     pub end: u64,

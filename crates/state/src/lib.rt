@@ -1,6 +1,8 @@
 // The bytes of a monitor's state (document 01, "State bytes"): the test for form, rows, data and entries written and read, and the knowledge as a
 // struct.
 // Every function here is proved, and the crate assumes nothing of its own.
+#![tactic(auto)]
+
 pub mod form;
 pub mod intervals;
 pub mod knowledge;

@@ -1,6 +1,8 @@
 // The listing over a stream (document 01, "A listing, complete"): the bytes of the input come in pieces, and each piece is answered as it comes.
 // What is kept between two pieces is a session, which only this crate can make and look into. Every function here is proved, and the crate assumes
 // nothing of its own.
+#![tactic(auto)]
+
 ghost use Rattle.std.specs.Prelude.{◌≡◌, List, ℕ, ◌+◌, ◌*◌, ◌≤◌, length, take};
 ghost use Rattle.numbers.specs.Numbers.{put};
 ghost use Rattle.lines.specs.code.Sizes.{answer_most};
@@ -32,7 +34,7 @@ pub fn begin() -> Session
 }
 
 // Whether a `set` was taken, how many bytes of the line have come, and how many bytes of output wait.
-#[derive(Drop)]
+#[derive(Clone, Copy)]
 struct Place {
     begun: bool,
     size: usize,

@@ -1,6 +1,8 @@
 // Withdrawing names in a state in form (document 02, W-204): they count as failed in all that it holds and knows. Each row is read once, put in
 // normal form where it has one of the names, and left out where it has become true; then all are written.
 // Every function here is proved, and the crate assumes nothing of its own.
+#![tactic(auto)]
+
 ghost use Rattle.std.specs.Prelude.{◌≡◌, [], ◌∷◌, ◌++◌, ℕ, ◌+◌, ◌≤◌, ◌<◌, T, length};
 ghost use Rattle.numbers.specs.Numbers.{num, put, tab};
 ghost use Rattle.state.specs.Layout.{state_size, own_at, data_most, entries_most, datum_terms, entry_terms, held_count, entry_count, datum_at, entry_at};
