@@ -13,8 +13,8 @@ abbrev pub state_size : ℕ
 state_size = 5393
 
 -- where the numbers of the head stand: "own name (4 bytes), drift (4), reading (8), held count (4), entry count (4)"
-abbrev pub field_own : ℕ
-field_own = 0
+abbrev pub own_at : ℕ
+own_at = 0
 
 abbrev pub drift_at : ℕ
 drift_at = 4
@@ -170,7 +170,7 @@ entry_count s = num known_at 4 s
 unfoldable pub head_of : List ℕ → Head
 head_of s =
     record {
-      own = num field_own 4 s;
+      own = num own_at 4 s;
       drift = num drift_at 4 s;
       reading = num reading_at 8 s;
       clocks = tab clocks_most (λ i. saved_at (clock_place i) s);
