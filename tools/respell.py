@@ -14,7 +14,7 @@ import re
 import sys
 
 WORD = re.compile(r"[A-Za-z0-9_'₀-₉·◌-]+")
-STRING = re.compile(r'b?"(?:[^"\\]|\\.)*"')
+STRING = re.compile(r'(?m)^[ ]*(?:--|//).*$|b?"(?:[^"\\\n]|\\.)*"')
 # a lemma's name in a definition: `pub NAME : ..` at the head of a line
 DECLARED = re.compile(r"^[ ]*(?:(?:abbrev|unfoldable|record|data|pub)\s+)*([^\s:(){}]+)(?:\s*(?:\{[^}]*\}|\([^)]*\)))*\s*:(?=\s)", re.M)
 # names of the library that are known as names beside a dash
@@ -164,6 +164,8 @@ def main():
         held = []
 
         def keep(m):
+            if not m.group(0).endswith('"') or re.match(r"[ ]*(--|//)", m.group(0)):
+                return m.group(0)
             held.append(m.group(0))
             return f"\x00{len(held) - 1}\x00"
 

@@ -135,98 +135,98 @@ ends_fail ws =
 -- the words of a message: "10 word count outside" 6 to 43; "11 second word neither kind 2 nor 4", which is the one behind the epoch words; 12 head not of kind 1, sender above 28, term count
 -- above 8 or bits 10–28 not zero; 13 word count not that of head and form; 14 a later word of the wrong kind; 15 check word; 16 left above right, or
 -- an end below 0 or above 2^58 − 1; 17 terms not in normal form"; "42 epoch words missing, unordered, too many or ill formed"
-abbrev pub wordTests : List ℕ → List ℕ → List Test
-wordTests m ws =
-    test (wordsFail m) 10
-    ∷ test (not (headWordFits (get_or ws 0 0))) 12
+abbrev pub word_tests : List ℕ → List ℕ → List Test
+word_tests m ws =
+    test (words_fail m) 10
+    ∷ test (not (head_word_fits (get_or ws 0 0))) 12
     ∷ test (not (opens (opening ws) ws)) 11
-    ∷ test (countFails ws) 13
-    ∷ test (not (kindsFit (opening ws) (isEnds (opening ws) ws) ws)) 14
-    ∷ test (not (epochWordsFit ws)) 42
-    ∷ test (not (checkFits ws)) 15
-    ∷ test (endsFail ws) 16
-    ∷ test (not (isNormal (masks (middle (opening ws) (isEnds (opening ws) ws) ws)))) 17
+    ∷ test (count_fails ws) 13
+    ∷ test (not (kinds_fit (opening ws) (is_ends (opening ws) ws) ws)) 14
+    ∷ test (not (epoch_words_fit ws)) 42
+    ∷ test (not (check_fits ws)) 15
+    ∷ test (ends_fail ws) 16
+    ∷ test (not (is_normal (masks (middle (opening ws) (is_ends (opening ws) ws) ws)))) 17
     ∷ []
 
 -- of a message m, "four bytes make a word"
-abbrev pub messageTests : List ℕ → List Test
-messageTests m = wordTests m (words_of m)
+abbrev pub message_tests : List ℕ → List Test
+message_tests m = word_tests m (words_of m)
 
 -- a test of what a message delivers; none fails of a message that could not be read, since an earlier test has failed
-unfoldable pub ofDelivered : (Delivery → Bool) → Delivered → Bool
-ofDelivered f (refused number) = false
-ofDelivered f (brings d) = f d
+unfoldable pub of_delivered : (Delivery → Bool) → Delivered → Bool
+of_delivered f (refused number) = false
+of_delivered f (brings d) = f d
 
 -- "18 sender is the own name", "30 an end would pass 2^58 − 1; 31 more than 8 terms in the new predicate's normal form, stored or not; 32 too many
 -- data or entries"
-abbrev pub deliveryTests : State → Delivered → List Test
-deliveryTests st d =
-    test (ofDelivered (fromSelf st) d) 18
-    ∷ test (ofDelivered (growsPast st) d) 30
-    ∷ test (ofDelivered (termsFail st) d) 31
-    ∷ test (ofDelivered (overfills st) d) 32
+abbrev pub delivery_tests : State → Delivered → List Test
+delivery_tests st d =
+    test (of_delivered (from_self st) d) 18
+    ∷ test (of_delivered (grows_past st) d) 30
+    ∷ test (of_delivered (terms_fail st) d) 31
+    ∷ test (of_delivered (overfills st) d) 32
     ∷ []
 
 -- of a receipt, from the message's words on
-abbrev pub receiptTests : List ℕ → Receipt → List Test
-receiptTests s g = messageTests g.message ++ deliveryTests (state_of s) (delivered g)
+abbrev pub receipt_tests : List ℕ → Receipt → List Test
+receipt_tests s g = message_tests g.message ++ delivery_tests (state_of s) (delivered g)
 
 -- ---- what a taken call may write
 
 -- how many bytes a message in ends form with so many epoch words and terms has: head, epoch words, four words of the ends, the terms and the check word
-abbrev pub endsFormSize : ℕ → ℕ → ℕ
-endsFormSize names terms = 4 * (6 + names + terms)
+abbrev pub ends_form_size : ℕ → ℕ → ℕ
+ends_form_size names terms = 4 * (6 + names + terms)
 
 -- the epoch words of a held datum's message: one for the own name and for each identifier in its terms
-abbrev pub namesWritten : List ℕ → ℕ → ℕ
-namesWritten s position = length (names_of (epochsIn epochsAt s) (wanted (num own_at 4 s) (datumAt s position).terms))
+abbrev pub names_written : List ℕ → ℕ → ℕ
+names_written s position = length (names_of (epochs_in epochs_at s) (wanted (num own_at 4 s) (datum_at s position).terms))
 
 -- the bytes at the front that the call's layout names: a state's 5,393; "asking writes 24 bytes", "fewest 16", "reading 32"; a message
-unfoldable pub layoutSize : Exported → ℕ
-layoutSize (monitorSetUp s u) = stateSize
-layoutSize (monitorAge s reading) = stateSize
-layoutSize (monitorReceive s least greatest m) = stateSize
-layoutSize (monitorReceiveWithReadings s least greatest t drift m) = stateSize
-layoutSize (monitorAsk s limit out) = 24
-layoutSize (monitorFewest s out) = 16
-layoutSize (monitorWrite s position out) = endsFormSize (namesWritten s position) (length (datumAt s position).terms)
-layoutSize (messageRead m out) = 32
-layoutSize (messageRewrite m out) = endsFormSize (epochCount (words_of m)) (termCount (get_or (words_of m) 0 0))
+unfoldable pub layout_size : Exported → ℕ
+layout_size (monitor_set_up s u) = state_size
+layout_size (monitor_age s reading) = state_size
+layout_size (monitor_receive s least greatest m) = state_size
+layout_size (monitor_receive_with_readings s least greatest t drift m) = state_size
+layout_size (monitor_ask s limit out) = 24
+layout_size (monitor_fewest s out) = 16
+layout_size (monitor_write s position out) = ends_form_size (names_written s position) (length (datum_at s position).terms)
+layout_size (message_read m out) = 32
+layout_size (message_rewrite m out) = ends_form_size (epoch_count (words_of m)) (term_count (get_or (words_of m) 0 0))
 
 -- ---- the tests of each call, in document 01's order
 
 -- an output comes last
-abbrev pub outputTests : ℕ → List ℕ → List Test
-outputTests n out = test (tooShort n out) 24 ∷ []
+abbrev pub output_tests : ℕ → List ℕ → List Test
+output_tests n out = test (too_short n out) 24 ∷ []
 
 unfoldable pub tests : Exported → List Test
-tests (monitorSetUp s u) =
-    test (tooShort stateSize s) 24
-    ∷ test (ownFails u.own) 1
-    ∷ test (epochFails u.epoch) 41
-    ∷ test (driftFails u.drift) 2
-    ∷ test (readingFails u.reading) 3
+tests (monitor_set_up s u) =
+    test (too_short state_size s) 24
+    ∷ test (own_fails u.own) 1
+    ∷ test (epoch_fails u.epoch) 41
+    ∷ test (drift_fails u.drift) 2
+    ∷ test (reading_fails u.reading) 3
     ∷ []
-tests (monitorAge s reading) =
-    stateTests s
-    ++ (test (readingFails reading) 3
-    ∷ test (goesBack (head_of s) reading) 20
-    ∷ test (agesPast (state_of s) reading) 30
+tests (monitor_age s reading) =
+    state_tests s
+    ++ (test (reading_fails reading) 3
+    ∷ test (goes_back (head_of s) reading) 20
+    ∷ test (ages_past (state_of s) reading) 30
     ∷ [])
-tests (monitorReceive s least greatest m) =
-    stateTests s ++ (test (delaysFail least greatest) 21 ∷ receiptTests s (receiptOf least greatest m))
-tests (monitorReceiveWithReadings s least greatest t drift m) =
-    stateTests s
-    ++ (test (delaysFail least greatest) 21
+tests (monitor_receive s least greatest m) =
+    state_tests s ++ (test (delays_fail least greatest) 21 ∷ receipt_tests s (receipt_of least greatest m))
+tests (monitor_receive_with_readings s least greatest t drift m) =
+    state_tests s
+    ++ (test (delays_fail least greatest) 21
     ∷ test (fails t drift) 40
-    ∷ receiptTests s (receiptWith least greatest (With t drift) m))
-tests (monitorAsk s limit out) = stateTests s ++ (test (limitFails limit) 22 ∷ outputTests (layoutSize (monitorAsk s limit out)) out)
-tests (monitorFewest s out) = stateTests s ++ outputTests (layoutSize (monitorFewest s out)) out
-tests (monitorWrite s position out) =
-    stateTests s
-    ++ (test (noDatumAt s position) 23 ∷ outputTests (layoutSize (monitorWrite s position out)) out)
-tests (messageRead m out) = messageTests m ++ outputTests (layoutSize (messageRead m out)) out
-tests (messageRewrite m out) = messageTests m ++ outputTests (layoutSize (messageRewrite m out)) out
+    ∷ receipt_tests s (receipt_with least greatest (With t drift) m))
+tests (monitor_ask s limit out) = state_tests s ++ (test (limit_fails limit) 22 ∷ output_tests (layout_size (monitor_ask s limit out)) out)
+tests (monitor_fewest s out) = state_tests s ++ output_tests (layout_size (monitor_fewest s out)) out
+tests (monitor_write s position out) =
+    state_tests s
+    ++ (test (no_datum_at s position) 23 ∷ output_tests (layout_size (monitor_write s position out)) out)
+tests (message_read m out) = message_tests m ++ output_tests (layout_size (message_read m out)) out
+tests (message_rewrite m out) = message_tests m ++ output_tests (layout_size (message_rewrite m out)) out
 
 -- ---- demand 1
 
@@ -234,13 +234,13 @@ pub record Refuses (c : Exported) : Type 0 where
   -- the tests are those of the list, in its order
   pub in_order : map (λ (t : Test). t.number) (tests c) ≡ listed c
   -- "bad input gets the refusal listed for it": the first that comes; 0 where none does
-  pub first : returned c ≡ firstFailing (tests c)
+  pub first : returned c ≡ first_failing (tests c)
   -- "with every lent buffer unchanged"
-  pub unchanged : (returned c ≡ 0 → ⊥) → leftBytes c ≡ lentBytes c
+  pub unchanged : (returned c ≡ 0 → ⊥) → left_bytes c ≡ lent_bytes c
   -- a taken call has room for its layout and writes nowhere else: "Bytes beyond the state or a written message are untouched."
-  pub room : returned c ≡ 0 → layoutSize c ≤ length (lentBytes c)
-  pub size : length (leftBytes c) ≡ length (lentBytes c)
-  pub beyond : drop (layoutSize c) (leftBytes c) ≡ drop (layoutSize c) (lentBytes c)
+  pub room : returned c ≡ 0 → layout_size c ≤ length (lent_bytes c)
+  pub size : length (left_bytes c) ≡ length (lent_bytes c)
+  pub beyond : drop (layout_size c) (left_bytes c) ≡ drop (layout_size c) (lent_bytes c)
 
 unfoldable pub Demand1 : Type 0
 Demand1 = (c : Exported) → Refuses c
@@ -250,30 +250,30 @@ Demand1 = (c : Exported) → Refuses c
 -- "An equal reading is fine and changes nothing."
 unfoldable pub EqualReading : Type 0
 EqualReading =
-    (s : List ℕ) → Bytes s → stateSize ≤ length s → T (inForm s)
-    → (ageNumber s (head_of s).reading ≡ 0) × (ageState s (head_of s).reading ≡ s)
+    (s : List ℕ) → Bytes s → state_size ≤ length s → T (in_form s)
+    → (age_number s (head_of s).reading ≡ 0) × (age_state s (head_of s).reading ≡ s)
 
 -- "If it is true, the receipt is taken and changes nothing", where it comes without readings and brings no epoch above the known one: every byte
 -- stays, and only 21, 18 and 30 can refuse it, since "30 comes also for a predicate that is true"
 unfoldable pub TrueReceipt : Type 0
 TrueReceipt =
-    (s : List ℕ) → Bytes s → stateSize ≤ length s → T (inForm s) → (g : Receipt) (d : Delivery) → g.readings ≡ Without → delivered g ≡ brings d
-    → NotAbove (spokenBy (head_of s) d) (head_of s).epochs → T (isTrue (arrived (head_of s) d).terms)
-    → (receiveState s g ≡ s)
-    × (T (not (delaysFail g.least g.greatest)) → T (not (fromSelf (state_of s) d)) → T (not (growsPast (state_of s) d)) → receiveNumber s g ≡ 0)
+    (s : List ℕ) → Bytes s → state_size ≤ length s → T (in_form s) → (g : Receipt) (d : Delivery) → g.readings ≡ Without → delivered g ≡ brings d
+    → NotAbove (spoken_by (head_of s) d) (head_of s).epochs → T (is_true (arrived (head_of s) d).terms)
+    → (receive_state s g ≡ s)
+    × (T (not (delays_fail g.least g.greatest)) → T (not (from_self (state_of s) d)) → T (not (grows_past (state_of s) d)) → receive_number s g ≡ 0)
 
 -- ---- what a taken call does not name of the state
 
 -- "Entries stay.": an ageing leaves their bytes, and all behind them
 unfoldable pub EntriesStay : Type 0
-EntriesStay = (s : List ℕ) → Bytes s → (reading : ℕ) → drop entries_at (ageState s reading) ≡ drop entries_at s
+EntriesStay = (s : List ℕ) → Bytes s → (reading : ℕ) → drop entries_at (age_state s reading) ≡ drop entries_at s
 
 -- a receipt without readings that brings no epoch above the known one leaves the names' clocks and the epochs
 unfoldable pub ClocksStay : Type 0
 ClocksStay =
     (s : List ℕ) → Bytes s → (g : Receipt) → g.readings ≡ Without
-    → ((d : Delivery) → delivered g ≡ brings d → NotAbove (spokenBy (head_of s) d) (head_of s).epochs)
-    → drop clocksAt (receiveState s g) ≡ drop clocksAt s
+    → ((d : Delivery) → delivered g ≡ brings d → NotAbove (spoken_by (head_of s) d) (head_of s).epochs)
+    → drop clocks_at (receive_state s g) ≡ drop clocks_at s
 
 -- a receipt leaves the own epoch: "a message never changes the own epoch"
 unfoldable pub OwnEpochStays : Type 0
