@@ -1,5 +1,5 @@
-//! Says where the archive is: in `MONITOR_LIB_DIR`, or where `rt staticlib monitor` writes it. For
-//! the benchmark alone it compiles the C by hand, hand/hand.c, with gcc.
+//! Says where the archive is: in `MONITOR_LIB_DIR`, or where `./archive` writes it. For the
+//! benchmark alone it compiles the C by hand, hand/hand.c, with gcc.
 
 use std::env;
 use std::path::{Path, PathBuf};
@@ -17,7 +17,7 @@ fn main() {
     println!("cargo:rerun-if-changed={}", archive.display());
     assert!(
         archive.is_file(),
-        "no archive at {}: `rt staticlib monitor` writes it",
+        "no archive at {}: `./archive` writes it",
         archive.display()
     );
     println!("cargo:rustc-link-search=native={}", dir.display());

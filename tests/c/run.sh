@@ -214,7 +214,7 @@ taken_by_listing() {
     local words
     words=$("$scratch/words" "${@:2}") || return 1
     printf 'set 5 100 0 0\nget 0 0 %s\nask 0\n' "$words" >"$scratch/lines"
-    prints <(printf 'ok\nok\n%s\n' "$1") target/bin/listing <"$scratch/lines"
+    prints <(printf 'ok\nok\n%s\n' "$1") crates/listing/out/listing <"$scratch/lines"
 }
 
 words() {
@@ -265,7 +265,7 @@ changelog_version() {
     [ -n "$version" ] && diff <(echo "$version") <(awk '/^## / { print $2; exit }' CHANGELOG.md)
 }
 
-[ -f "$archive" ] || { printf 'no archive at %s: rt staticlib monitor writes it\n0 passed, 1 failed\n' "$archive"; exit 1; }
+[ -f "$archive" ] || { printf 'no archive at %s: ./archive writes it\n0 passed, 1 failed\n' "$archive"; exit 1; }
 for tool in gcc:gcc g++:g++ clang:clang clang++:clang valgrind:valgrind nm:binutils; do
     need "${tool%:*}" "${tool#*:}" || { printf 'no %s, and it cannot be installed\n0 passed, 1 failed\n' "${tool%:*}"; exit 1; }
 done
