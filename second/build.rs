@@ -15,11 +15,7 @@ fn main() {
     };
     let archive = dir.join("libmonitor.a");
     println!("cargo:rerun-if-changed={}", archive.display());
-    assert!(
-        archive.is_file(),
-        "no archive at {}: `./archive` writes it",
-        archive.display()
-    );
+    assert!(archive.is_file(), "no archive at {}: `./archive` writes it", archive.display());
     println!("cargo:rustc-link-search=native={}", dir.display());
     println!("cargo:rustc-link-lib=static=monitor");
     let object = by_hand(&package);
