@@ -131,8 +131,8 @@ called_from_c() { called monitor tests/c/*.c tests/c/*.cc; }
 # the calls that the Rust program names outside of their declarations
 called_from_rust() { find second/src second/tests -name '*.rs' ! -path "$rust" -exec grep -ohE '\bmonitor_[a-z_]+' {} + | sort -u | grep -xFf <(linked); }
 
-# every call that a page or a header names
-spoken_of() { grep -ohE '\bmonitor_[a-z_]+' "${pages[@]}" include/*.h | sort -u | grep -vxFf <(helpers; types; echo monitor_); }
+# every call that a page or a header names; monitor_c is the crate of the archive
+spoken_of() { grep -ohE '\bmonitor_[a-z_]+' "${pages[@]}" include/*.h | sort -u | grep -vxFf <(helpers; types; echo monitor_; echo monitor_c); }
 
 # the file that docs/proofs.md gives for a call's contract has the call
 contracts_stand() {
