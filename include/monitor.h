@@ -18,7 +18,7 @@
  *  message is handed in as its 32-bit words, four bytes each; docs/layouts.md has all layouts.
  *
  *  monitor_text.h reads and puts the numbers and has a text for each refusal. Link with libmonitor.a (x86-64 alone; ELF, the calling convention of
- *  Linux), which the package has and `rt staticlib monitor` writes to target/staticlib. */
+ *  Linux), which the package has and `./archive` writes to target/staticlib. */
 #ifndef MONITOR_H
 #define MONITOR_H
 

@@ -1,5 +1,5 @@
-//! Says where the archive is: in `MONITOR_LIB_DIR`, or where `rt staticlib monitor` writes it. For
-//! the benchmark alone it compiles the C by hand, hand/hand.c, with gcc.
+//! Says where the archive is: in `MONITOR_LIB_DIR`, or where `./archive` writes it. For the
+//! benchmark alone it compiles the C by hand, hand/hand.c, with gcc.
 
 use std::env;
 use std::path::{Path, PathBuf};
@@ -15,11 +15,7 @@ fn main() {
     };
     let archive = dir.join("libmonitor.a");
     println!("cargo:rerun-if-changed={}", archive.display());
-    assert!(
-        archive.is_file(),
-        "no archive at {}: `rt staticlib monitor` writes it",
-        archive.display()
-    );
+    assert!(archive.is_file(), "no archive at {}: `./archive` writes it", archive.display());
     println!("cargo:rustc-link-search=native={}", dir.display());
     println!("cargo:rustc-link-lib=static=monitor");
     let object = by_hand(&package);

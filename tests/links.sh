@@ -160,7 +160,7 @@ names_defined() {
 
 # a line for each crate of crates.txt, in its order, and for no other
 each_crate() {
-    diff <(sed -nE 's/^([a-z_]+):.*/\1/p' crates.txt) <(rows 'The crates' | sed -nE 's/^\| \[([a-z_]+)\]\(\.\.\/crates\/.*/\1/p')
+    diff <(sed -nE 's/^([a-z_]+)( staticlib)?:.*/\1/p' crates.txt) <(rows 'The crates' | sed -nE 's/^\| \[([a-z_]+)\]\(\.\.\/crates\/.*/\1/p')
 }
 
 # from README by two links to a rule: the glossary, and the file that it names

@@ -1,6 +1,6 @@
 #!/usr/bin/env bash
 # The listing program in its surroundings: what `./listing` does with files, options, ends that fail and ends that are slow. Each line says what was
-# tested; the last line is 'N passed, M failed'. It needs the built program (`rt check listing`) and gcc.
+# tested; the last line is 'N passed, M failed'. It needs the built program (`rt run` in crates/listing) and gcc.
 set -uo pipefail
 cd "$(dirname "${BASH_SOURCE[0]}")/.." || exit 2
 scratch=$(mktemp -d)
@@ -34,6 +34,7 @@ run() {
 says() { grep -qF -- "$1" "$scratch/$2" || { printf 'it does not say: %s\n' "$1"; return 1; }; }
 
 scenario=examples/scenarios/cut_short
+program=crates/listing/out/listing
 stored() { run 0 4 0 "$@" && diff "$scenario.printed" "$scratch/out"; }
 
 # ---- how it is called
@@ -75,8 +76,8 @@ folder_as_input() { run 1 0 1 ./listing </ && says "$cannot_read" err; }
 closed_input() { run 1 0 1 bash -c './listing <&-' && says "$cannot_read" err; }
 write_only_input() { run 1 0 1 bash -c "./listing 0>$scratch/only" && says "$cannot_read" err; }
 both_closed() { run 1 0 1 bash -c './listing <&- >&-' && says "$cannot_read" err; }
-program_full() { run 0 0 1 bash -c "target/bin/listing <$scenario >/dev/full" && says "$cannot_write" err; }
-program_folder() { run 0 0 1 target/bin/listing </ && says "$cannot_read" err; }
+program_full() { run 0 0 1 bash -c "$program <$scenario >/dev/full" && says "$cannot_write" err; }
+program_folder() { run 0 0 1 $program </ && says "$cannot_read" err; }
 
 test_of 'a full output' full_output
 test_of 'a closed output' closed_output
@@ -107,7 +108,7 @@ reader_gone() {
 }
 slow_ends() {
     gcc -std=c11 -Wall -Wextra -Werror -O2 tests/slow_ends.c -o "$scratch/slow_ends" &&
-        run 0 "$lines" 0 "$scratch/slow_ends" target/bin/listing <"$scratch/long" && [ "$(sort -u "$scratch/out")" = 'bad line' ]
+        run 0 "$lines" 0 "$scratch/slow_ends" $program <"$scratch/long" && [ "$(sort -u "$scratch/out")" = 'bad line' ]
 }
 
 test_of "$lines lines, as many answers" long_input
@@ -118,7 +119,7 @@ test_of 'input and output slow, and neither blocks' slow_ends
 # ---- without the program: a folder of its own, and a prover that only pretends
 
 elsewhere=$scratch/elsewhere
-mkdir -p "$elsewhere/crates" "$elsewhere/bin" && cp listing "$elsewhere/listing" && cp crates.txt "$elsewhere/crates.txt"
+mkdir -p "$elsewhere/crates/listing" "$elsewhere/bin" && cp listing "$elsewhere/listing" && cp crates.txt "$elsewhere/crates.txt"
 plain=$(dirname "$(command -v bash)"):/usr/bin:/bin
 no_kit() { run 2 0 1 env PATH="$plain" "$elsewhere/listing" && says 'no rt on PATH' err; }
 
@@ -126,17 +127,17 @@ no_kit() { run 2 0 1 env PATH="$plain" "$elsewhere/listing" && says 'no rt on PA
 cat >"$elsewhere/bin/rt" <<'RT'
 #!/usr/bin/env bash
 echo $$ >"$PRETEND/pid"
-echo 'rt: names proved (1 s)'
+echo 'logic=proved functions=1'
 sleep "$PRETEND_SECONDS"
 if [ -n "$PRETEND_FAILS" ]; then echo 'rt: predicates not proved'; exit 1; fi
-mkdir -p target/bin && printf '#!/bin/sh\nexec cat\n' >target/bin/listing && chmod +x target/bin/listing
+mkdir -p out && printf '#!/bin/sh\nexec cat\n' >out/listing && chmod +x out/listing
 RT
 chmod +x "$elsewhere/bin/rt"
 # where the tests were started in the background, interruptions are ignored, and a shell cannot undo that for itself
 pretending=(env --default-signal=INT PATH="$elsewhere/bin:$plain" PRETEND="$elsewhere")
 not_proved() {
     run 2 0 2 "${pretending[@]}" PRETEND_SECONDS=0 PRETEND_FAILS=yes "$elsewhere/listing" &&
-        says 'predicates not proved' err && [ ! -e "$elsewhere/target" ]
+        says 'predicates not proved' err && [ ! -e "$elsewhere/crates/listing/out" ]
 }
 interrupted() {
     local pid prover try

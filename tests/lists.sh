@@ -3,7 +3,7 @@
 # each call. Each line says what was compared; what a place lacks, or has too much, is named. Nothing is proved, so it takes a second. The last line is
 # 'N passed, M failed'. (The bytes of docs/layouts.md are compared with a real state by second/tests/layouts.rs.)
 #
-#     bash tests/lists.sh           needs target/staticlib/libmonitor.a (rt staticlib monitor); it installs binutils by apt-get if nm is missing
+#     bash tests/lists.sh           needs target/staticlib/libmonitor.a (./archive); it installs binutils by apt-get if nm is missing
 set -uo pipefail
 cd "$(dirname "$0")/.." || exit 2
 export LC_ALL=C.UTF-8
@@ -12,7 +12,7 @@ export LC_ALL=C.UTF-8
 # ---- where the lists stand
 
 archive=target/staticlib/libmonitor.a
-sources=crates/monitor/src
+sources=crates/monitor_c/src
 header=include/monitor.h
 texts=include/monitor_text.h
 rust=second/src/engine.rs
@@ -21,39 +21,33 @@ hand=second/hand/hand.h
 compare=second/hand/compare.c
 stack=tests/c/stack.c
 demand1=crates/runs/specs/Demand1.antt
-specs=crates/monitor/specs
-lists1=$specs
 # the pages that say what the engine is; docs/DECISIONS.md, docs/speed.md and docs/landings also say what it was
 pages=()
 for page in README.md docs/{layouts,operating,architecture,stories,proofs}.md; do [ ! -f "$page" ] || pages+=("$page"); done
 
-# Demand 1's calls with the numbers of each in order, a line 'CALL NUMBER ..': in the definition of a call it is `listed = LIST;`. In a list numbers and
-# the names of lists (`SOMENumbers = LIST`) are strung together by ∷ and ++. A call is named as the export is, in camel case.
+# Demand 1's calls with the numbers of each in order, a line 'CALL NUMBER ..': in the definition of `listed` that of a call is `listed (CALL ..) =
+# NUMBER ∷ .. ∷ []`, on one line or on more
 demanded() {
     awk '
-        function numbers(list,    n, i, words, out) {
-            gsub(/∷|\+\+|\[\]|[()]/, " ", list)
-            n = split(list, words, " ")
-            for (i = 1; i <= n; i++) out = out (words[i] in lists ? numbers(lists[words[i]]) : " " words[i])
-            return out
-        }
         function ended() {
-            if (text ~ /^[a-zA-Z]+Numbers =/) { name = text; sub(/ .*/, "", name); sub(/^[^=]*=/, "", text); lists[name] = text; name = "" }
-            else if (text ~ / listed = [^;]*;/) { name = text; sub(/.* listed =/, "", text); sub(/;.*/, "", text) }
-            if (name != "") { sub(/[ )].*/, "", name); calls[++count] = name; list[count] = text }
-            text = name = ""
+            if (text ~ /^listed \(/) {
+                name = text; sub(/^listed \(/, "", name); sub(/[ )].*/, "", name)
+                sub(/^[^=]*=/, "", text); gsub(/[^0-9]+/, " ", text); sub(/ $/, "", text)
+                print name text
+            }
+            text = ""
         }
         { sub(/--.*/, "") }
         /^[^ ]/ { ended() }
-        { text = text " " $0; sub(/^ /, "", text) }
-        END { ended(); for (i = 1; i <= count; i++) print calls[i] numbers(list[i]) }' "$specs"/*.antt | snake
+        { sub(/^ +/, ""); text = text (text == "" ? "" : " ") $0 }
+        END { ended() }' "$demand1" | as_exported
 }
 
-# camel case at the front of a line as C has it
-snake() { awk '{ name = $1; $1 = ""; gsub(/[A-Z]/, "_&", name); name = tolower(name); print name $0 }'; }
+# the calls that the statement speaks of, the constructors of `Exported`
+stated() { sed -n '/^pub data Exported /,/^$/s/^  \([A-Za-z_]*\) :.*/\1/p' "$demand1" | as_exported; }
 
-# the calls that the statement speaks of
-stated() { sed -e 's/--.*//' -e '/^use /d' "$demand1" | grep -oE '\b[a-z]+[A-Z][A-Za-z]*' | sort -u | snake | sort -u | grep -xFf <(linked); }
+# demand 1's name of a call, at the front of a line, as the export has it: reading and rewriting a message are named without the crate
+as_exported() { sed -E 's/^(monitor_)?/monitor_/'; }
 
 # ---- how two places are compared
 
@@ -137,8 +131,8 @@ called_from_c() { called monitor tests/c/*.c tests/c/*.cc; }
 # the calls that the Rust program names outside of their declarations
 called_from_rust() { find second/src second/tests -name '*.rs' ! -path "$rust" -exec grep -ohE '\bmonitor_[a-z_]+' {} + | sort -u | grep -xFf <(linked); }
 
-# every call that a page or a header names
-spoken_of() { grep -ohE '\bmonitor_[a-z_]+' "${pages[@]}" include/*.h | sort -u | grep -vxFf <(helpers; types; echo monitor_); }
+# every call that a page or a header names; monitor_c is the crate of the archive
+spoken_of() { grep -ohE '\bmonitor_[a-z_]+' "${pages[@]}" include/*.h | sort -u | grep -vxFf <(helpers; types; echo monitor_; echo monitor_c); }
 
 # the file that docs/proofs.md gives for a call's contract has the call
 contracts_stand() {
@@ -155,7 +149,7 @@ contracts_stand() {
 
 # of Rattle: the functions marked as exported
 marked() {
-    joined '^#\[no_mangle\]' ' -> [a-z0-9]+' "$sources"/*.rt | sed -E -e 's/^#\[no_mangle\] pub extern "C" fn //' \
+    joined '^#\[unsafe\(no_mangle\)\]' ' -> [a-z0-9]+' "$sources"/*.rt | sed -E -e 's/^#\[unsafe\(no_mangle\)\] pub extern "C" fn //' \
         -e 's/([a-z_]+): &mut \[u8\]/\1:*mut u8, \1_len:usize/g' -e 's/([a-z_]+): &\[u8\]/\1:*const u8, \1_len:usize/g' \
         -e 's/([a-z_]+): /\1:/g' -e 's/(, *)?\)/)/' -e 's/\(/ (/'
 }
@@ -274,7 +268,7 @@ stack_in_pages() { figures '(^|[^a-z])stack([^a-z]|$)' '[0-9][0-9][0-9]+' $(stac
 # shellcheck disable=SC2046
 bytes_in_pages() { figures bytes '[0-9][0-9][0-9][0-9]+ bytes' $(state_size) $(stack_figures); }
 
-[ -f "$archive" ] || { printf 'no archive at %s: rt staticlib monitor writes it\n0 passed, 1 failed\n' "$archive"; exit 1; }
+[ -f "$archive" ] || { printf 'no archive at %s: ./archive writes it\n0 passed, 1 failed\n' "$archive"; exit 1; }
 need nm binutils || { printf 'no nm, and it cannot be installed\n0 passed, 1 failed\n'; exit 1; }
 
 compared 'calls: the archive and the functions marked as exported' same "$archive" linked "$sources" marked_names
@@ -282,7 +276,7 @@ compared 'calls: the archive and the header' same "$archive" linked "$header" de
 compared "calls: the archive and README's table" same "$archive" linked README.md readme_names
 compared 'calls: the archive and the table of contracts' same "$archive" linked docs/proofs.md proofs_names
 compared 'calls: each contract stands in the file that the table gives' contracts_stand
-compared 'calls: the archive and what demand 1 lists' same "$archive" linked "$lists1" demanded_names
+compared 'calls: the archive and what demand 1 lists' same "$archive" linked "$demand1" demanded_names
 compared 'calls: the archive and what demand 1 states' same "$archive" linked "$demand1" stated
 compared 'calls: the archive and the Rust declarations' same "$archive" linked "$rust" imported_names
 compared 'calls: the archive and what the Rust program calls' same "$archive" linked second called_from_rust
@@ -299,10 +293,10 @@ compared 'parameters: the header and the C by hand' same "$header" declared "$ha
 compared 'refusals: the header and its texts' in_order "$header" refusal_names "$texts" text_names
 compared "refusals: the header and README's table" same "$header" refusal_numbers_alone README.md readme_numbers
 compared 'refusals: the header and the Rust program' in_order "$header" refusal_numbers "$refusals" rust_numbers
-compared 'refusals: the header and demand 1' same "$header" refusal_numbers_alone "$lists1" demanded_numbers
+compared 'refusals: the header and demand 1' same "$header" refusal_numbers_alone "$demand1" demanded_numbers
 compared 'refusals: the header and the test of the texts' in_order "$header" refusal_numbers tests/c/text.c text_test_numbers
 compared 'refusals: the header and the C tests, by name' same "$header" refusal_names 'tests/c (text.c aside)' named_in_c
-compared 'refusals of each call, in order: demand 1 and the header' same "$lists1" demanded "$header" returned
+compared 'refusals of each call, in order: demand 1 and the header' same "$demand1" demanded "$header" returned
 compared 'refusals of each call: the header and the C by hand' same "$header" returned_sets "$compare" met_sets
 
 compared 'stack: the archive and the figures in the header' same "$archive" stack_wanted "$header" stack_names

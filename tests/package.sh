@@ -12,11 +12,6 @@ copy() {
     mkdir -p "$1" && git ls-files -z --cached --others --exclude-standard | xargs -0 cp --parents -t "$1"
 }
 
-# what is proved need not be proved again for the copy: rt compares the sources with it
-with_proofs() {
-    copy "$1" && mkdir -p "$1/target" && cp -r target/rlib target/stamp "$1/target"
-}
-
 # the package of a copy, each with settings of its own
 made_anew() {
     (cd "$1" && umask 077 && TZ=Asia/Tokyo LC_ALL=C.UTF-8 ./package)
@@ -116,7 +111,7 @@ version_says() {
     diff <(echo "$version") <(PKG_CONFIG_PATH=$1/lib/pkgconfig pkg-config --modversion monitor)
 }
 
-[ -f "$archive" ] || { printf 'no archive at %s: rt staticlib monitor writes it\n0 passed, 1 failed\n' "$archive"; exit 1; }
+[ -f "$archive" ] || { printf 'no archive at %s: ./archive writes it\n0 passed, 1 failed\n' "$archive"; exit 1; }
 for tool in gcc:gcc clang:clang pkg-config:pkg-config make:make; do
     need "${tool%:*}" "${tool#*:}" || { printf 'no %s, and it cannot be installed\n0 passed, 1 failed\n' "${tool%:*}"; exit 1; }
 done
@@ -124,7 +119,7 @@ version=$(awk '$2 == "MONITOR_VERSION" { print $3 }' include/monitor.h)
 package=$scratch/b/dist/monitor-$version.tar
 root=$scratch/root/opt/pool
 
-try 'a copy with what is proved' with_proofs "$scratch/a folder/elsewhere/a"
+try 'a copy' copy "$scratch/a folder/elsewhere/a"
 try 'the package, its archive built anew' made_anew "$scratch/a folder/elsewhere/a"
 try 'another copy' copy "$scratch/b"
 sleep 1

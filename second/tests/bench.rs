@@ -36,9 +36,9 @@ fn states(name: &str) -> Vec<String> {
     let saved = fillings.iter().flat_map(|f| [f.to_string(), format!("{f}, 28 saved")]);
     let mut states: Vec<String> = match name {
         "set up" => vec!["any".into()],
-        "read" | "rewrite" => ["quiet", "usual", "full", "1 term, 1 epoch word"]
+        "read" | "rewrite" => ["quiet", "usual", "full", "one epoch word", "29 epoch words"]
             .into_iter()
-            .chain(["1 term, 29 epoch words", "8 terms, 29 epoch words"])
+            .chain(["1 term, 1 epoch word", "1 term, 29 epoch words"])
             .map(String::from)
             .collect(),
         _ => saved.collect(),

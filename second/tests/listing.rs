@@ -1,8 +1,8 @@
 //! The listing by both programs: document 01's, the one that the engine's program comes with, and
 //! seeded texts, compared whole.
 //!
-//! The engine's program is `target/bin/listing`, or `MONITOR_LISTING` says where it is. Without it, or
-//! without what is stored, the tests fail.
+//! The engine's program is `crates/listing/out/listing`, or `MONITOR_LISTING` says where it is.
+//! Without it, or without what is stored, the tests fail.
 
 use second::asking::GREATEST_LIMIT;
 use second::listing::listing;
@@ -29,8 +29,8 @@ fn stored(path: &Path) -> Vec<u8> {
 /// Where the engine's program is.
 fn program() -> PathBuf {
     let named = env::var_os("MONITOR_LISTING").map(PathBuf::from);
-    let path = named.unwrap_or_else(|| beside_package("target/bin/listing"));
-    assert!(path.is_file(), "no program at {}: `rt check listing` builds it", path.display());
+    let path = named.unwrap_or_else(|| beside_package("crates/listing/out/listing"));
+    assert!(path.is_file(), "no program at {}: `./listing` builds it", path.display());
     path
 }
 

@@ -73,6 +73,9 @@ static void rewriting(void)
 #define TERM(mask) (6u << 29 | (mask))
 #define LAST 7u << 29
 
+_Static_assert(MONITOR_TAKEN == 0 && MONITOR_FORM == 11 && MONITOR_HEAD == 12 && MONITOR_LENGTH == 13 && MONITOR_KIND == 14, "as document 01 has them");
+_Static_assert(MONITOR_CHECK == 15 && MONITOR_INTERVAL == 16 && MONITOR_TERMS == 17 && MONITOR_EPOCHS == 42, "and document 02");
+
 /* What a message is read and rewritten as; its last word is made the right check word, or a wrong one. */
 static const struct {
     const char *what;
@@ -80,31 +83,31 @@ static const struct {
     int spoilt;
     uint32_t words[12];
 } cases[] = {
-    {"1 and 2 have their words", MONITOR_TAKEN, 9, 0, {HEAD(1, 1), 1, 2, ENDS, TERM(4), LAST}},
-    {"under the greatest epoch too", MONITOR_TAKEN, 9, 0, {HEAD(1, 1), 481, 482, ENDS, TERM(4), LAST}},
-    {"the epoch of 2 is missing", MONITOR_EPOCHS, 8, 0, {HEAD(1, 1), 1, ENDS, TERM(4), LAST}},
-    {"the sender's is missing", MONITOR_EPOCHS, 8, 0, {HEAD(1, 1), 2, ENDS, TERM(4), LAST}},
-    {"there is none at all", MONITOR_EPOCHS, 7, 0, {HEAD(1, 1), ENDS, TERM(4), LAST}},
-    {"they are not in order", MONITOR_EPOCHS, 9, 0, {HEAD(1, 1), 2, 1, ENDS, TERM(4), LAST}},
-    {"one is there twice", MONITOR_EPOCHS, 10, 0, {HEAD(1, 1), 1, 1, 2, ENDS, TERM(4), LAST}},
-    {"twice under two epochs", MONITOR_EPOCHS, 10, 0, {HEAD(1, 1), 1, 33, 2, ENDS, TERM(4), LAST}},
-    {"there is one too many", MONITOR_EPOCHS, 10, 0, {HEAD(1, 1), 1, 2, 3, ENDS, TERM(4), LAST}},
-    {"bit 9 is set", MONITOR_EPOCHS, 9, 0, {HEAD(1, 1), 1, 514, ENDS, TERM(4), LAST}},
-    {"bit 28 is set", MONITOR_EPOCHS, 9, 0, {HEAD(1, 1), 1, 1u << 28 | 2, ENDS, TERM(4), LAST}},
-    {"an identifier is 29", MONITOR_EPOCHS, 10, 0, {HEAD(1, 1), 1, 2, 29, ENDS, TERM(4), LAST}},
-    {"42 comes before 15", MONITOR_EPOCHS, 8, 1, {HEAD(1, 1), 1, ENDS, TERM(4), LAST}},
-    {"42 comes before 16", MONITOR_EPOCHS, 8, 0, {HEAD(1, 1), 1, 2u << 29, 2u << 29 | 11, 3u << 29, 3u << 29 | 10, TERM(4), LAST}},
-    {"42 comes before 17", MONITOR_EPOCHS, 10, 0, {HEAD(1, 2), 1, 2, ENDS, TERM(8), TERM(4), LAST}},
-    {"17 comes with all of them", MONITOR_TERMS, 11, 0, {HEAD(1, 2), 1, 2, 3, ENDS, TERM(8), TERM(4), LAST}},
-    {"16 comes before 17", MONITOR_INTERVAL, 11, 0, {HEAD(1, 2), 1, 2, 3, 2u << 29, 2u << 29 | 11, 3u << 29, 3u << 29 | 10, TERM(8), TERM(4), LAST}},
-    {"15 comes before 16", MONITOR_CHECK, 7, 1, {HEAD(1, 0), 1, 2u << 29, 2u << 29 | 11, 3u << 29, 3u << 29 | 10, LAST}},
-    {"14 comes before 42", MONITOR_KIND, 8, 0, {HEAD(1, 1), 1, 2u << 29, 3u << 29, 3u << 29, 3u << 29 | 10, TERM(4), LAST}},
-    {"kind 0 in the place of a term", MONITOR_KIND, 9, 0, {HEAD(1, 1), 1, 2, ENDS, 4, LAST}},
-    {"13 counts them", MONITOR_LENGTH, 8, 0, {HEAD(1, 1), 1, 2, ENDS, LAST}},
-    {"11 looks behind them", MONITOR_FORM, 9, 0, {HEAD(1, 1), 1, 2, 3u << 29, 2u << 29, 3u << 29, 3u << 29 | 10, TERM(4), LAST}},
-    {"sender 29 is 12", MONITOR_HEAD, 7, 0, {HEAD(29, 0), 29, ENDS, LAST}},
-    {"nine terms are 12, before 11", MONITOR_HEAD, 7, 0, {HEAD(1, 9), 1, 3u << 29, 2u << 29, 3u << 29, 3u << 29 | 10, LAST}},
-    {"the shortest: centre form, no terms", MONITOR_TAKEN, 6, 0, {HEAD(1, 0), 1, 4u << 29, 4u << 29 | 10, 5u << 29 | 3, LAST}},
+    {"1 and 2 have their words", 0, 9, 0, {HEAD(1, 1), 1, 2, ENDS, TERM(4), LAST}},
+    {"under the greatest epoch too", 0, 9, 0, {HEAD(1, 1), 481, 482, ENDS, TERM(4), LAST}},
+    {"the epoch of 2 is missing", 42, 8, 0, {HEAD(1, 1), 1, ENDS, TERM(4), LAST}},
+    {"the sender's is missing", 42, 8, 0, {HEAD(1, 1), 2, ENDS, TERM(4), LAST}},
+    {"there is none at all", 42, 7, 0, {HEAD(1, 1), ENDS, TERM(4), LAST}},
+    {"they are not in order", 42, 9, 0, {HEAD(1, 1), 2, 1, ENDS, TERM(4), LAST}},
+    {"one is there twice", 42, 10, 0, {HEAD(1, 1), 1, 1, 2, ENDS, TERM(4), LAST}},
+    {"twice under two epochs", 42, 10, 0, {HEAD(1, 1), 1, 33, 2, ENDS, TERM(4), LAST}},
+    {"there is one too many", 42, 10, 0, {HEAD(1, 1), 1, 2, 3, ENDS, TERM(4), LAST}},
+    {"bit 9 is set", 42, 9, 0, {HEAD(1, 1), 1, 514, ENDS, TERM(4), LAST}},
+    {"bit 28 is set", 42, 9, 0, {HEAD(1, 1), 1, 1u << 28 | 2, ENDS, TERM(4), LAST}},
+    {"an identifier is 29", 42, 10, 0, {HEAD(1, 1), 1, 2, 29, ENDS, TERM(4), LAST}},
+    {"42 comes before 15", 42, 8, 1, {HEAD(1, 1), 1, ENDS, TERM(4), LAST}},
+    {"42 comes before 16", 42, 8, 0, {HEAD(1, 1), 1, 2u << 29, 2u << 29 | 11, 3u << 29, 3u << 29 | 10, TERM(4), LAST}},
+    {"42 comes before 17", 42, 10, 0, {HEAD(1, 2), 1, 2, ENDS, TERM(8), TERM(4), LAST}},
+    {"17 comes with all of them", 17, 11, 0, {HEAD(1, 2), 1, 2, 3, ENDS, TERM(8), TERM(4), LAST}},
+    {"16 comes before 17", 16, 11, 0, {HEAD(1, 2), 1, 2, 3, 2u << 29, 2u << 29 | 11, 3u << 29, 3u << 29 | 10, TERM(8), TERM(4), LAST}},
+    {"15 comes before 16", 15, 7, 1, {HEAD(1, 0), 1, 2u << 29, 2u << 29 | 11, 3u << 29, 3u << 29 | 10, LAST}},
+    {"14 comes before 42", 14, 8, 0, {HEAD(1, 1), 1, 2u << 29, 3u << 29, 3u << 29, 3u << 29 | 10, TERM(4), LAST}},
+    {"kind 0 in the place of a term", 14, 9, 0, {HEAD(1, 1), 1, 2, ENDS, 4, LAST}},
+    {"13 counts them", 13, 8, 0, {HEAD(1, 1), 1, 2, ENDS, LAST}},
+    {"11 looks behind them", 11, 9, 0, {HEAD(1, 1), 1, 2, 3u << 29, 2u << 29, 3u << 29, 3u << 29 | 10, TERM(4), LAST}},
+    {"sender 29 is 12", 12, 7, 0, {HEAD(29, 0), 29, ENDS, LAST}},
+    {"nine terms are 12, before 11", 12, 7, 0, {HEAD(1, 9), 1, 3u << 29, 2u << 29, 3u << 29, 3u << 29 | 10, LAST}},
+    {"the shortest: centre form, no terms", 0, 6, 0, {HEAD(1, 0), 1, 4u << 29, 4u << 29 | 10, 5u << 29 | 3, LAST}},
 };
 
 /* The number by which both calls refuse these words, or 0; a refused call writes nothing. */

@@ -45,14 +45,15 @@ impl Load {
     }
 }
 
-/// Messages with one epoch word, and with one for every identifier, in a term and in as many terms
-/// as there can be.
-pub fn by_epoch_words() -> [(&'static str, Vec<u8>); 3] {
+/// Messages with one epoch word, and with one for every identifier: without a term and with as many
+/// as there can be, and with one term.
+pub fn by_epoch_words() -> [(&'static str, Vec<u8>); 4] {
     let terms: Vec<Term> = (0..MOST_TERMS).rev().map(|n| ALL_NAMES & !(1 << n)).collect();
     [
-        ("1 term, 1 epoch word", &[1 << SENDER][..]),
+        ("one epoch word", &[][..]),
+        ("29 epoch words", &terms),
+        ("1 term, 1 epoch word", &[1 << SENDER]),
         ("1 term, 29 epoch words", &[ALL_NAMES]),
-        ("8 terms, 29 epoch words", &terms),
     ]
     .map(|(name, terms)| (name, Message::of(SENDER, INSTANT, INSTANT + 100, terms).bytes()))
 }
