@@ -1,6 +1,6 @@
 -- What is saved of a sender is what document 02 says of all triples that it has given: the rule for one more triple keeps the first of the largest.
 -- The idea: the test for a larger triple compares sums, so it is an order in which no two differ but by their size. Assumes nothing.
-use Prim.Native.Nat.{ℕ, ◌+◌, ◌<◌, ◌≤◌}
+use Prim.Native.Nat.{ℕ, ◌+◌}
 use mathlib.Core.Path.{◌≡◌, refl, sym, ap, subst, ◌∙◌}
 use mathlib.Core.Bool.{Bool, true, false, not, cond}
 use mathlib.Core.List.{List, [], ◌∷◌, ◌++◌, append_assoc, append-nil}

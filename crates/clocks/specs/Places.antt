@@ -3,7 +3,7 @@
 use Rattle.std.specs.Prelude.{ℕ, ◌+◌, Bool, ◌&&◌, cond, List, ◌++◌, replicate, eqb}
 use Rattle.numbers.specs.Numbers.{num, bytes}
 use Rattle.clocks.specs.declared.Triple.{Triple}
-use Rattle.clocks.specs.Clocks.{Saved, nothing, three, small, saved_ok}
+use Rattle.clocks.specs.Clocks.{Saved, nothing, three, saved_ok}
 
 -- how many bytes a triple and a place have
 abbrev pub triple_size : ℕ

@@ -1,7 +1,7 @@
 -- Worked cases of the sender's clock (document 02, W-201), each proved by computation in proofs/WorkedClocks. Assumes nothing: these are definitions.
 use Rattle.std.specs.Prelude.{ℕ, Bool, true, false, List, [], ◌∷◌}
 use Rattle.clocks.specs.declared.Triple.{Triple}
-use Rattle.clocks.specs.Clocks.{Saved, nothing, three, saved_of}
+use Rattle.clocks.specs.Clocks.{Saved, three}
 
 abbrev pub triple : ℕ → ℕ → ℕ → Triple
 triple a b w = record { there = a; here = b; half = w }

@@ -228,4 +228,4 @@ receive_ok st g t h e =
     let new = made_ok st g t h p.0 in
     let counts = p.1 in
     let head = moved_ok st.head g (both_l (head_ok st.head) _ t) h in
-    search (both, both_l, both_r) depth 12
+    search both depth 12

@@ -20,7 +20,7 @@ use Rattle.search.specs.code.Search.{Rows}
 use Rattle.asking.specs.declared.Fewest.TheVariants.{Over, Few}
 use Rattle.asking.specs.Instants.{Allowed}
 use Rattle.claims.specs.code.Tables.{entry_claim, claim_at, Loaded, Bounded}
-use Rattle.search.specs.code.LeftEnds.{outside, Complete, LeastSet}
+use Rattle.search.specs.code.LeftEnds.{Complete, LeastSet}
 use Rattle.asking.specs.Asking.{answer}
 use Rattle.asking.specs.Fewest.{not_contradicted, fewest, Works}
 use Rattle.fewest.specs.code.Limits.{FirstLimit, Floor}

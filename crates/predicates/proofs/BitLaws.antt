@@ -1,11 +1,11 @@
 -- Numbers or-ed together: the sum is zero where each is, and below a power of two where each is. Assumes nothing.
-use Prim.Native.Nat.{ℕ, ◌^◌, ◌≤◌, ◌<◌}
+use Prim.Native.Nat.{ℕ, ◌^◌}
 use mathlib.Core.Path.{◌≡◌}
 use mathlib.Core.Bool.{◌&&◌}
 use native.Mathlib.Omega.{arith}
 use borrow.Author.Tests.{eq-eqb}
 use lib.Bits.{bit_or, or_add_and, and_le_l, and_le_r, or_lt}
-use lib.Dec.{T, eqb, eqb→eq, ltb, ltb→lt, lt→ltb}
+use lib.Dec.{eqb, eqb→eq, ltb, ltb→lt, lt→ltb}
 use Rattle.names.proofs.SetLaws.{test_ext}
 use Rattle.predicates.proofs.ListLaws.{both, both_l, both_r, true_T}
 

@@ -59,6 +59,7 @@ singles-holds s (u ∷ p) f =
 
 singles_in : (t : ℕ) (p : List ℕ) → In t p → ones t ≡ 1 → T (subset t (singles p))
 unfolding singles
+singles_in t [] m e = elim m [ ]
 singles_in t (u ∷ p) m e =
     cond_ind (λ (x : ℕ). T (subset t x)) (eqb (ones u) 1) (set_union u (singles p)) (singles p)
     (λ _. ⊎_elim (λ d. subst (λ (x : ℕ). T (subset t (set_union x (singles p)))) d (union_left t (singles p)))

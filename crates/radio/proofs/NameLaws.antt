@@ -269,6 +269,7 @@ in_below (suc n) x h = by (λ k. in_below n x k) (in_cases x (tab n (λ i. i)) (
     by : (In x (tab n (λ i. i)) → x < n) → In x (tab n (λ i. i)) ⊎ In x (n ∷ []) → x < suc n
     by f (inl k) = omega (arith, f k)
     by f (inr (inl e)) = omega arith
+    by f (inr (inr e)) = elim e [ ]
 
 below_in : (n x : ℕ) → x < n → In x (tab n (λ i. i))
 below_in n x h =
@@ -286,6 +287,7 @@ rises_snoc (w ∷ ws) x t f =
     by : ((v : ℕ) → In v ws → T (over w v)) → (v : ℕ) → In v ws ⊎ In v (x ∷ []) → T (over w v)
     by g v (inl i) = g v i
     by g v (inr (inl e)) = rw e (lt→ltb (identifier_of w) (identifier_of x) (f w (inl refl)))
+    by g v (inr (inr e)) = elim e [ ]
 
 module _ (ks : List ℕ) (mask : ℕ) (low : (n : ℕ) → get_or ks n 0 ≤ epoch_most) where
   -- the name of an identifier, and the identifier of a name

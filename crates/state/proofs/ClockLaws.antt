@@ -1,6 +1,6 @@
 -- Laws of a name's place (`clocks.specs.Places`): what stands there is read and in form, and a place in form has the bytes of what is read.
 -- The idea: saved or not, a place is a flag and three triples; where nothing is saved they are zero. No contract cites this file. Assumes nothing.
-use Prim.Native.Nat.{ℕ, ◌+◌, ◌*◌, ◌≤◌, ◌<◌}
+use Prim.Native.Nat.{ℕ, ◌+◌, ◌≤◌, ◌<◌}
 use mathlib.Core.Path.{◌≡◌, refl, sym, ap, ◌∙◌}
 use mathlib.Core.Bool.{Bool, true, false, ◌&&◌, cond}
 use mathlib.Core.List.{List, ◌++◌}
@@ -10,7 +10,7 @@ use lib.ListN.{length, get_or}
 use Rattle.numbers.specs.Numbers.{num, bytes, tab, Bytes}
 use Rattle.numbers.proofs.NumberLaws.{bytes-num, length-bytes, tab_ext}
 use Rattle.predicates.specs.Lists.{all, all_below}
-use Rattle.predicates.proofs.ListLaws.{both, both_l, both_r}
+use Rattle.predicates.proofs.ListLaws.{both_l, both_r}
 use Rattle.predicates.proofs.IndexLaws.{all_get_d, below_in}
 use Rattle.clocks.specs.declared.Triple.{Triple}
 use Rattle.clocks.specs.Clocks.{small, Saved, nothing, three, saved_ok}

@@ -7,14 +7,14 @@ use mathlib.Core.List.{List, ◌++◌}
 use native.Mathlib.Nat.{add-zero}
 use native.Mathlib.Numerals.{add-one}
 use native.Mathlib.Omega.{arith}
-use borrow.Author.Tests.{lt-leb, le-leb, eq-eqb}
+use borrow.Author.Tests.{lt-leb, le-leb}
 use lib.Bits.{bit_or}
-use lib.Dec.{T, leb, leb→le, eqb, eqb→eq}
+use lib.Dec.{T, leb, leb→le, eqb}
 use lib.ListN.{length, get_or, take, drop, length-drop}
 use lib.Seq.{slice-cons, slice_empty, take-append-le, drop-append-le, take_at}
 use Rattle.predicates.specs.Lists.{all, all_below}
 use Rattle.predicates.specs.Predicates.{is_normal}
-use Rattle.predicates.proofs.ListLaws.{both, both_l, both_r, true_T}
+use Rattle.predicates.proofs.ListLaws.{both_l, both_r, true_T}
 use Rattle.predicates.proofs.LoopLaws.{all-turn}
 use Rattle.predicates.proofs.BitLaws.{both_zero, or_zero}
 use Rattle.predicates.proofs.IndexLaws.{below_out}

@@ -2,7 +2,7 @@
 -- The idea: `At at a s` says that the bytes a stand in s from index at on. What is written is taken apart by `at_first_lem` and `at_then`, and
 -- a list of elements of one size by `at_joined`; the way back goes by `part at n s`, the n bytes that stand there.
 -- No contract cites this file. Assumes nothing.
-use Prim.Native.Nat.{ℕ, zero, suc, ◌+◌, ◌*◌, ◌-◌, ◌^◌, ◌≤◌, ◌<◌}
+use Prim.Native.Nat.{ℕ, zero, suc, ◌+◌, ◌*◌, ◌^◌, ◌≤◌, ◌<◌}
 use mathlib.Core.Path.{◌≡◌, refl, sym, ap, ◌∙◌}
 use mathlib.Core.Bool.{Bool, true}
 use mathlib.Core.List.{List, [], ◌∷◌, ◌++◌, append_assoc, append-nil}

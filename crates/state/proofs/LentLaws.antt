@@ -41,6 +41,7 @@ module _ (s : List ℕ) where
     where
       go : (b : Bool) → T b → ◌≡◌ {A = ℕ} (cond (not b) 25 next) next
       go true t = refl
+      go false t = elim t [ ]
 
   pub lent-refused : (r next : ℕ) → r ≡ lent s 0 → (r ≡ 0 → ⊥) → r ≡ lent s next
   unfolding lent

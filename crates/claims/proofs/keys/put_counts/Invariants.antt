@@ -1,0 +1,13 @@
+-- Invariant: both arrays are what they were, with the keys of the first i claims at their fronts. Measure: the claims still to read.
+use Prim.Native.Nat.{◌-◌, ◌≤◌}
+use Rattle.state.proofs.StoreLaws.{Column}
+use Rattle.claims.specs.code.Keys.{key_of}
+use Rattle.claims.specs.code.Tables.{claim_left, claim_right}
+use Rattle.claims.proofs.keys.put_counts.Given as goal
+
+abbrev pub invariant-loop-i : goal.invariant-loop-i
+invariant-loop-i l =
+    (l.i ≤ l.rows) × Column (claim_left (key_of l.s) l.s l.n) l.i l.initial.lefts l.lefts × Column (claim_right (key_of l.s) l.s l.n) l.i l.initial.rights l.rights
+
+abbrev pub decreases-loop-i : goal.decreases-loop-i
+decreases-loop-i l = l.rows - l.i

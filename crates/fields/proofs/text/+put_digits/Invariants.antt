@@ -1,0 +1,5 @@
+-- Measure over the calls: the places k.
+use Rattle.fields.proofs.text.+put_digits.Given as goal
+
+abbrev pub decreases-put_digits : goal.decreases-put_digits
+decreases-put_digits l = l.k

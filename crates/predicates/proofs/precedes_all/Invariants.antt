@@ -1,0 +1,13 @@
+-- Invariant: the answer for all terms is the answer from term i on. Measure: the terms still to try.
+use Prim.Native.Nat.{◌-◌}
+use mathlib.Core.Path.{◌≡◌}
+use lib.ListN.{length, drop}
+use Rattle.predicates.specs.Lists.{all}
+use Rattle.predicates.specs.Predicates.{precedes}
+use Rattle.predicates.proofs.precedes_all.Given as goal
+
+abbrev pub invariant-loop-i : goal.invariant-loop-i
+invariant-loop-i l = all (λ u. precedes l.t u) l.p ≡ all (λ u. precedes l.t u) (drop l.i l.p)
+
+abbrev pub decreases-loop-i : goal.decreases-loop-i
+decreases-loop-i l = length l.p - l.i

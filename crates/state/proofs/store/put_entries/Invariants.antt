@@ -1,0 +1,13 @@
+-- passes it over where it has been given up. Invariant: the r entries among the first i that have terms stand in their places, and the bytes
+-- behind those are as they were. Measure: the rows still to pass.
+use Prim.Native.Nat.{◌-◌, ◌≤◌}
+use Rattle.state.specs.Layout.{entry_bytes}
+use Rattle.state.specs.code.Tables.{table_from, entries_in}
+use Rattle.state.proofs.StoreLaws.{Written}
+use Rattle.state.proofs.store.put_entries.Given as goal
+
+abbrev pub invariant-loop-i : goal.invariant-loop-i
+invariant-loop-i l = (l.i ≤ l.n) × (l.r ≤ l.i) × Written entry_bytes 68 984 (entries_in l.i (table_from l.first l.initial.s l.counts l.masks)) l.r l.initial.s l.s
+
+abbrev pub decreases-loop-i : goal.decreases-loop-i
+decreases-loop-i l = l.n - l.i
