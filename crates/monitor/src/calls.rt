@@ -8,14 +8,7 @@ ghost use Rattle.engine.specs.Calls.{setup};
 ghost use Rattle.monitor.specs.Calls.{set_up_number, set_up_state, age_number, age_state, written_words, write_number, write_output};
 
 // Sets a monitor up: own identifier, drift in parts per million, a reading of the own clock, and the own epoch. Answers 0, or 24, 1, 41, 2 or 3.
-#[unsafe(no_mangle)]
-pub extern "C" fn monitor_set_up(
-    state: &mut [u8],
-    own: u32,
-    drift: u32,
-    reading: u64,
-    epoch: u64,
-) -> u32
+pub fn monitor_set_up(state: &mut [u8], own: u32, drift: u32, reading: u64, epoch: u64) -> u32
     ensures value { result ≡ set_up_number state.old (setup own drift reading epoch) }
     ensures state_after { state.new ≡ set_up_state state.old (setup own drift reading epoch) }
 {
@@ -26,8 +19,7 @@ pub extern "C" fn monitor_set_up(
 }
 
 // Ages the state to a reading of the own clock. Answers 0, or 24, 25, 3, 20 or 30.
-#[unsafe(no_mangle)]
-pub extern "C" fn monitor_age(state: &mut [u8], reading: u64) -> u32
+pub fn monitor_age(state: &mut [u8], reading: u64) -> u32
     ensures value { result ≡ age_number state.old reading }
     ensures state_after { state.new ≡ age_state state.old reading }
 {
@@ -68,8 +60,7 @@ fn datum_words(state: &[u8], position: usize, words: &mut [u32]) -> usize
 }
 
 // Writes the held datum at a position, 0 being the oldest, as a message from the own name. Answers 0, or 24, 25, 23 or 24 for the output.
-#[unsafe(no_mangle)]
-pub extern "C" fn monitor_write(state: &[u8], position: u64, message: &mut [u8]) -> u32
+pub fn monitor_write(state: &[u8], position: u64, message: &mut [u8]) -> u32
     ensures value { result ≡ write_number state.now position message.old }
     ensures message_after { message.new ≡ write_output state.now position message.old }
 {

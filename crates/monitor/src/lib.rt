@@ -44,8 +44,7 @@ fn put_four(out: &mut [u8], a: u64, b: u64, c: u64, d: u64)
 }
 
 // Reads a message: sender, left, right and term count go to the first 32 bytes of the output.
-#[unsafe(no_mangle)]
-pub extern "C" fn monitor_message_read(message: &[u8], reading: &mut [u8]) -> u32
+pub fn monitor_message_read(message: &[u8], reading: &mut [u8]) -> u32
     ensures value { result ≡ read_number message.now reading.old }
     ensures reading_after { reading.new ≡ read_output message.now reading.old }
 {
@@ -63,8 +62,7 @@ pub extern "C" fn monitor_message_read(message: &[u8], reading: &mut [u8]) -> u3
 }
 
 // Writes a message again in ends form, with the sender, epoch words, interval and terms that it has.
-#[unsafe(no_mangle)]
-pub extern "C" fn monitor_message_rewrite(message: &[u8], out: &mut [u8]) -> u32
+pub fn monitor_message_rewrite(message: &[u8], out: &mut [u8]) -> u32
     ensures value { result ≡ rewrite_number message.now out.old }
     ensures out_after { out.new ≡ rewrite_output message.now out.old }
 {

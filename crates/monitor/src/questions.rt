@@ -57,8 +57,7 @@ fn put_fewest(out: &mut [u8], got: Fewest)
 }
 
 // Asks at a limit of failed names: 24 bytes of answer. Answers 0, or 24, 25, 22 or 24 for the output.
-#[unsafe(no_mangle)]
-pub extern "C" fn monitor_ask(state: &[u8], limit: u64, answer: &mut [u8]) -> u32
+pub fn monitor_ask(state: &[u8], limit: u64, answer: &mut [u8]) -> u32
     ensures value { result ≡ ask_number state.now limit answer.old }
     ensures answer_after { answer.new ≡ ask_output state.now limit answer.old }
 {
@@ -77,8 +76,7 @@ pub extern "C" fn monitor_ask(state: &[u8], limit: u64, answer: &mut [u8]) -> u3
 }
 
 // The fewest failures that explain the state: 16 bytes of answer. Answers 0, or 24, 25 or 24 for the output.
-#[unsafe(no_mangle)]
-pub extern "C" fn monitor_fewest(state: &[u8], answer: &mut [u8]) -> u32
+pub fn monitor_fewest(state: &[u8], answer: &mut [u8]) -> u32
     ensures value { result ≡ fewest_number state.now answer.old }
     ensures answer_after { answer.new ≡ fewest_output state.now answer.old }
 {

@@ -62,13 +62,7 @@ fn receive(state: &mut [u8], least: u64, greatest: u64, readings: Readings, mess
 
 // Receives a message that came over a channel with a least and a greatest delay. Answers 0, or 24, 25, 21, 10, 12, 11, 13,
 // 14, 42, 15 to 18, 30, 31 or 32.
-#[unsafe(no_mangle)]
-pub extern "C" fn monitor_receive(
-    state: &mut [u8],
-    least: u64,
-    greatest: u64,
-    message: &[u8],
-) -> u32
+pub fn monitor_receive(state: &mut [u8], least: u64, greatest: u64, message: &[u8]) -> u32
     ensures value { result ≡ receive_number state.old (receipt_of least greatest message.now) }
     ensures state_after { state.new ≡ receive_state state.old (receipt_of least greatest message.now) }
 {
@@ -77,8 +71,7 @@ pub extern "C" fn monitor_receive(
 
 // The same with the sender's clock reading, the own one beside it, a half width and the sender's drift: where they show that the sender's clock has
 // jumped, its name becomes an entry. Answers as above, or 40 after 21.
-#[unsafe(no_mangle)]
-pub extern "C" fn monitor_receive_with_readings(
+pub fn monitor_receive_with_readings(
     state: &mut [u8],
     least: u64,
     greatest: u64,
