@@ -13,9 +13,9 @@ const MESSAGE_MOST: usize = (VALUES_MOST - 2) * 4;
 // `set` own drift reading epoch.
 fn set_line(values: &[u64], state: &mut [u8], begun: bool, out: &mut [u8]) -> Answered
     requires { answer_most ≤ length out.old }
-    ensures* { λ r. ⌜ (let result : LineResult = set_line values.now begun state.old in
-        (r.begun ≡ result.begun) × (r.size ≡ length result.text) × (state.new ≡ result.state)
-        × (out.new ≡ put 0 result.text out.old)) ⌝ }
+    ensures { (let answer : LineResult = set_line values.now begun state.old in
+        (result.begun ≡ answer.begun) × (result.size ≡ length answer.text) × (state.new ≡ answer.state)
+        × (out.new ≡ put 0 answer.text out.old)) }
 {
     if values.len() != 4 {
         let size = text::put_bad(out);
@@ -44,8 +44,8 @@ fn set_line(values: &[u64], state: &mut [u8], begun: bool, out: &mut [u8]) -> An
 // `age` reading.
 fn age_line(values: &[u64], state: &mut [u8], out: &mut [u8]) -> usize
     requires { answer_most ≤ length out.old }
-    ensures* { λ r. ⌜ (let result : LineResult = age_line values.now state.old in
-        (r ≡ length result.text) × (state.new ≡ result.state) × (out.new ≡ put 0 result.text out.old)) ⌝ }
+    ensures { (let answer : LineResult = age_line values.now state.old in
+        (result ≡ length answer.text) × (state.new ≡ answer.state) × (out.new ≡ put 0 answer.text out.old)) }
 {
     if values.len() != 1 {
         return text::put_bad(out);
@@ -57,8 +57,8 @@ fn age_line(values: &[u64], state: &mut [u8], out: &mut [u8]) -> usize
 // `get` least greatest words: the words as bytes are the message.
 fn get_line(values: &[u64], state: &mut [u8], out: &mut [u8]) -> usize
     requires { (length values.now ≤ values_most) × (answer_most ≤ length out.old) }
-    ensures* { λ r. ⌜ (let result : LineResult = get_line values.now state.old in
-        (r ≡ length result.text) × (state.new ≡ result.state) × (out.new ≡ put 0 result.text out.old)) ⌝ }
+    ensures { (let answer : LineResult = get_line values.now state.old in
+        (result ≡ length answer.text) × (state.new ≡ answer.state) × (out.new ≡ put 0 answer.text out.old)) }
 {
     if values.len() < 2 {
         return text::put_bad(out);
@@ -77,8 +77,8 @@ fn get_line(values: &[u64], state: &mut [u8], out: &mut [u8]) -> usize
 // `ask` limit.
 fn ask_line(values: &[u64], state: &[u8], out: &mut [u8]) -> usize
     requires { answer_most ≤ length out.old }
-    ensures* { λ r. ⌜ (let result : LineResult = ask_line values.now state.now in
-        (r ≡ length result.text) × (out.new ≡ put 0 result.text out.old)) ⌝ }
+    ensures { (let answer : LineResult = ask_line values.now state.now in
+        (result ≡ length answer.text) × (out.new ≡ put 0 answer.text out.old)) }
 {
     if values.len() != 1 {
         return text::put_bad(out);
@@ -94,8 +94,8 @@ fn ask_line(values: &[u64], state: &[u8], out: &mut [u8]) -> usize
 // `fewest`.
 fn fewest_line(values: &[u64], state: &[u8], out: &mut [u8]) -> usize
     requires { answer_most ≤ length out.old }
-    ensures* { λ r. ⌜ (let result : LineResult = fewest_line values.now state.now in
-        (r ≡ length result.text) × (out.new ≡ put 0 result.text out.old)) ⌝ }
+    ensures { (let answer : LineResult = fewest_line values.now state.now in
+        (result ≡ length answer.text) × (out.new ≡ put 0 answer.text out.old)) }
 {
     if values.len() != 0 {
         return text::put_bad(out);
@@ -111,8 +111,8 @@ fn fewest_line(values: &[u64], state: &[u8], out: &mut [u8]) -> usize
 // A command that needs a taken `set` before it.
 fn later_line(word: &[u8], values: &[u64], state: &mut [u8], out: &mut [u8]) -> usize
     requires { (length values.now ≤ values_most) × (answer_most ≤ length out.old) }
-    ensures* { λ r. ⌜ (let result : LineResult = later_line word.now values.now state.old in
-        (r ≡ length result.text) × (state.new ≡ result.state) × (out.new ≡ put 0 result.text out.old)) ⌝ }
+    ensures { (let answer : LineResult = later_line word.now values.now state.old in
+        (result ≡ length answer.text) × (state.new ≡ answer.state) × (out.new ≡ put 0 answer.text out.old)) }
 {
     if read::same(word, b"age") {
         return age_line(values, state, out);
@@ -138,9 +138,9 @@ pub fn word_line(
     out: &mut [u8],
 ) -> Answered
     requires { (length values.now ≤ values_most) × (answer_most ≤ length out.old) }
-    ensures* { λ r. ⌜ (let result : LineResult = word_line word.now values.now begun state.old in
-        (r.begun ≡ result.begun) × (r.size ≡ length result.text) × (state.new ≡ result.state)
-        × (out.new ≡ put 0 result.text out.old)) ⌝ }
+    ensures { (let answer : LineResult = word_line word.now values.now begun state.old in
+        (result.begun ≡ answer.begun) × (result.size ≡ length answer.text) × (state.new ≡ answer.state)
+        × (out.new ≡ put 0 answer.text out.old)) }
 {
     if read::same(word, b"set") {
         return set_line(values, state, begun, out);

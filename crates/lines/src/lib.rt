@@ -30,9 +30,9 @@ pub struct Answered {
 // was taken before, and the state is that of the last one.
 pub fn answer(line: &[u8], state: &mut [u8], begun: bool, out: &mut [u8]) -> Answered
     requires { answer_most ≤ length out.old }
-    ensures* { λ r. ⌜ (let result : LineResult = line_result line.now begun state.old in
-        (r.begun ≡ result.begun) × (r.size ≡ length result.text) × (state.new ≡ result.state)
-        × (out.new ≡ put 0 result.text out.old)) ⌝ }
+    ensures { (let answer : LineResult = line_result line.now begun state.old in
+        (result.begun ≡ answer.begun) × (result.size ≡ length answer.text) × (state.new ≡ answer.state)
+        × (out.new ≡ put 0 answer.text out.old)) }
 {
     if LINE_MOST < line.len() {
         let size = text::put_bad(out);

@@ -6,6 +6,7 @@ ghost use Rattle.listing.specs.code.Turns.{nothing_done, Hears, HandsOn};
 
 use crate::system;
 use crate::system::Call;
+use std::io::{Read, Write};
 
 // How many bytes were read, handed on to be written, and written; and the last calls.
 #[derive(Clone, Copy)]
@@ -18,6 +19,7 @@ pub struct Tally {
 }
 
 // Before the first call.
+#[tactic(auto, unfolding(crate::specs::code::Turns::nothing_done))]
 pub fn begin() -> Tally
     ensures { result ≡ nothing_done }
 {
@@ -69,11 +71,11 @@ pub fn stops(tally: Tally) -> bool
 }
 
 // Reads once, and counts what came.
-pub fn receive(tally: Tally, input: &mut [u8]) -> Tally
+pub fn receive<R: Read>(reader: &mut R, tally: Tally, input: &mut [u8]) -> Tally
     requires { tally.read + length input.old < 2 ^ 64 }
     ensures { Hears (length input.new) tally result }
 {
-    let call = system::receive(input);
+    let call = system::receive(reader, input);
     let output = tally.output;
     Tally {
         read: tally.read + system::moved(call) as u64,
@@ -85,11 +87,11 @@ pub fn receive(tally: Tally, input: &mut [u8]) -> Tally
 }
 
 // Hands a text on to be written, and counts it and what was written of it.
-pub fn hand_on(tally: Tally, text: &[u8]) -> Tally
+pub fn hand_on<W: Write>(writer: &mut W, tally: Tally, text: &[u8]) -> Tally
     requires { (tally.written ≡ tally.handed) × (tally.handed + length text.now < 2 ^ 64) }
     ensures { HandsOn (length text.now) tally result }
 {
-    let sent = system::send(text);
+    let sent = system::send(writer, text);
     let input = tally.input;
     let output = sent.last;
     Tally {

@@ -17,6 +17,7 @@ ghost use Rattle.listing.specs.code.Turns.{piece_most, is_going, Turned};
 
 use crate::count::Tally;
 use lines::ANSWER_MOST;
+use std::io::{Read, Write};
 use stream::Session;
 
 mod count;
@@ -32,14 +33,20 @@ const OUT_SIZE: usize = ANSWER_MOST * PIECE_MOST;
 const READ_MOST: u64 = 72_057_594_037_927_936;
 
 // How far a run has come: what it keeps, and what it has done.
-#[derive(Drop)]
+#[derive(Clone, Copy)]
 struct Progress {
     session: Session,
     tally: Tally,
 }
 
 // Reads once, and answers what came: the piece stands at the front of `input` then, and what it prints at the front of `out`.
-fn turn(from: Progress, input: &mut [u8], out: &mut [u8]) -> Progress
+fn turn<R: Read, W: Write>(
+    reader: &mut R,
+    writer: &mut W,
+    from: Progress,
+    input: &mut [u8],
+    out: &mut [u8],
+) -> Progress
     requires standing { Standing from.session × (length input.old ≡ piece_most) × (answer_most * piece_most ≤ length out.old) }
     requires read_lt_read_most { (from.tally.read < read_most) × (from.tally.handed ≤ answer_most * from.tally.read)
         × (from.tally.written ≡ from.tally.handed) }
@@ -48,12 +55,12 @@ fn turn(from: Progress, input: &mut [u8], out: &mut [u8]) -> Progress
         Turned piece (kept_by from.session) (kept_by result.session) from.tally result.tally
         × (out.new ≡ put 0 (text_after (kept_by from.session) piece) out.old)) }
 {
-    let heard = count::receive(from.tally, input);
+    let heard = count::receive(reader, from.tally, input);
     let n = count::came(heard);
     let session = from.session;
     let fed = stream::take_piece(session, &input[..n], out);
     let filled = fed.filled;
-    let tally = count::hand_on(heard, &out[..filled]);
+    let tally = count::hand_on(writer, heard, &out[..filled]);
     let next = fed.session;
     Progress {
         session: next,
@@ -62,6 +69,7 @@ fn turn(from: Progress, input: &mut [u8], out: &mut [u8]) -> Progress
 }
 
 // Whether a run goes on.
+#[tactic(auto, unfolding(crate::specs::code::Turns::is_going))]
 fn is_going(tally: Tally) -> bool
     ensures { result ≡ is_going tally }
 {
@@ -69,7 +77,12 @@ fn is_going(tally: Tally) -> bool
 }
 
 // Reads and answers until the run stops.
-fn take_all(input: &mut [u8], out: &mut [u8]) -> Progress
+fn take_all<R: Read, W: Write>(
+    reader: &mut R,
+    writer: &mut W,
+    input: &mut [u8],
+    out: &mut [u8],
+) -> Progress
     requires { (length input.old ≡ piece_most) × (answer_most * piece_most ≤ length out.old) }
     ensures standing { Standing result.session × (result.tally.read < read_most + piece_most) }
     ensures went { Went result.tally.read result.tally.handed (kept_by result.session) }
@@ -80,7 +93,7 @@ fn take_all(input: &mut [u8], out: &mut [u8]) -> Progress
     let tally = count::begin();
     let mut progress = Progress { session, tally };
     while is_going(progress.tally) {
-        progress = turn(progress, input, out);
+        progress = turn(reader, writer, progress, input, out);
     }
     progress
 }
@@ -93,23 +106,24 @@ fn room() -> [u8; OUT_SIZE]
 }
 
 // Reads and answers all, a last line without a line feed too.
-fn answer_all() -> Tally
+fn answer_all<R: Read, W: Write>(reader: &mut R, writer: &mut W) -> Tally
     ensures ran { Ran result.read result.handed (is_end result.input.got) }
     ensures calls_tell { CallsTell result × T (stopped result || leb read_most result.read) }
 {
     let mut input = [0u8; PIECE_MOST];
     let mut out = room();
-    let progress = take_all(&mut input, &mut out);
+    let progress = take_all(reader, writer, &mut input, &mut out);
     let tally = progress.tally;
     if !count::is_end(tally) {
         return tally;
     }
     let session = progress.session;
     let filled = stream::last_line(session, &mut out);
-    count::hand_on(tally, &out[..filled])
+    count::hand_on(writer, tally, &out[..filled])
 }
 
 // What a run that loses something says: of two sentences the one for output, or else the one for input.
+#[tactic(auto, unfolding(crate::specs::Run::complaint_of))]
 fn complaint<'a>(tally: Tally, unwritten: &'a [u8], unread: &'a [u8]) -> &'a [u8]
     ensures { result.now ≡ complaint_of tally unwritten.now unread.now }
 {
@@ -122,12 +136,14 @@ fn complaint<'a>(tally: Tally, unwritten: &'a [u8], unread: &'a [u8]) -> &'a [u8
     &unread[..0]
 }
 
-fn main() {
-    let tally = answer_all();
+fn main(rt: HostRuntime) {
+    let mut reader = rt.stdin();
+    let mut writer = rt.stdout();
+    let tally = answer_all(&mut reader, &mut writer);
     let said = complaint(
         tally,
         b"listing: cannot write its output\n",
         b"listing: cannot read its input\n",
     );
-    io::write_all(2, said);
+    let _ = Print::write_all(&rt.stderr(), said);
 }

@@ -13,7 +13,7 @@ ghost use Rattle.stream.specs.code.Sessions.{Standing, kept_by};
 use lines::{ANSWER_MOST, LINE_MOST};
 
 // What is kept between two pieces: whether a `set` was taken, the bytes of the line that have come, and the state.
-#[derive(Drop)]
+#[derive(Clone, Copy)]
 pub struct Session {
     begun: bool,
     size: usize,
@@ -44,9 +44,9 @@ struct Place {
 // Ends a line: its answer goes behind the output that waits.
 fn end_line(line: &[u8], state: &mut [u8], begun: bool, out: &mut [u8], filled: usize) -> Place
     requires { filled + answer_most ≤ length out.old }
-    ensures* { λ r. ⌜ (let result : LineResult = line_result line.now begun state.old in
-        (r.begun ≡ result.begun) × (r.size ≡ 0) × (r.filled ≡ filled + length result.text) × (r.filled ≤ filled + answer_most)
-        × (state.new ≡ result.state) × (out.new ≡ put filled result.text out.old)) ⌝ }
+    ensures { (let answer : LineResult = line_result line.now begun state.old in
+        (result.begun ≡ answer.begun) × (result.size ≡ 0) × (result.filled ≡ filled + length answer.text) × (result.filled ≤ filled + answer_most)
+        × (state.new ≡ answer.state) × (out.new ≡ put filled answer.text out.old)) }
 {
     let mut answer = [0u8; ANSWER_MOST];
     let got = lines::answer(line, state, begun, &mut answer);
@@ -114,7 +114,7 @@ fn feed(
 }
 
 // A session, and how many bytes the last piece printed.
-#[derive(Drop)]
+#[derive(Clone, Copy)]
 pub struct Fed {
     pub session: Session,
     pub filled: usize,
