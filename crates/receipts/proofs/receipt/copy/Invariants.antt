@@ -1,0 +1,13 @@
+-- `receipts::receipt::copy` meets its contract. Invariant: the bytes that are still to be stored make of the list what all of them make of the first
+-- one. Measure: the bytes still to copy.
+use Prim.Native.Nat.{◌-◌, ◌≤◌}
+use mathlib.Core.Path.{◌≡◌}
+use lib.ListN.{length, drop}
+use lib.Seq.{sets}
+use Rattle.receipts.proofs.receipt.copy.Given as goal
+
+abbrev pub invariant-loop-i : goal.invariant-loop-i
+invariant-loop-i l = (l.i ≤ length l.p) × (length l.out ≡ length l.initial.out) × (sets l.out l.i (drop l.i l.p) ≡ sets l.initial.out 0 l.p)
+
+abbrev pub decreases-loop-i : goal.decreases-loop-i
+decreases-loop-i l = length l.p - l.i
