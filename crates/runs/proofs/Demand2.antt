@@ -8,7 +8,7 @@ use mathlib.Core.Bool.{true}
 use mathlib.Core.List.{List, [], ◌∷◌}
 use native.Mathlib.Omega.{arith}
 use borrow.Author.Tests.{le-ltb}
-use lib.Dec.{T, ltb, lt→ltb}
+use lib.Dec.{T, lt→ltb}
 use lib.ListN.{length, take}
 use Rattle.numbers.specs.Numbers.{num, bytes}
 use Rattle.numbers.proofs.NumberLaws.{take_put}
