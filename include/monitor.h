@@ -91,7 +91,7 @@ extern "C" {
  *  measured (getauxval(AT_MINSIGSTKSZ) tells; with wider registers it is more): there 10,240 bytes do not suffice for receiving, and 16,384
  *  suffice for every call. */
 #define MONITOR_STACK_SET_UP 64
-#define MONITOR_STACK_AGE 320
+#define MONITOR_STACK_AGE 256
 #define MONITOR_STACK_RECEIVE 9472
 #define MONITOR_STACK_RECEIVE_WITH_READINGS 9536
 #define MONITOR_STACK_WRITE 640

@@ -24,7 +24,7 @@ as_marked() {
 # stated CRATE: what the calls of a crate are given, ask and promise, a line for each
 stated() {
     awk '/^pub (extern "C" )?fn monitor_/ { text = ""; on = 1 }
-        on && /^\{/ { print text; on = 0 }
+        on && /^\{/ { gsub(/\( +/, "(", text); gsub(/, *\)/, ")", text); print text; on = 0 }
         on { sub(/extern "C" /, ""); sub(/^ +/, ""); text = text " " $0 }' "crates/$1/src"/*.rt | sort
 }
 same_stated() {
