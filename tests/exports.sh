@@ -50,6 +50,8 @@ weakened() {
         edited crates/monitor/src/calls.rt 'fn monitor_write(state: &[u8], position: u64, message: &mut [u8]) -> u32' \
             'fn monitor_write(state: &[u8], position: u64, message: &mut [u8]) -> u32 requires { position < 16 }' &&
         edited crates/monitor/src/receive.rt 'state.new ≡ receive_state state.old (receipt_of least greatest message.now)' 'state.new ≡ state.new' || return 1
+    (cd "$copy/crates/monitor" && rt check) >"$scratch/weakened_monitor" 2>&1
+    grep -q '^logic=proved' "$scratch/weakened_monitor" || { cat "$scratch/weakened_monitor" && return 1; }
     for crate in callers monitor_c; do
         (cd "$copy/crates/$crate" && rt check) >"$scratch/weakened_$crate" 2>&1
         cat "$scratch/weakened_$crate"

@@ -26,7 +26,7 @@ use Rattle.predicates.specs.Lists.{all, In}
 use Rattle.predicates.specs.Predicates.{holds}
 use Rattle.predicates.specs.code.Marks.{singles}
 use Rattle.predicates.proofs.ListLaws.{split, keep_in, map_out, true_T, or_l, or_r, or_cases}
-use Rattle.predicates.proofs.IndexLaws.{get_d_map, at_in, in_at}
+use Rattle.predicates.proofs.IndexLaws.{get_or_map, at_in, in_at}
 use Rattle.predicates.proofs.LoopLaws.{drop_next}
 use Rattle.state.specs.Model.{Datum, Store, State, last_whole}
 use Rattle.state.specs.Layout.{held_count, entry_count, datum_at, head_of, store_of, state_of, own_at}
@@ -101,7 +101,7 @@ module _ (ds : List Datum) {lefts rights masks : List ℕ} (kept : InArrays ds l
       mask =
           e
           ∙ ap (λ (n : ℕ). shared n u)
-          (ap (λ (l : List ℕ). get_or l i 0) kept.masks_are ∙ get_d_map (λ (d : Datum). singles d.terms) ds (entry_claim []) 0 i inside)
+          (ap (λ (l : List ℕ). get_or l i 0) kept.masks_are ∙ get_or_map (λ (d : Datum). singles d.terms) ds (entry_claim []) 0 i inside)
 
       pub span-take : x ≡ 0 → (a b : ℕ) → a ≡ max left (get_or lefts i 0) → b ≡ min right (get_or rights i 0) → Spanning ds u (i + 1) a b
       unfolding active greatest_left least_right
@@ -250,7 +250,7 @@ module _ (s : List ℕ) (form : T (in_form s)) where
   keyed_at : (i : ℕ) → i < held_count s → get_or (keyed s).held i (entry_claim []) ≡ map_ends (key_of s) (datum_at s i)
   unfolding keyed mapped store_of
   keyed_at i h =
-      get_d_map (map_ends (key_of s)) (tab (held_count s) (datum_at s)) (entry_claim []) (entry_claim []) i (rw length-tab h)
+      get_or_map (map_ends (key_of s)) (tab (held_count s) (datum_at s)) (entry_claim []) (entry_claim []) i (rw length-tab h)
       ∙ ap (map_ends (key_of s)) (get_or-tab (held_count s) i (datum_at s) (entry_claim []) h)
 
   keyed-count : length (keyed s).held ≡ held_count s
@@ -269,7 +269,7 @@ module _ (s : List ℕ) (form : T (in_form s)) where
       let place : n + i ≡ entry_count s + i = omega arith in
       let datum : claim_at k (n + i) ≡ datum_at s i = ap (claim_at k) place ∙ datum_claim s i inside in
       ap (λ (d : Datum). singles d.terms) datum
-      ∙ sym (get_d_map (λ (d : Datum). singles d.terms) (keyed s).held (entry_claim []) 0 i (omega (arith, keyed-count)) ∙ ap (λ (d : Datum). singles d.terms) (keyed_at i inside)))
+      ∙ sym (get_or_map (λ (d : Datum). singles d.terms) (keyed s).held (entry_claim []) 0 i (omega (arith, keyed-count)) ∙ ap (λ (d : Datum). singles d.terms) (keyed_at i inside)))
 
   -- the keys that are made of the bytes
   pub kept_in : (h : ℕ) (l₀ r₀ l r masks : List ℕ) → h ≡ held_count s → l ≡ tab h (claim_left (key_of s) s 0) ++ drop h l₀

@@ -22,7 +22,7 @@ use Rattle.ends.proofs.EndLaws.{count-whole, count_millionths}
 use Rattle.predicates.specs.Lists.{In}
 use Rattle.predicates.specs.Predicates.{holds}
 use Rattle.predicates.proofs.ListLaws.{cond_ind, true_T}
-use Rattle.predicates.proofs.IndexLaws.{get_d_map, in_at}
+use Rattle.predicates.proofs.IndexLaws.{get_or_map, in_at}
 use Rattle.state.specs.Model.{Datum, Store, end_limit, last_whole}
 use Rattle.state.specs.Layout.{zeros, datum_place, left_millionths_in, right_millionths_in, right_in, held_count, entry_count, datum_at, store_of, own_at}
 use Rattle.state.specs.Form.{in_form}
@@ -384,7 +384,7 @@ module _ (f : ℕ → ℕ) (k : Store) where
   mapped-datum : (j : ℕ) → j < length k.held → claim_at (mapped f k) (n + j) ≡ map_ends f (claim_at k (n + j))
   unfolding mapped
   mapped-datum j h =
-      claim_datum (mapped f k) j ∙ get_d_map (map_ends f) k.held (entry_claim []) (entry_claim []) j h ∙ ap (map_ends f) (sym (claim_datum k j))
+      claim_datum (mapped f k) j ∙ get_or_map (map_ends f) k.held (entry_claim []) (entry_claim []) j h ∙ ap (map_ends f) (sym (claim_datum k j))
 
   mapped-terms : (i : ℕ) → i < n + length k.held → (claim_at (mapped f k) i).terms ≡ (claim_at k i).terms
   mapped-terms i h = go (dec_lt i n)

@@ -12,7 +12,7 @@ use Rattle.names.specs.Sets.{set_union, has}
 use Rattle.names.proofs.SetLaws.{has-empty, has_mono, has-union-none, union_left, union_right}
 use Rattle.predicates.specs.Lists.{all}
 use Rattle.predicates.proofs.ListLaws.{both, both_l, both_r, true_T, T_true, T_false, cond_ind}
-use Rattle.predicates.proofs.IndexLaws.{all_get_d}
+use Rattle.predicates.proofs.IndexLaws.{all_get_or}
 use Rattle.epochs.specs.Epochs.{epoch_most, epochs_most, raised, NotAbove, spoken}
 use Rattle.epochs.specs.code.Known.{Named}
 use Rattle.epochs.proofs.EpochLaws.{length-raised, get_or-raised, length-spoken, spoken_le, spoken-own, raised-same, risen-none}
@@ -52,7 +52,7 @@ module _ (r : ℕ) (cs : List Saved) where
   unfolding cleared saved_ok
   cleared_ok h =
       all-tab saved_ok (length cs) (λ n. cond (has n r) nothing (get_or cs n nothing))
-      (λ n l. cond_ind (λ v. T (saved_ok v)) (has n r) nothing (get_or cs n nothing) (λ _. tt) (λ _. all_get_d saved_ok cs n nothing h l))
+      (λ n l. cond_ind (λ v. T (saved_ok v)) (has n r) nothing (get_or cs n nothing) (λ _. tt) (λ _. all_get_or saved_ok cs n nothing h l))
 
 -- where nobody has risen
 pub cleared-none : (cs : List Saved) → cleared 0 cs ≡ cs

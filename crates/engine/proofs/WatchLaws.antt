@@ -9,7 +9,7 @@ use lib.ListN.{length, get_or, set, length-set}
 use Rattle.numbers.specs.Numbers.{num, put, Bytes}
 use Rattle.predicates.specs.Lists.{all}
 use Rattle.predicates.proofs.ListLaws.{both, both_l, both_r}
-use Rattle.predicates.proofs.IndexLaws.{all_get_d}
+use Rattle.predicates.proofs.IndexLaws.{all_get_or}
 use Rattle.clocks.specs.declared.Triple.{Triple}
 use Rattle.clocks.specs.declared.Readings.{Readings}
 use Rattle.clocks.specs.declared.Readings.TheVariants.{Without, With}
@@ -37,7 +37,7 @@ pub watched_ok : (r : Readings) (sender : ℕ) (cs : List Saved) → T (not (rea
 unfolding readings_fail watched
 watched_ok Without sender cs h l a = a
 watched_ok (With t drift) sender cs h l a =
-    all_set saved_ok cs sender _ a (saving_ok (get_or cs sender nothing) t (all_get_d saved_ok cs sender nothing a l) (fails-small t drift h).0)
+    all_set saved_ok cs sender _ a (saving_ok (get_or cs sender nothing) t (all_get_or saved_ok cs sender nothing a l) (fails-small t drift h).0)
 
 -- without readings
 pub watched-none : (r : Readings) (sender : ℕ) (cs : List Saved) → r ≡ Without → watched r sender cs ≡ cs

@@ -1,6 +1,10 @@
 -- What the program makes of the calls of the system: `read` and `write` return how many bytes they moved, or a negative number where they failed, and
 -- an error number says why. Assumes nothing: these are definitions.
-use Rattle.std.specs.Prelude.{ℕ, ◌-◌, ◌^◌, Bool, true, false, ◌&&◌, ◌||◌, eqb, ltb, ℤ, pos, negsuc}
+use Rattle.std.specs.Prelude.{ℕ, ◌-◌, ◌^◌, Bool, true, false, ◌&&◌, ◌||◌, None, Some, eqb, ltb, ℤ, pos, negsuc}
+use Rattle.std.specs.IoError.{raw_os_error, error_kind}
+use Rattle.std.specs.declared.io.Error.{Error}
+use Rattle.std.specs.declared.io.ErrorKind.{ErrorKind}
+use Rattle.std.specs.declared.io.ErrorKind.TheVariants.{Interrupted, WouldBlock}
 use Rattle.listing.specs.declared.system.Call.{Call}
 
 -- ---- what was returned
@@ -24,6 +28,16 @@ is_failure (negsuc n) = true
 abbrev pub is_passing : ℤ → Bool
 is_passing (pos n) = eqb n 4 || eqb n 11
 is_passing (negsuc n) = false
+
+-- the number that a kind of error stands for where the program asks for it, and else 0
+abbrev pub number_of_kind : ErrorKind → ℤ
+number_of_kind Interrupted = pos 4
+number_of_kind WouldBlock = pos 11
+number_of_kind _ = pos 0
+
+-- the number of an error: the system's own, or for an error that has none the number of its kind
+abbrev pub error_number : Error → ℤ
+error_number e = elim (raw_os_error e) [ None ↦ number_of_kind (error_kind e) | Some n ↦ n ]
 
 -- a call that returned this, with this error number, may go well the next time
 abbrev pub tries_again : ℤ → ℤ → Bool

@@ -1,8 +1,7 @@
 // Reading and writing. `next_read` alone reads, `next_write` alone writes, and each hands on what the system returned as a call, which only this
 // module can make and look into. What follows from a call is decided by functions whose contracts give the answer by a definition.
-ghost use Rattle.std.specs.Prelude.{◌≡◌, not, ◌≤◌, ◌<◌, T, ltb, length, drop, IfSome};
-ghost use Rattle.std.specs.IoError.{raw_os_error};
-ghost use Rattle.listing.specs.System.{moved_by, is_end, is_failure, tries_again, tries_most, is_repeated, goes_on};
+ghost use Rattle.std.specs.Prelude.{◌≡◌, not, ◌≤◌, ◌<◌, T, ltb, length, drop};
+ghost use Rattle.listing.specs.System.{moved_by, is_end, is_failure, number_of_kind, error_number, tries_again, tries_most, is_repeated, goes_on};
 ghost use Rattle.listing.specs.code.Calls.{no_call, call_after};
 
 use std::io::{Error, ErrorKind, Read, Write};
@@ -98,8 +97,8 @@ fn call_after(last: Call, got: isize, error: i32) -> Call
 }
 
 // The number of an error: the system's own, or for an error that has none the number that its kind stands for.
-fn number_of(error: Error) -> i32
-    ensures { IfSome (raw_os_error error) (λ n. result ≡ n) }
+fn error_number(error: Error) -> i32
+    ensures { result ≡ error_number error }
 {
     match error.raw_os_error() {
         Some(n) => n,
@@ -108,7 +107,9 @@ fn number_of(error: Error) -> i32
 }
 
 // The number that a kind of error stands for where the program asks for it, and else 0.
-fn number_of_kind(kind: ErrorKind) -> i32 {
+fn number_of_kind(kind: ErrorKind) -> i32
+    ensures { result ≡ number_of_kind kind }
+{
     match kind {
         ErrorKind::Interrupted => EINTR,
         ErrorKind::WouldBlock => EAGAIN,
@@ -127,7 +128,7 @@ fn next_read<R: Read>(reader: &mut R, input: &mut [u8], last: Call) -> Call
     }
     match reader.read(input) {
         Ok(n) => call_after(last, n as isize, 0),
-        Err(error) => call_after(last, -1, number_of(error)),
+        Err(error) => call_after(last, -1, error_number(error)),
     }
 }
 
@@ -153,7 +154,7 @@ fn next_write<W: Write>(writer: &mut W, text: &[u8], last: Call) -> Call
     }
     match writer.write(text) {
         Ok(n) => call_after(last, n as isize, 0),
-        Err(error) => call_after(last, -1, number_of(error)),
+        Err(error) => call_after(last, -1, error_number(error)),
     }
 }
 

@@ -30,10 +30,10 @@ module _ {A : Type 0} where
   all_replicate f zero x t = tt
   all_replicate f (suc n) x t = both (f x) (all f (replicate n x)) t (all_replicate f n x t)
 
-  pub all_get_d : (f : A → Bool) (l : List A) (i : ℕ) (d : A) → T (all f l) → i < length l → T (f (get_or l i d))
-  all_get_d f [] i d t h = absurd (omega arith)
-  all_get_d f (x ∷ l) zero d t h = both_l (f x) (all f l) t
-  all_get_d f (x ∷ l) (suc i) d t h = all_get_d f l i d (both_r (f x) (all f l) t) (omega arith)
+  pub all_get_or : (f : A → Bool) (l : List A) (i : ℕ) (d : A) → T (all f l) → i < length l → T (f (get_or l i d))
+  all_get_or f [] i d t h = absurd (omega arith)
+  all_get_or f (x ∷ l) zero d t h = both_l (f x) (all f l) t
+  all_get_or f (x ∷ l) (suc i) d t h = all_get_or f l i d (both_r (f x) (all f l) t) (omega arith)
 
 -- ---- tests below a number
 
@@ -82,10 +82,10 @@ at_in [] d j h = absurd (omega arith)
 at_in (x ∷ l) d zero h = inl refl
 at_in (x ∷ l) d (suc j) h = inr (at_in l d j (omega arith))
 
-pub get_d_map : {A B : Type 0} (f : A → B) (l : List A) (a : A) (b : B) (j : ℕ) → j < length l → get_or (map f l) j b ≡ f (get_or l j a)
-get_d_map f [] a b j h = absurd (omega arith)
-get_d_map f (x ∷ l) a b zero h = refl
-get_d_map f (x ∷ l) a b (suc j) h = get_d_map f l a b j (omega arith)
+pub get_or_map : {A B : Type 0} (f : A → B) (l : List A) (a : A) (b : B) (j : ℕ) → j < length l → get_or (map f l) j b ≡ f (get_or l j a)
+get_or_map f [] a b j h = absurd (omega arith)
+get_or_map f (x ∷ l) a b zero h = refl
+get_or_map f (x ∷ l) a b (suc j) h = get_or_map f l a b j (omega arith)
 
 pub in_at : {A : Type 0} (l : List A) (d a : A) → In a l → (j : ℕ) × (j < length l) × (a ≡ get_or l j d)
 in_at [] d a m = absurd m

@@ -8,7 +8,7 @@ use lib.Dec.{T, ltb, ltb→lt}
 use lib.ListN.{length, get_or}
 use Rattle.predicates.specs.Lists.{all}
 use Rattle.predicates.proofs.ListLaws.{both_l, both_r}
-use Rattle.predicates.proofs.IndexLaws.{all_get_d, at_in}
+use Rattle.predicates.proofs.IndexLaws.{all_get_or, at_in}
 use Rattle.message.specs.Words.{masks}
 use Rattle.message.specs.Read.{term_words}
 use Rattle.message.proofs.MessageLaws.{masks_lt}
@@ -26,7 +26,7 @@ rises_at [] t i j h k = absurd (omega (arith, k))
 rises_at (w ∷ ws) t i zero h k = absurd (omega (arith, h))
 rises_at (w ∷ ws) t zero (suc j) h k =
     ltb→lt (identifier_of w) (identifier_of (get_or ws j 0))
-    (all_get_d (λ v. ltb (identifier_of w) (identifier_of v)) ws j 0 (both_l (all (λ v. ltb (identifier_of w) (identifier_of v)) ws) _ t) (omega (arith, k)))
+    (all_get_or (λ v. ltb (identifier_of w) (identifier_of v)) ws j 0 (both_l (all (λ v. ltb (identifier_of w) (identifier_of v)) ws) _ t) (omega (arith, k)))
 rises_at (w ∷ ws) t (suc i) (suc j) h k =
     rises_at ws (both_r (all (λ v. ltb (identifier_of w) (identifier_of v)) ws) (rises ws) t) i j (omega (arith, h)) (omega (arith, k))
 
@@ -36,7 +36,7 @@ heard-names {ends} {ws} {s} {l} {r} {n} live =
     let terms = masks (term_words (Message s l r n) ws) in
     let fit : T (names_fit (wanted s terms) names) = rw (epochs_part live, terms-middle live) live.fit in
     record {
-      small = λ i h. ltb→lt (get_or names i 0) name_limit (all_get_d (λ w. ltb w name_limit) names i 0 (epochs-below live) h);
+      small = λ i h. ltb→lt (get_or names i 0) name_limit (all_get_or (λ w. ltb w name_limit) names i 0 (epochs-below live) h);
       few = λ i h.
           fit_identifier (wanted s terms) names fit (wanted_lt s terms live.taken.sender_le (masks_lt (term_words (Message s l r n) ws)))
           (get_or names i 0) (at_in names 0 i h);

@@ -21,7 +21,7 @@ use Rattle.state.specs.Layout.{joined}
 use Rattle.state.specs.Form.{datum_ok, state_ok}
 use Rattle.state.proofs.StateLaws.{state_out}
 use Rattle.state.proofs.LayoutLaws.{At, at_joined, length-joined, num_at}
-use Rattle.predicates.proofs.IndexLaws.{all_get_d}
+use Rattle.predicates.proofs.IndexLaws.{all_get_or}
 use Rattle.state.proofs.OkLaws.{ok_datum_out}
 use Rattle.asking.specs.declared.Answer.{Answer}
 use Rattle.asking.specs.declared.Answer.TheVariants.{Contradicted, Open, Between}
@@ -56,7 +56,7 @@ unfolding wide
 wide-num ns out t h i k =
     let vs = joined (bytes 8) ns in
     let front : At 0 vs (put 0 vs out) = (drop (length ns * 8) out, put_front (length ns * 8) vs out (length-wide ns t) h) in
-    num_at 8 (i * 8) (get_or ns i 0) (put 0 vs out) (ltb→lt _ (256 ^ 8) (all_get_d Small ns i 0 t k))
+    num_at 8 (i * 8) (get_or ns i 0) (put 0 vs out) (ltb→lt _ (256 ^ 8) (all_get_or Small ns i 0 t k))
     (rw zero-add at (at_joined (bytes 8) Small 8 sized 0 0 i ns (put 0 vs out) t k front))
 
 -- so they are what the output shows

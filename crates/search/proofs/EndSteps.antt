@@ -22,7 +22,7 @@ use Rattle.search.specs.code.Search.{Rows, row_width, Best, Trying, RowsFit, row
 use Rattle.search.specs.code.LeftEnds.{outside, no_end, Next, Last, Latest, Ready, needs}
 use Rattle.search.proofs.SearchLaws.{best-done}
 use Rattle.search.proofs.SearchSteps.{rest_next, pred_part, trying_on}
-use Rattle.predicates.proofs.IndexLaws.{at_in, get_d_map, kept_pass, kept-take, in_take}
+use Rattle.predicates.proofs.IndexLaws.{at_in, get_or_map, kept_pass, kept-take, in_take}
 
 -- ---- the next end
 
@@ -208,7 +208,7 @@ module _ (n rows : ℕ) (lefts rights : List ℕ) (table : Rows) (order l₀ l :
   unfolding preds pred_at
   kept-preds =
       tab_ext [] m (λ j. row_terms table (get_or l j 0)) (map (row_terms table) kept) (length-map kept (row_terms table) ∙ sym count)
-      (λ j h. ap (row_terms table) (kept_at j h) ∙ sym (get_d_map (row_terms table) kept 0 [] j (omega (arith, count))))
+      (λ j h. ap (row_terms table) (kept_at j h) ∙ sym (get_or_map (row_terms table) kept 0 [] j (omega (arith, count))))
 
 -- what lacks an instant
 module _ (n rows : ℕ) (lefts rights : List ℕ) (table : Rows) (order l₀ l : List ℕ) (ready : Ready n rows lefts rights table order) (long : rows ≤ length l₀)

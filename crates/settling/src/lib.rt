@@ -141,8 +141,8 @@ pub fn settle(
         × DataLeft rows.held (columns lefts.old rights.old held.old terms.old) c) }
     ensures table_fits_2 { TableFits entry_terms result.known (table_from rows.known s.now counts.new masks.new)
         × EntriesStand s.now counts.new }
-    ensures masks_after { (let c : Columns = columns lefts.new rights.new held.exit.now terms.new in
-        let old : Columns = columns lefts.old rights.old held.entry.now terms.old in
+    ensures masks_after { (let c : Columns = columns lefts.new rights.new held.new terms.new in
+        let old : Columns = columns lefts.old rights.old held.old terms.old in
         store_in result.held c result.known (table_from rows.known s.now counts.new masks.new)
         ≡ settled (datum_of new p.now)
         (record { held = data_in rows.held old; entries = with_term blame (store_of s.now).entries })) }

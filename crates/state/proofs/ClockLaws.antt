@@ -11,7 +11,7 @@ use Rattle.numbers.specs.Numbers.{num, bytes, tab, Bytes}
 use Rattle.numbers.proofs.NumberLaws.{bytes-num, length-bytes, tab_ext}
 use Rattle.predicates.specs.Lists.{all, all_below}
 use Rattle.predicates.proofs.ListLaws.{both_l, both_r}
-use Rattle.predicates.proofs.IndexLaws.{all_get_d, below_in}
+use Rattle.predicates.proofs.IndexLaws.{all_get_or, below_in}
 use Rattle.clocks.specs.declared.Triple.{Triple}
 use Rattle.clocks.specs.Clocks.{small, Saved, nothing, three, saved_ok}
 use Rattle.clocks.specs.Places.{place_size, previous_in, ahead_in, behind_in, triple_bytes, saved_bytes, triple_at, three_at, saved_at, blank, blank_at, place_fits}
@@ -162,5 +162,5 @@ clocks_in cs s e t k = (
     each : (i : ℕ) → i < clocks_most → (saved_at (clock_place i) s ≡ get_or cs i nothing) × T (place_fits (clock_place i) s)
     each i l =
         let near : i < length cs = omega arith in
-        saved_in (clock_place i) (get_or cs i nothing) s (all_get_d saved_ok cs i nothing t near)
+        saved_in (clock_place i) (get_or cs i nothing) s (all_get_or saved_ok cs i nothing t near)
         (at_joined saved_bytes saved_ok place_size (λ v _. length-saved v) nothing clocks_at i cs s t near k)

@@ -24,7 +24,7 @@ use Rattle.state.specs.Model.{Datum, last_whole, end_limit}
 use Rattle.state.specs.code.Tables.{ends_at}
 use Rattle.state.specs.Layout.{zeros, joined, row_bytes, datum_bytes, entry_bytes, masks_at, row_at, datum_at, entry_at, datum_place, entry_place, datum_terms, entry_terms, row_in}
 use Rattle.state.specs.Form.{term_fits, terms_fit, is_zero, row_fits, datum_fits, entry_fits, datum_ok}
-use Rattle.predicates.proofs.IndexLaws.{all_mono, all_append, all_replicate, all_get_d, below_in}
+use Rattle.predicates.proofs.IndexLaws.{all_mono, all_append, all_replicate, all_get_or, below_in}
 use Rattle.state.proofs.LayoutLaws.{all_zero, part, length_part, part_add, slice_part, At, at_first_lem, at_then, at_part, num_at, bytes_of-joined, joined-tab, length-joined, at_joined, length-padded, length-row, length-datum, length_entry}
 use Rattle.names.specs.Sets.{no_set}
 
@@ -71,7 +71,7 @@ module _ {A : Type 0} (f : A → List ℕ) (size cap at : ℕ) where
         (d : A) (k : At at (joined f xs ++ zeros ((cap - length xs) * size)) s) where
       place : (i : ℕ) → i < length xs → (g i ≡ get_or xs i d) × T (test i)
       place i l =
-          each i (get_or xs i d) (all_get_d p xs i d t l) (at_joined f p size sized d at i xs s t l (at_first_lem at (joined f xs) _ s k))
+          each i (get_or xs i d) (all_get_or p xs i d t l) (at_joined f p size sized d at i xs s t l (at_first_lem at (joined f xs) _ s k))
 
       pub places_in : (tab (length xs) g ≡ xs) × T (all_below (length xs) test && is_zero (at + length xs * size) (at + cap * size) s)
       places_in = (
@@ -112,7 +112,7 @@ module _ (own width at : ℕ) (p s : List ℕ) (w : width ≤ 16) (t : T (terms_
       rw bytes_of-joined at (at_then 4 at (bytes 4 (length p)) (bytes_of ws) s (length-bytes 4 (length p)) h) in
       let long = length-padded width p (fits_le own width p t) in
       tab_ext 0 width _ ws long
-      (λ j k. num_at 4 (at + 4 + j * 4) (get_or ws j 0) s (ltb→lt (get_or ws j 0) (2 ^ 32) (all_get_d is_word ws j 0 each (omega arith)))
+      (λ j k. num_at 4 (at + 4 + j * 4) (get_or ws j 0) s (ltb→lt (get_or ws j 0) (2 ^ 32) (all_get_or is_word ws j 0 each (omega arith)))
       (at_joined (bytes 4) is_word 4 (λ v _. length-bytes 4 v) 0 (at + 4) j ws s each (omega arith) here))
 
   pub row_read : row_at width at s ≡ p
