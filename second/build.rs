@@ -1,5 +1,5 @@
 //! Says where the archive is: in `MONITOR_LIB_DIR`, or where `./archive` writes it. For the
-//! benchmark alone it compiles the C by hand, hand/hand.c, with gcc.
+//! program `table` alone it compiles the C by hand, hand/hand.c, with gcc.
 
 use std::env;
 use std::path::{Path, PathBuf};
@@ -19,7 +19,7 @@ fn main() {
     println!("cargo:rustc-link-search=native={}", dir.display());
     println!("cargo:rustc-link-lib=static=monitor");
     let object = by_hand(&package);
-    println!("cargo:rustc-link-arg-bin=bench={}", object.display());
+    println!("cargo:rustc-link-arg-bin=table={}", object.display());
 }
 
 /// The object file of the C by hand.

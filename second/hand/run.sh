@@ -1,15 +1,14 @@
 #!/usr/bin/env bash
-# Compiles hand.c and compares it with the engine (target/staticlib/libmonitor.a) over seeded calls. `run.sh compare` takes seconds. How long the
-# calls take by both is a part of second's own benchmark (docs/speed.md).
+# Compiles hand.c, compares it with the engine (target/staticlib/libmonitor.a) and prints the table of times. `run.sh quick` takes seconds, and
+# `run.sh compare` does so and prints no table.
 set -euo pipefail
 cd "$(dirname "$0")/../.."
-rounds=()
-case ${1:-} in
-'') ;;
-compare) rounds=(15000) ;;
-*) echo 'usage: run.sh [compare]' >&2 && exit 2 ;;
-esac
+rounds=() batches=()
+case ${1:-} in quick | compare) rounds=(15000) batches=(101) ;; esac
 out=$(mktemp -d)
 trap 'rm -rf "$out"' EXIT
-gcc -std=c11 -O2 -Wall -Wextra -Werror -Iinclude second/hand/compare.c second/hand/hand.c target/staticlib/libmonitor.a -o "$out/compare"
+for program in compare bench; do
+    gcc -std=c11 -O2 -Wall -Wextra -Werror -Iinclude "second/hand/$program.c" second/hand/hand.c target/staticlib/libmonitor.a -o "$out/$program"
+done
 "$out/compare" "${rounds[@]}"
+if [ "${1:-}" != compare ]; then "$out/bench" "${batches[@]}"; fi

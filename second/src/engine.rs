@@ -1,5 +1,5 @@
 //! The engine's calls, each behind a safe function. No other file speaks C,
-//! but the benchmark's of the C by hand.
+//! but that of the program `table` for the C by hand.
 //!
 //! Lent slices do not overlap; `&` and `&mut` see to that. A test that leaves a call out links
 //! with an archive that does not have it.

@@ -45,6 +45,12 @@ impl Load {
     }
 }
 
+/// Messages with one epoch word, and with one for every identifier.
+pub fn with_fewest_and_most_epochs() -> [Vec<u8>; 2] {
+    let [(_, fewest), (_, most), ..] = by_epoch_words();
+    [fewest, most]
+}
+
 /// Messages with one epoch word, and with one for every identifier: without a term and with as many
 /// as there can be, and with one term.
 pub fn by_epoch_words() -> [(&'static str, Vec<u8>); 4] {

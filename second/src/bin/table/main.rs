@@ -4,9 +4,9 @@
 //! States are quiet, usual and full, and the dearest that hill climbing finds for each program.
 //! Each line has the median times of one call, all four timed in turn on the same states and
 //! messages, and the engine's time as a multiple of the others, marked `!` where it is above the
-//! goal. `bench all` has further states: each filling with triples saved of all 28 senders, and
-//! full ones whose terms are single names. `bench quick` takes seconds and has all lines too, which
-//! a test looks at. `bench engine CALL STATE` runs the engine alone in the states of one line for
+//! goal. `table all` has further states: each filling with triples saved of all 28 senders, and
+//! full ones whose terms are single names. `table quick` takes seconds and has all lines too, which
+//! a test looks at. `table engine CALL STATE` runs the engine alone in the states of one line for
 //! two seconds, to be watched from outside.
 
 use calls::{Call, Case, Run, ASK, FEWEST};
@@ -57,11 +57,11 @@ fn main() -> ExitCode {
         ["quick"] => print_table(&QUICK),
         ["engine", call, state] if run_engine(call, state) => {}
         ["engine", call, state] => {
-            eprintln!("bench: no line of '{call}' in '{state}' states");
+            eprintln!("table: no line of '{call}' in '{state}' states");
             return ExitCode::from(2);
         }
         _ => {
-            eprintln!("usage: bench [all | quick | engine CALL STATE]");
+            eprintln!("usage: table [all | quick | engine CALL STATE]");
             return ExitCode::from(2);
         }
     }
