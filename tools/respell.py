@@ -46,7 +46,7 @@ def read(path):
 
 
 def snake(part):
-    part = re.sub(r"(?<![A-Za-z])getD(?![A-Za-z])", "get_or", part)
+    part = re.sub(r"(?<![A-Za-z])get(D|_d)(?![A-Za-z])", "get_or", part)
     if re.match(r"[a-z]", part):
         part = re.sub(r"(?<=[a-z0-9])([A-Z])(?![A-Z])", lambda m: "_" + m.group(1).lower(), part)
     return part
