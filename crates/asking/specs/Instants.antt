@@ -8,8 +8,8 @@ use Rattle.state.specs.Model.{Datum, Store, State}
 use Rattle.asking.specs.declared.Answer.{Answer}
 use Rattle.asking.specs.declared.Answer.TheVariants.{Contradicted, Open, Between}
 
--- an instant is a whole count of millionths, as ends are (document 02, W-205): negative ones too. It is in the interval from l to r, whose ends are not
--- negative
+-- an instant is a whole count of millionths, as ends are (document 02, W-205): negative ones too. It is in the interval from l to r, whose ends are
+-- not negative
 abbrev pub Within : ℕ → ℕ → ℤ → Type 0
 Within l r (pos n) = (l ≤ n) × (n ≤ r)
 Within l r (negsuc n) = ⊥

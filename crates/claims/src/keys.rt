@@ -144,7 +144,8 @@ fn ranks(s: &[u8], n: usize, i: usize, parts: &[u32; PARTS_MOST]) -> Keys
 
 // Makes the keys of all claims by counts: of n entries, and then of the held data.
 fn put_counts(s: &[u8], n: usize, rows: usize, base: u64, lefts: &mut [u64], rights: &mut [u64])
-    requires state_size_in_bounds { (state_size ≤ length s.now) × T (in_form s.now) × (n ≤ entries_most) × (rows ≡ n + held_count s.now) × Counted s.now base }
+    requires state_size_in_bounds { (state_size ≤ length s.now) × T (in_form s.now) × (n ≤ entries_most)
+        × (rows ≡ n + held_count s.now) × Counted s.now base }
     requires rows_in_bounds { (rows ≤ length lefts.old) × (rows ≤ length rights.old) }
     ensures lefts_after { lefts.new ≡ tab rows (claim_left (key_of s.now) s.now n) ++ drop rows lefts.old }
     ensures rights_after { rights.new ≡ tab rows (claim_right (key_of s.now) s.now n) ++ drop rows rights.old }

@@ -1,7 +1,8 @@
 -- The sender's clock (document 02, W-201): test (20) of document 002 in whole numbers, and the three triples that are saved of a sender.
 -- A triple is (a, b, w): the sender's clock reading (`there`), the own one beside it (`here`), and a half width (`half`). Assumes nothing: these are
 -- definitions.
-use Rattle.std.specs.Prelude.{ℕ, ◌+◌, ◌*◌, ◌-◌, ◌^◌, ◌<◌, ◌≡◌, Bool, true, false, ◌&&◌, ◌||◌, not, cond, List, [], ◌∷◌, ◌++◌, T, leb, ltb, get_or, set}
+use Rattle.std.specs.Prelude.{ℕ, ◌+◌, ◌*◌, ◌-◌, ◌^◌, ◌<◌, ◌≡◌, Bool, true, false, ◌&&◌, ◌||◌}
+use Rattle.std.specs.Prelude.{not, cond, List, [], ◌∷◌, ◌++◌, T, leb, ltb, get_or, set}
 use Rattle.predicates.specs.Lists.{In}
 use Rattle.clocks.specs.declared.Triple.{Triple}
 use Rattle.clocks.specs.declared.Readings.{Readings}

@@ -1,5 +1,5 @@
--- The bytes of one sender's place (document 02, W-201): "29 places of 76 bytes by name: a 4-byte flag, 0, or 1 once saved, and the three triples in the
--- order named, each a, b, w in 8-byte numbers". Written, read, and in form. Assumes nothing: these are definitions.
+-- The bytes of one sender's place (document 02, W-201): "29 places of 76 bytes by name: a 4-byte flag, 0, or 1 once saved, and the three triples in
+-- the order named, each a, b, w in 8-byte numbers". Written, read, and in form. Assumes nothing: these are definitions.
 use Rattle.std.specs.Prelude.{ℕ, ◌+◌, Bool, ◌&&◌, cond, List, ◌++◌, replicate, eqb}
 use Rattle.numbers.specs.Numbers.{num, bytes}
 use Rattle.clocks.specs.declared.Triple.{Triple}

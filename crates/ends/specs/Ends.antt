@@ -1,5 +1,5 @@
--- Ends with their millionths (document 02, W-205): "Each end now keeps its millionths of a microsecond, 0 to 999,999". The model counts in millionths,
--- one number an end; code and bytes have two, the whole microseconds and the millionths. Assumes nothing: these are definitions.
+-- Ends with their millionths (document 02, W-205): "Each end now keeps its millionths of a microsecond, 0 to 999,999". The model counts in
+-- millionths, one number an end; code and bytes have two, the whole microseconds and the millionths. Assumes nothing: these are definitions.
 use Rattle.std.specs.Prelude.{ℕ, ◌+◌, ◌*◌, ◌/◌, ◌<◌}
 use Rattle.ends.specs.declared.End.{End}
 use Rattle.ends.specs.declared.Ends.{Ends}

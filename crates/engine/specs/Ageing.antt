@@ -3,8 +3,8 @@ use Rattle.std.specs.Prelude.{ℕ, ◌+◌, ◌*◌, ◌-◌, map}
 use Rattle.ends.specs.Ends.{million}
 use Rattle.state.specs.Model.{Datum, Head, Store}
 
--- "With drift r parts per million and d local microseconds passed, true time advances by at least" d × (1,000,000 − r) millionths of a microsecond: "an
--- advance is exact" (document 02, W-205)
+-- "With drift r parts per million and d local microseconds passed, true time advances by at least" d × (1,000,000 − r) millionths of a microsecond:
+-- "an advance is exact" (document 02, W-205)
 unfoldable pub least_advance : ℕ → ℕ → ℕ
 least_advance r d = d * (million - r)
 

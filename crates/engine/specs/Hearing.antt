@@ -1,5 +1,5 @@
--- The epochs that a receipt brings (document 02, W-204): which old names it withdraws, which it names late, and what it makes of the head. "Epochs are
--- heard first, also where the predicate is true". Assumes nothing: these are definitions.
+-- The epochs that a receipt brings (document 02, W-204): which old names it withdraws, which it names late, and what it makes of the head. "Epochs
+-- are heard first, also where the predicate is true". Assumes nothing: these are definitions.
 use Rattle.std.specs.Prelude.{ℕ, cond, List, length, get_or}
 use Rattle.numbers.specs.Numbers.{tab}
 use Rattle.names.specs.Sets.{has}

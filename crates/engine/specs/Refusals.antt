@@ -44,8 +44,8 @@ set_up_refusal u =
 abbrev pub goes_back : Head → ℕ → Bool
 goes_back h reading = ltb reading h.reading
 
--- "30 an end would pass 2^58 − 1": one of the datum's two ends, "with its fraction" (document 02, W-205), lies beyond it. Where left is at most right,
--- the right end decides, and the code tests no other (`ages_right` and `grows_right` of `proofs.EndLaws`)
+-- "30 an end would pass 2^58 − 1": one of the datum's two ends, "with its fraction" (document 02, W-205), lies beyond it. Where left is at most
+-- right, the right end decides, and the code tests no other (`ages_right` and `grows_right` of `proofs.EndLaws`)
 abbrev pub an_end_passes : Datum → Bool
 an_end_passes d = leb end_limit d.left || leb end_limit d.right
 

@@ -1,9 +1,9 @@
 // The listing (document 01, "A listing, complete"): a line of standard input is a command, and each is answered by a line. Input of any length is
 // read in pieces; what a piece prints is written before the next one is read, so that a person who types sees each answer.
 // No contract can say what is read or written. So the module `system` alone reads and writes, `count` counts what the system returned, and the
-// contracts tie these counts to the definitions and to the last calls: a read that failed taken for the input's end, output that is lost and not told,
-// a piece that is dropped or taken twice, a text that is not sent or sent twice, a start with something kept, an end before the input's end and a last
-// line that is passed over each make a count wrong.
+// contracts tie these counts to the definitions and to the last calls: a read that failed taken for the input's end, output that is lost and not
+// told, a piece that is dropped or taken twice, a text that is not sent or sent twice, a start with something kept, an end before the input's end and
+// a last line that is passed over each make a count wrong.
 #![tactic(auto)]
 
 ghost use Rattle.std.specs.Prelude.{◌≡◌, ◌||◌, List, ℕ, ◌+◌, ◌*◌, ◌≤◌, ◌<◌, T, leb, length, take};

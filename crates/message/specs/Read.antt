@@ -1,6 +1,7 @@
 -- Reading a message (document 01, "The radio message" and "Who can cause which refusal"): sender, ends and term count, or the first
 -- refusal of 10, 12, 11, 13 to 17. Assumes nothing: these are definitions.
-use Rattle.std.specs.Prelude.{ℕ, ◌+◌, ◌-◌, ◌*◌, ◌/◌, ◌%◌, Bool, cond, not, ◌&&◌, ◌||◌, List, [], length, take, drop, ◌==◌, nat_eq, nat_le, nat_lt, slice_index, slice_index_or}
+use Rattle.std.specs.Prelude.{ℕ, ◌+◌, ◌-◌, ◌*◌, ◌/◌, ◌%◌, Bool, cond, not, ◌&&◌, ◌||◌}
+use Rattle.std.specs.Prelude.{List, [], length, take, drop, ◌==◌, nat_eq, nat_le, nat_lt, slice_index, slice_index_or}
 use Rattle.std.proofs.Math.Seq.{slice}
 use Rattle.predicates.specs.Lists.{keep}
 use Rattle.predicates.specs.Predicates.{is_normal}

@@ -1,6 +1,6 @@
 // The static library for C: each export calls the function of `monitor` that has its name and states that function's clauses again, word for word
-// (tests/exports.sh compares them). Numbers and byte slices only: C hands in a slice as a pointer and a length, as include/monitor.h declares. No export
-// asks anything of its caller. Each returns the number of the refusal, 0 for taken, and a refusal leaves every lent byte as it was.
+// (tests/exports.sh compares them). Numbers and byte slices only: C hands in a slice as a pointer and a length, as include/monitor.h declares. No
+// export asks anything of its caller. Each returns the number of the refusal, 0 for taken, and a refusal leaves every lent byte as it was.
 #![tactic(auto)]
 
 ghost use Rattle.std.specs.Prelude.{◌≡◌};

@@ -1,5 +1,5 @@
-// What a taken receipt makes of the head (document 02, W-204): the clocks of risen identifiers are forgotten, their epochs raised, and the readings that
-// are heeded saved.
+// What a taken receipt makes of the head (document 02, W-204): the clocks of risen identifiers are forgotten, their epochs raised, and the readings
+// that are heeded saved.
 ghost use Rattle.std.specs.Prelude.{◌≡◌, not, ◌≤◌, T, length};
 ghost use Rattle.numbers.specs.Numbers.{put};
 ghost use Rattle.epochs.specs.Epochs.{older, spoken};

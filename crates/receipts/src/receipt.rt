@@ -138,7 +138,8 @@ fn take_risen(state: &mut [u8], new: Ends, p: &[u32], risen: u32, blame: u32) ->
 // sender's name becomes an entry, which implies p; else a true predicate adds nothing, and any other takes the four steps. Answers 0 or 32. Clocks
 // and epochs stay as they are.
 fn take(state: &mut [u8], readings: Readings, sender: u32, new: Ends, p: &[u32], risen: u32) -> u32
-    requires state_size_in_bounds { (state_size ≤ length state.old) × T (in_form state.old) × (sender ≤ name_most) × T (not (readings_fail readings)) }
+    requires state_size_in_bounds { (state_size ≤ length state.old) × T (in_form state.old) × (sender ≤ name_most)
+        × T (not (readings_fail readings)) }
     requires p_nonzero { (0 < length p.now) × (length p.now ≤ datum_terms) × T (is_normal p.now) × T (implies (2 ^ sender ∷ []) p.now)
         × BothSplit new }
     ensures result_value { (let violation : Bool =

@@ -1,7 +1,8 @@
 -- Demand 1: "The stamping program may hand in whatever bytes and numbers it has, a damaged state too; each call finishes, and bad input gets the
 -- refusal listed for it, with every lent buffer unchanged." One statement over every exported call and every input. That a call finishes is part of
 -- what its proof shows. A further call is a further line in each of the definitions over `Exported`. Assumes nothing: these are definitions.
-use Rattle.std.specs.Prelude.{ℕ, ◌+◌, ◌*◌, ◌%◌, ◌≤◌, ◌≡◌, Bool, false, not, cond, ◌||◌, List, [], ◌∷◌, ◌++◌, map, length, get_or, take, drop, T, ltb, leb, eqb}
+use Rattle.std.specs.Prelude.{ℕ, ◌+◌, ◌*◌, ◌%◌, ◌≤◌, ◌≡◌, Bool, false, not, cond, ◌||◌, List}
+use Rattle.std.specs.Prelude.{[], ◌∷◌, ◌++◌, map, length, get_or, take, drop, T, ltb, leb, eqb}
 use Rattle.numbers.specs.Numbers.{Bytes, num, words_of}
 use Rattle.predicates.specs.Predicates.{is_true, is_normal}
 use Rattle.epochs.specs.Epochs.{NotAbove, epochs_in}
@@ -19,7 +20,8 @@ use Rattle.state.specs.Refusal.{refuse}
 use Rattle.engine.specs.Receiving.{Delivery}
 use Rattle.engine.specs.Hearing.{spoken_by, arrived}
 use Rattle.engine.specs.Calls.{Setup}
-use Rattle.engine.specs.Refusals.{own_fails, epoch_fails, drift_fails, reading_fails, goes_back, ages_past, delays_fail, from_self, grows_past, terms_fail, overfills}
+use Rattle.engine.specs.Refusals.{own_fails, epoch_fails, drift_fails, reading_fails, goes_back, ages_past}
+use Rattle.engine.specs.Refusals.{delays_fail, from_self, grows_past, terms_fail, overfills}
 use Rattle.monitor.specs.Messages.{read_number, read_output, rewrite_number, rewrite_output}
 use Rattle.monitor.specs.Calls.{set_up_number, set_up_state, age_number, age_state, no_datum_at, write_number, write_output}
 use Rattle.monitor.specs.Receive.{Receipt, receipt_of, receipt_with, Delivered, refused, brings, delivered, receive_number, receive_state}
@@ -132,9 +134,10 @@ ends_fail ws =
     let half = payload (get_or ws (at + 2) 0) in
     cond (is_ends at ws) (ltb (pair ws (at + 2)) (pair ws at)) (ltb (pair ws at) half || leb ends_limit (pair ws at + half))
 
--- the words of a message: "10 word count outside" 6 to 43; "11 second word neither kind 2 nor 4", which is the one behind the epoch words; 12 head not of kind 1, sender above 28, term count
--- above 8 or bits 10–28 not zero; 13 word count not that of head and form; 14 a later word of the wrong kind; 15 check word; 16 left above right, or
--- an end below 0 or above 2^58 − 1; 17 terms not in normal form"; "42 epoch words missing, unordered, too many or ill formed"
+-- the words of a message: "10 word count outside" 6 to 43; "11 second word neither kind 2 nor 4", which is the one behind the epoch words; 12 head
+-- not of kind 1, sender above 28, term count above 8 or bits 10–28 not zero; 13 word count not that of head and form; 14 a later word of the wrong
+-- kind; 15 check word; 16 left above right, or an end below 0 or above 2^58 − 1; 17 terms not in normal form"; "42 epoch words missing, unordered,
+-- too many or ill formed"
 abbrev pub word_tests : List ℕ → List ℕ → List Test
 word_tests m ws =
     test (words_fail m) 10
@@ -173,7 +176,8 @@ receipt_tests s g = message_tests g.message ++ delivery_tests (state_of s) (deli
 
 -- ---- what a taken call may write
 
--- how many bytes a message in ends form with so many epoch words and terms has: head, epoch words, four words of the ends, the terms and the check word
+-- how many bytes a message in ends form with so many epoch words and terms has: head, epoch words, four words of the ends, the terms and the check
+-- word
 abbrev pub ends_form_size : ℕ → ℕ → ℕ
 ends_form_size names terms = 4 * (6 + names + terms)
 

@@ -13,7 +13,8 @@ use Rattle.monitor.specs.Calls.{set_up_number}
 use Rattle.runs.specs.Book.{Request, ageing, Step, Line, advanced, heard, blames, opened}
 use Rattle.runs.specs.Runs.{bytes_run, Run, state_after, steps_of, book, taken_of, Further}
 use Rattle.runs.specs.Orders.{NoneRefused, OneBatch}
-use Rattle.runs.specs.Cases.{usual, steady, get, said, hear, hear_named, mended, tick, whole, eight_terms, one_order, other_order, held_one, held_other}
+use Rattle.runs.specs.Cases.{usual, steady, get, said, hear, hear_named, mended}
+use Rattle.runs.specs.Cases.{tick, whole, eight_terms, one_order, other_order, held_one, held_other}
 
 -- monitor 5, drift 100, reading 1,000,000, epoch 3
 abbrev pub example_setup : Setup

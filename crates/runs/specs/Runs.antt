@@ -151,8 +151,8 @@ AgedOnce = (s : List ℕ) (t u : ℕ) → AgesOnce s t u
 
 -- ---- set by set
 
--- the law under it: for every set of current names, of any size, the instants that the state leaves it are those on which the book's paths agreeing with it
--- end
+-- the law under it: for every set of current names, of any size, the instants that the state leaves it are those on which the book's paths agreeing
+-- with it end
 unfoldable pub SetBySet : Type 0
 SetBySet = (r : Run) (s : ℕ) (x : ℤ) → Fine s (store_of (state_after r)) x ↔ EndsOn (sees (book r).head.epochs s) (book r).lines x
 

@@ -13,7 +13,8 @@ use Rattle.clocks.specs.Clocks.{saved_ok}
 use Rattle.clocks.specs.Places.{place_fits}
 use Rattle.state.specs.Model.{Datum, Head, Store, State, name_most, end_limit, reading_limit}
 use Rattle.clocks.specs.Clocks.{drift_most}
-use Rattle.state.specs.Layout.{own_at, drift_at, reading_at, row_in, left_millionths_in, right_millionths_in, data_most, datum_terms, entries_most, entry_terms}
+use Rattle.state.specs.Layout.{own_at, drift_at, reading_at, row_in, left_millionths_in}
+use Rattle.state.specs.Layout.{right_millionths_in, data_most, datum_terms, entries_most, entry_terms}
 use Rattle.state.specs.Layout.{datum_place, entry_place, masks_at, row_at, datum_at, held_count, entry_count, clocks_most, clock_place, epochs_at}
 
 -- ---- terms and predicates

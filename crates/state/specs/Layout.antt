@@ -1,5 +1,5 @@
--- The 5,393 bytes of a state (document 01, "State bytes", and document 02's later parts), both ways: `state_bytes` writes a state, `state_of` reads one.
--- Assumes nothing: these are definitions.
+-- The 5,393 bytes of a state (document 01, "State bytes", and document 02's later parts), both ways: `state_bytes` writes a state, `state_of` reads
+-- one. Assumes nothing: these are definitions.
 use Rattle.std.specs.Prelude.{ℕ, ◌+◌, ◌*◌, ◌-◌, ◌/◌, ◌%◌, List, [], ◌∷◌, ◌++◌, length, take, replicate}
 use Rattle.numbers.specs.Numbers.{num, bytes, bytes_of, tab}
 use Rattle.predicates.specs.Lists.{padded}

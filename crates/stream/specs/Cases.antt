@@ -17,8 +17,8 @@ input_case input prints = record { input = input; prints = prints }
 abbrev pub InputComes : InputCase → Type 0
 InputComes c = listing_of (ascii c.input) ≡ ascii c.prints
 
--- no line; empty lines; last lines with and without a line feed. No `set` is taken here: behind one each line would be computed on the 5,393 bytes of a
--- state, which takes too long; what the lines of document 01's listing answer is a table of `runs`, computed on the states that the bytes hold
+-- no line; empty lines; last lines with and without a line feed. No `set` is taken here: behind one each line would be computed on the 5,393 bytes of
+-- a state, which takes too long; what the lines of document 01's listing answer is a table of `runs`, computed on the states that the bytes hold
 unfoldable pub inputs : List InputCase
 inputs =
     input_case "" ""

@@ -5,7 +5,8 @@
 
 ghost use Rattle.std.specs.Prelude.{◌≡◌, [], ◌∷◌, ◌++◌, ℕ, ◌+◌, ◌≤◌, ◌<◌, T, length};
 ghost use Rattle.numbers.specs.Numbers.{num, put, tab};
-ghost use Rattle.state.specs.Layout.{state_size, own_at, data_most, entries_most, datum_terms, entry_terms, held_count, entry_count, datum_at, entry_at};
+ghost use Rattle.state.specs.Layout.{state_size, own_at, data_most, entries_most, datum_terms};
+ghost use Rattle.state.specs.Layout.{entry_terms, held_count, entry_count, datum_at, entry_at};
 ghost use Rattle.state.specs.Layout.{head_of, store_of, state_bytes};
 ghost use Rattle.state.specs.Form.{datum_fits, entry_fits, in_form};
 ghost use Rattle.state.specs.code.Tables.{Columns, Table, table, columns, TableFits, ColumnsFit, row_of, entries_in, datum_in, data_in};
@@ -32,7 +33,8 @@ fn get_datum(
     masks: &mut [u32],
     r: usize,
 ) -> usize
-    requires state_size_in_bounds { (state_size ≤ length s.now) × (i < data_most) × T (datum_fits (num own_at 4 s.now) s.now i) × (r ≤ data_most) }
+    requires state_size_in_bounds { (state_size ≤ length s.now) × (i < data_most)
+        × T (datum_fits (num own_at 4 s.now) s.now i) × (r ≤ data_most) }
     requires columns_fit { ColumnsFit (r + 1) (columns lefts.old rights.old counts.old masks.old) }
     ensures upper_bound { (result ≤ r + 1) × ColumnsFit (r + 1) (columns lefts.new rights.new counts.new masks.new) }
     ensures masks_after { (let was : Columns = columns lefts.old rights.old counts.old masks.old in
@@ -78,7 +80,8 @@ fn get_withdrawn(
 
 // Reads entry i into row r where the names of `risen` count as failed, unless it has become true. Answers how many rows there are then.
 fn get_row(s: &[u8], i: usize, risen: u32, counts: &mut [u32], masks: &mut [u32], r: usize) -> usize
-    requires state_size_in_bounds { (state_size ≤ length s.now) × (i < entries_most) × T (entry_fits (num own_at 4 s.now) s.now i) × (r < entries_most) }
+    requires state_size_in_bounds { (state_size ≤ length s.now) × (i < entries_most)
+        × T (entry_fits (num own_at 4 s.now) s.now i) × (r < entries_most) }
     requires table_fits { TableFits entry_terms (r + 1) (table counts.old masks.old) }
     ensures upper_bound { (result ≤ r + 1) × TableFits entry_terms (r + 1) (table counts.new masks.new) }
     ensures masks_after { tab result (row_of entry_terms (table counts.new masks.new))
@@ -101,7 +104,8 @@ fn get_entries(s: &[u8], n: usize, risen: u32, counts: &mut [u32], masks: &mut [
     requires table_fits { TableFits entry_terms n (table counts.old masks.old) }
     ensures upper_bound { (result ≤ n) × TableFits entry_terms n (table counts.new masks.new) }
     ensures fact { (let t : Table = table counts.new masks.new in
-        (tab result (row_of entry_terms t) ≡ withdrawn_entries risen (store_of s.now).entries) × (entries_in result t ≡ tab result (row_of entry_terms t))) }
+        (tab result (row_of entry_terms t) ≡ withdrawn_entries risen (store_of s.now).entries)
+        × (entries_in result t ≡ tab result (row_of entry_terms t))) }
 {
     let mut r: usize = 0;
     let mut i: usize = 0;

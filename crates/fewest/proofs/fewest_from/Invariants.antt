@@ -1,4 +1,5 @@
--- Invariant: the arrays have the state's claims, with keys for ends, and every set that works has at least `limit` names. Measure: the limits still to try.
+-- Invariant: the arrays have the state's claims, with keys for ends, and every set that works has at least `limit` names. Measure: the limits still
+-- to try.
 use Prim.Native.Nat.{◌-◌, ◌≤◌}
 use mathlib.Core.Path.{◌≡◌}
 use lib.Dec.{T}

@@ -1,5 +1,5 @@
--- `numbers::get_words` meets its contract: turn i stores word i of s at i.
--- The mathematics is `tab_next` and `put_front` of `proofs.NumberLaws`. Assumes nothing.
+-- `numbers::get_words` meets its contract: turn i stores word i of s at i. The mathematics is `tab_next` and `put_front` of `proofs.NumberLaws`.
+-- Assumes nothing.
 use Prim.Native.Nat.{◌+◌}
 use mathlib.Core.Path.{◌≡◌, refl, ◌∙◌}
 use native.Mathlib.Omega.{arith}

@@ -1,5 +1,5 @@
--- `numbers::put_num` meets its contract: turn i stores the least byte of what is left of x.
--- The mathematics is `put_next` of `proofs.NumberLaws`. Assumes nothing.
+-- `numbers::put_num` meets its contract: turn i stores the least byte of what is left of x. The mathematics is `put_next` of `proofs.NumberLaws`.
+-- Assumes nothing.
 use Prim.Native.Nat.{◌+◌, ◌-◌}
 use mathlib.Core.Path.{◌≡◌, refl, sym, ◌∙◌}
 use native.Mathlib.Omega.{arith}

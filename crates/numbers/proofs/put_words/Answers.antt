@@ -1,5 +1,5 @@
--- `numbers::put_words` meets its contract: turn i stores the four bytes of word i behind those of the words before it.
--- The mathematics is `bytes_of_next` of `proofs.NumberLaws`. Assumes nothing.
+-- `numbers::put_words` meets its contract: turn i stores the four bytes of word i behind those of the words before it. The mathematics is
+-- `bytes_of_next` of `proofs.NumberLaws`. Assumes nothing.
 use mathlib.Core.Path.{◌≡◌, refl}
 use native.Mathlib.Omega.{arith}
 use borrow.Author.Rules.{rules}

@@ -1,4 +1,4 @@
--- `predicates::contained` meets its contract: the loop stops at the first term that contains t.
+-- `predicates::contained` meets its contract: the loop stops at the first term that contains t. The turns are `LoopLaws`.
 use mathlib.Core.Path.{refl, sym, ◌∙◌}
 use Rattle.names.specs.Sets.{subset}
 use Rattle.predicates.proofs.LoopLaws.{any_here, any_next, any-done}

@@ -1,4 +1,4 @@
--- `predicates::holds` meets its contract: the loop stops at the first term inside s.
+-- `predicates::holds` meets its contract: the loop stops at the first term inside s. The turns are `LoopLaws`.
 use mathlib.Core.Path.{refl, sym, ◌∙◌}
 use Rattle.names.specs.Sets.{subset}
 use Rattle.predicates.specs.Predicates.{holds}

@@ -1,4 +1,4 @@
--- Invariant: the answer for all terms is the answer from term i on. Measure: the terms still to try. The turns are `LoopLaws`.
+-- Invariant: the answer for all terms is the answer from term i on. Measure: the terms still to try.
 use Prim.Native.Nat.{◌-◌}
 use mathlib.Core.Path.{◌≡◌}
 use lib.ListN.{length, drop}

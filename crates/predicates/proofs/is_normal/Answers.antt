@@ -1,4 +1,5 @@
--- `predicates::is_normal` meets its contract: each term is held against the part behind it, and the loop stops at the first that may not stand there.
+-- `predicates::is_normal` meets its contract: each term is held against the part behind it, and the loop stops at the first that may not stand
+-- there.
 use mathlib.Core.Path.{refl, sym, ◌∙◌}
 use Rattle.predicates.proofs.LoopLaws.{normal_stop, normal_next, normal-done}
 use Rattle.predicates.proofs.is_normal.Goals as goal

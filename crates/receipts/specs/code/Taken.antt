@@ -17,6 +17,7 @@ taken_by t n k = cond (is_true n.terms && eqb t 0) k (settled n (blamed_by t k))
 unfoldable pub withdrawn_state : ℕ → State → State
 withdrawn_state r st = record { head = st.head; store = withdrawn r st.store }
 
--- the lent bytes after a receipt before which the names of r were withdrawn: its bytes stored over that state; the bytes as they were where it is refused
+-- the lent bytes after a receipt before which the names of r were withdrawn: its bytes stored over that state; the bytes as they were where it is
+-- refused
 unfoldable pub after_risen : ℕ → ℕ → List ℕ → List ℕ → List ℕ
 after_risen number r made s = cond (eqb number 0) (put 0 made (put 0 (state_bytes (withdrawn_state r (state_of s))) s)) s

@@ -1,3 +1,4 @@
+-- `settling::live` meets its contract: a row that has terms counts one.
 use mathlib.Core.Path.{◌≡◌, refl}
 use native.Mathlib.Omega.{arith}
 use Rattle.settling.specs.code.Rows.{live_below}

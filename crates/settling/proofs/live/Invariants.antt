@@ -1,4 +1,4 @@
--- `settling::live` meets its contract. Invariant: the rows before i have been counted. Measure: the rows still to look at.
+-- Invariant: the rows before i have been counted. Measure: the rows still to look at.
 use Prim.Native.Nat.{◌-◌, ◌≤◌}
 use mathlib.Core.Path.{◌≡◌}
 use Rattle.settling.specs.code.Rows.{live_below}

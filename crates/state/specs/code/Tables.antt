@@ -5,7 +5,8 @@ use Rattle.std.specs.Prelude.{ℕ, ◌+◌, ◌*◌, ◌≤◌, ◌<◌, ◌≡�
 use Rattle.numbers.specs.Numbers.{num, bytes, put, tab}
 use Rattle.predicates.specs.Lists.{keep}
 use Rattle.state.specs.Model.{Datum, datum, Store}
-use Rattle.state.specs.Layout.{data_most, entries_most, datum_terms, entry_terms, datum_place, entry_place, right_in, left_millionths_in, right_millionths_in, masks_at, joined}
+use Rattle.state.specs.Layout.{data_most, entries_most, datum_terms, entry_terms, datum_place, entry_place}
+use Rattle.state.specs.Layout.{right_in, left_millionths_in, right_millionths_in, masks_at, joined}
 use Rattle.state.specs.Layout.{held_count, entry_count, datum_at}
 use Rattle.ends.specs.declared.Ends.{Ends}
 use Rattle.ends.specs.Ends.{count_of}

@@ -1,4 +1,5 @@
--- `withdrawing::get_withdrawn` meets its contract: datum by datum, oldest first (`withdrawn_next`), and each that is left has terms (`withdrawn-held`).
+-- `withdrawing::get_withdrawn` meets its contract: datum by datum, oldest first (`withdrawn_next`), and each that is left has terms
+-- (`withdrawn-held`).
 use Prim.Native.Nat.{◌+◌}
 use mathlib.Core.Path.{◌≡◌, refl, sym, ◌∙◌}
 use native.Mathlib.Omega.{arith}

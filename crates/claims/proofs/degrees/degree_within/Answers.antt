@@ -1,4 +1,4 @@
--- `claims::degrees::degree_within` meets its contract.
+-- `claims::degrees::degree_within` meets its contract: the loop stops at the first term of so few names.
 use mathlib.Core.Path.{refl, sym, ◌∙◌}
 use native.Mathlib.Omega.{arith}
 use Rattle.claims.proofs.DegreeLaws.{degree-here, degree-turn, degree_end}

@@ -1,4 +1,4 @@
--- `claims::degrees::single_names` meets its contract.
+-- `claims::degrees::single_names` meets its contract: a term of one name adds that name.
 use mathlib.Core.Path.{refl, sym, ◌∙◌}
 use native.Mathlib.Omega.{arith}
 use Rattle.predicates.specs.code.Marks.{singles}

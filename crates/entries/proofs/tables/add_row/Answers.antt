@@ -1,3 +1,4 @@
+-- `entries::tables::add_row` meets its contract: each turn stores one term.
 use Prim.Native.Nat.{◌+◌, ◌*◌}
 use mathlib.Core.Path.{◌≡◌, refl, ◌∙◌}
 use native.Mathlib.Omega.{arith}

@@ -1,5 +1,4 @@
--- `entries::tables::add_row` meets its contract. Invariant: the terms that are still to be stored make of the array what all of them make of the first
--- one. Measure: the terms still to store.
+-- Invariant: the terms that are still to be stored make of the array what all of them make of the first one. Measure: the terms still to store.
 use Prim.Native.Nat.{◌+◌, ◌*◌, ◌-◌, ◌≤◌}
 use mathlib.Core.Path.{◌≡◌}
 use lib.ListN.{length, drop}

@@ -1,4 +1,5 @@
--- `entries::tables::explained` meets its contract: p's mark is made, no row implies p where no mark lets one (`rows_apart`), and else the loop stops at
+-- `entries::tables::explained` meets its contract: p's mark is made, no row implies p where no mark lets one (`rows_apart`), and else the loop stops
+-- at the first row that does.
 use Prim.Native.Nat.{◌+◌}
 use mathlib.Core.Path.{◌≡◌, refl, sym, ◌∙◌}
 use mathlib.Core.List.{◌++◌}

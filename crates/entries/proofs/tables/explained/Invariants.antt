@@ -1,4 +1,4 @@
--- the first row that does. Invariant: no row before i does. Measure: the rows still to try.
+-- Invariant: no row before i does. Measure: the rows still to try.
 use Prim.Native.Nat.{◌-◌, ◌≤◌}
 use mathlib.Core.Path.{◌≡◌}
 use mathlib.Core.Bool.{false, ◌&&◌}

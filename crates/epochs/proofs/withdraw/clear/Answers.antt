@@ -1,3 +1,4 @@
+-- `epochs::withdraw::clear` meets its contract: each turn clears one place.
 use Prim.Native.Nat.{ℕ, ◌-◌}
 use mathlib.Core.Path.{◌≡◌, refl, sym, ap, ◌∙◌}
 use native.Mathlib.Omega.{arith}

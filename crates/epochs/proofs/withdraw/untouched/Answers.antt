@@ -1,4 +1,4 @@
--- `epochs::withdraw::untouched` meets its contract: the loop stops at the first term that has a name of r.
+-- `epochs::withdraw::untouched` meets its contract: the loop stops at the first term that has a name of r. The turns are `LoopLaws`.
 use mathlib.Core.Path.{refl, sym, ◌∙◌}
 use lib.Dec.{eqb}
 use Rattle.names.specs.code.Parts.{shared}

@@ -1,4 +1,4 @@
--- Invariant: the answer for all terms is the answer from term i on. Measure: the terms still to look at. The turns are `LoopLaws`.
+-- Invariant: the answer for all terms is the answer from term i on. Measure: the terms still to look at.
 use Prim.Native.Nat.{◌-◌}
 use mathlib.Core.Path.{◌≡◌}
 use lib.Dec.{eqb}

@@ -1,5 +1,5 @@
--- `fields::read::field_end` meets its contract: the loop stops at the first space.
--- The mathematics is `space_here`, `space_next` and `space_done` of `proofs.FieldLaws`. Assumes nothing.
+-- `fields::read::field_end` meets its contract: the loop stops at the first space. The mathematics is `space_here`, `space_next` and `space_done` of
+-- `proofs.FieldLaws`. Assumes nothing.
 use mathlib.Core.Path.{refl}
 use native.Mathlib.Omega.{arith}
 use Rattle.fields.proofs.FieldLaws.{space_here, space_next, space_done}

@@ -1,5 +1,5 @@
--- `fields::read::message_bytes` meets its contract: turn i stores the four bytes of word i behind those of the words before it.
--- The mathematics is `bytes_of_next` of `numbers`. Assumes nothing.
+-- `fields::read::message_bytes` meets its contract: turn i stores the four bytes of word i behind those of the words before it. The mathematics is
+-- `bytes_of_next` of `numbers`. Assumes nothing.
 use Prim.Native.Nat.{◌*◌}
 use mathlib.Core.Path.{◌≡◌, refl}
 use native.Mathlib.Nat.{zero-add}

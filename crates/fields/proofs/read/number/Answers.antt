@@ -1,4 +1,5 @@
 -- `fields::read::number` meets its contract: the loop leaves at a byte that is no digit, and where the number would pass 64 bits, since the digits
+-- behind never make it smaller. The mathematics is `value_ge`, `value_next` and the laws of `is_number` of `proofs.FieldLaws`. Assumes nothing.
 use Prim.Native.Nat.{◌+◌, ◌*◌, ◌-◌, ◌^◌, ◌≤◌}
 use mathlib.Core.Path.{◌≡◌, refl, sym, ◌∙◌}
 use mathlib.Core.Bool.{true, false}

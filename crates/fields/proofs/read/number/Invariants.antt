@@ -1,5 +1,4 @@
--- behind never make it smaller. Invariant: the digits from i on, behind v, write the field's number, and are digits if all are.
--- Measure: the bytes still to read. The mathematics is `value_ge`, `value_next` and the laws of `is_number` of `proofs.FieldLaws`. Assumes nothing.
+-- Invariant: the digits from i on, behind v, write the field's number, and are digits if all are. Measure: the bytes still to read.
 use Prim.Native.Nat.{◌-◌, ◌^◌, ◌≤◌, ◌<◌}
 use mathlib.Core.Path.{◌≡◌}
 use lib.ListN.{length, drop}

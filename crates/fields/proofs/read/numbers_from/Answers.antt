@@ -1,4 +1,5 @@
--- `fields::read::numbers_from` meets its contract: each turn reads the field up to the next space.
+-- `fields::read::numbers_from` meets its contract: each turn reads the field up to the next space. The mathematics is `numbers_bad`, `numbers-last`
+-- and `numbers_more` of `proofs.FieldLaws`. Assumes nothing.
 use Prim.Native.Nat.{◌-◌}
 use mathlib.Core.Path.{refl, sym, ◌∙◌}
 use native.Mathlib.Omega.{arith}

@@ -1,5 +1,5 @@
--- Invariant: the fields from at on, behind the n numbers that are stored, are the whole; each field has a byte, so n is at most half of at.
--- Measure: the bytes behind at. The mathematics is `numbers_bad`, `numbers-last` and `numbers_more` of `proofs.FieldLaws`. Assumes nothing.
+-- Invariant: the fields from at on, behind the n numbers that are stored, are the whole; each field has a byte, so n is at most half of at. Measure:
+-- the bytes behind at.
 use Prim.Native.Nat.{◌+◌, ◌*◌, ◌-◌, ◌≤◌}
 use mathlib.Core.Path.{◌≡◌}
 use lib.ListN.{length, drop}

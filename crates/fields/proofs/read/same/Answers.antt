@@ -1,5 +1,5 @@
--- `fields::read::same` meets its contract: the loop leaves at the first difference.
--- The mathematics is `same_length`, `same_here`, `same_next` and `same-done` of `proofs.FieldLaws`. Assumes nothing.
+-- `fields::read::same` meets its contract: the loop leaves at the first difference. The mathematics is `same_length`, `same_here`, `same_next` and
+-- `same-done` of `proofs.FieldLaws`. Assumes nothing.
 use mathlib.Core.Path.{refl, sym, ◌∙◌}
 use native.Mathlib.Omega.{arith}
 use Rattle.fields.proofs.FieldLaws.{same_length, same_here, same_next, same-done}

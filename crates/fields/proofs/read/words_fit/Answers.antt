@@ -1,4 +1,4 @@
--- `fields::read::words_fit` meets its contract: the loop leaves at the first number that is no word.
+-- `fields::read::words_fit` meets its contract: the loop leaves at the first number that is no word. Assumes nothing.
 use mathlib.Core.Path.{refl, sym, ◌∙◌}
 use borrow.Author.Tests.{lt-ltb, le-ltb}
 use Rattle.predicates.proofs.LoopLaws.{all_here, all_next, all_done}

@@ -1,4 +1,4 @@
--- Invariant: the numbers from i on are words if all are. Measure: the numbers still to test. Assumes nothing.
+-- Invariant: the numbers from i on are words if all are. Measure: the numbers still to test.
 use Prim.Native.Nat.{◌-◌}
 use mathlib.Core.Path.{◌≡◌}
 use lib.ListN.{length, drop}

@@ -1,5 +1,5 @@
--- `fields::text::put_text` meets its contract: turn i stores byte i of the text.
--- The mathematics is `copy_next` of `proofs.DecimalLaws`. Assumes nothing.
+-- `fields::text::put_text` meets its contract: turn i stores byte i of the text. The mathematics is `copy_next` of `proofs.DecimalLaws`. Assumes
+-- nothing.
 use mathlib.Core.Path.{◌≡◌, refl, sym, ◌∙◌}
 use native.Mathlib.Nat.{add-zero}
 use native.Mathlib.Omega.{arith}

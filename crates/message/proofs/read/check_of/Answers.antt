@@ -1,5 +1,5 @@
--- `message::read::check_of` meets its contract: what the 32 bits lose in wrapping lies above the low 29.
--- The mathematics is `sum_next` and `sum_done` of `proofs.WordLaws`.
+-- `message::read::check_of` meets its contract: what the 32 bits lose in wrapping lies above the low 29. The mathematics is `sum_next` and
+-- `sum_done` of `proofs.WordLaws`.
 use Rattle.std.proofs.Common.{zero-add, arith}
 use Rattle.message.proofs.WordLaws.{sum_next, sum_done}
 use Rattle.message.proofs.read.check_of.Goals as goal

@@ -1,5 +1,5 @@
--- `message::write::put_terms` meets its contract: turn i stores the word of term i behind those before it.
--- The mathematics is `terms_next` of `proofs.WordLaws`.
+-- `message::write::put_terms` meets its contract: turn i stores the word of term i behind those before it. The mathematics is `terms_next` of
+-- `proofs.WordLaws`.
 use Rattle.std.proofs.Common.{◌≡◌, length, sym, refl, ◌∙◌, add-zero, arith, length-set, rules}
 use lib.Seq.{drop-length}
 use Rattle.numbers.specs.Numbers.{put}

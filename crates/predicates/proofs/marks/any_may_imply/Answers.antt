@@ -1,4 +1,4 @@
--- `predicates::marks::any_may_imply` meets its contract.
+-- `predicates::marks::any_may_imply` meets its contract: each turn takes one mark in.
 use mathlib.Core.Path.{refl}
 use Rattle.predicates.proofs.LoopLaws.{any-turn, any-all}
 use Rattle.predicates.proofs.marks.any_may_imply.Goals as goal

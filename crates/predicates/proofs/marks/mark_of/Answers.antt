@@ -1,5 +1,5 @@
--- `predicates::marks::mark_of` meets its contract: the empty term decides; of the others, the names of each term of one name are added.
--- The turns are `MarkLaws`.
+-- `predicates::marks::mark_of` meets its contract: the empty term decides; of the others, the names of each term of one name are added. The turns
+-- are `MarkLaws`.
 use mathlib.Core.Path.{refl, sym, ◌∙◌}
 use Rattle.names.specs.Sets.{set_union}
 use Rattle.predicates.proofs.MarkLaws.{singles-take, singles_pass, holds_pass, mark-all, mark-some}

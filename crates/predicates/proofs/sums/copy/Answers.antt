@@ -1,3 +1,4 @@
+-- `predicates::sums::copy` meets its contract: each turn copies one term.
 use Prim.Native.Nat.{◌+◌}
 use mathlib.Core.Path.{◌≡◌, refl, ◌∙◌}
 use native.Mathlib.Omega.{arith}

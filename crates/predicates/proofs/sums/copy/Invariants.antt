@@ -1,5 +1,4 @@
--- `predicates::sums::copy` meets its contract. Invariant: the terms that are still to be stored make of the list what all of them make of the
--- first one. Measure: the terms still to copy.
+-- Invariant: the terms that are still to be stored make of the list what all of them make of the first one. Measure: the terms still to copy.
 use Prim.Native.Nat.{◌+◌, ◌-◌, ◌≤◌}
 use mathlib.Core.Path.{◌≡◌}
 use lib.ListN.{length, drop}

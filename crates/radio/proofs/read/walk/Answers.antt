@@ -1,5 +1,5 @@
--- `radio::read::walk` meets its contract: the first word of another kind stops the walk, and so does the end.
--- The mathematics is `leading_pass`, `-stop` and `-done` of `proofs.ReadLaws`, `names_from_lem`, `-turn` and `-done` of `proofs.NameLaws`.
+-- `radio::read::walk` meets its contract: the first word of another kind stops the walk, and so does the end. The mathematics is `leading_pass`,
+-- `-stop` and `-done` of `proofs.ReadLaws`, `names_from_lem`, `-turn` and `-done` of `proofs.NameLaws`.
 use Prim.Native.Nat.{◌≤◌, ◌<◌}
 use mathlib.Core.Path.{◌≡◌, refl, sym, ◌∙◌}
 use native.Mathlib.Omega.{arith}

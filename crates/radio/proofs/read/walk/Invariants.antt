@@ -1,5 +1,5 @@
--- Invariant: the place and the words of kind 0 from it on give the place behind them; for every mask, the test so far and that of those words,
--- after the identifiers seen, are the test of all epoch words. Measure: the words still to look at.
+-- Invariant: the place and the words of kind 0 from it on give the place behind them; for every mask, the test so far and that of those words, after
+-- the identifiers seen, are the test of all epoch words. Measure: the words still to look at.
 use Prim.Native.Nat.{ℕ, ◌+◌, ◌-◌, ◌≤◌}
 use mathlib.Core.Path.{◌≡◌}
 use mathlib.Core.Bool.{◌&&◌}

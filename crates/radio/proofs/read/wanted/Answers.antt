@@ -1,5 +1,5 @@
--- `radio::read::wanted` meets its contract: each turn adds the identifiers of one term.
--- The mathematics is `wanted-start`, `wanted-turn` and `wanted-done` of `proofs.NameLaws`.
+-- `radio::read::wanted` meets its contract: each turn adds the identifiers of one term. The mathematics is `wanted-start`, `wanted-turn` and
+-- `wanted-done` of `proofs.NameLaws`.
 use Rattle.message.specs.Words.{masks}
 use Rattle.radio.proofs.NameLaws.{wanted-start, wanted-turn, wanted-done}
 use Rattle.radio.proofs.read.wanted.Goals as goal

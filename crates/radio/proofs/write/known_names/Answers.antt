@@ -1,4 +1,4 @@
--- still to come.
+-- `radio::write::known_names` meets its contract: an identifier of the mask puts its name behind those before it.
 use Prim.Native.Nat.{ℕ}
 use mathlib.Core.Path.{◌≡◌, sym, ap, ◌∙◌}
 use native.Mathlib.Omega.{arith}

@@ -1,4 +1,4 @@
--- `radio::write::known_names` meets its contract. Invariant: the names of the identifiers passed stand at the front (`Given`). Measure: the identifiers
+-- Invariant: the names of the identifiers passed stand at the front (`Given`). Measure: the identifiers still to come.
 use Prim.Native.Nat.{◌-◌, ◌≤◌}
 use Rattle.epochs.specs.Epochs.{epochs_most, epochs_in}
 use Rattle.radio.proofs.GivenNames.{Given}

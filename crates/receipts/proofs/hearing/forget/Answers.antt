@@ -1,3 +1,4 @@
+-- `receipts::hearing::forget` meets its contract. A turn is `forget-place` or `forget-none` of `proofs.HearingCalls`.
 use Prim.Native.Nat.{◌+◌}
 use mathlib.Core.Path.{◌≡◌, sym, ap, ◌∙◌}
 use native.Mathlib.Omega.{arith}

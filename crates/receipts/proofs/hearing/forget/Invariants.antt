@@ -1,5 +1,5 @@
--- `receipts::hearing::forget` meets its contract. Invariant: the state is stored in which the places of the identifiers passed are cleared as far as they
--- have risen (`cleared_below`). Measure: the identifiers still to come. A turn is `forget-place` or `forget-none` of `proofs.HearingCalls`.
+-- Invariant: the state is stored in which the places of the identifiers passed are cleared as far as they have risen (`cleared_below`). Measure: the
+-- identifiers still to come.
 use Prim.Native.Nat.{◌≤◌, ◌-◌}
 use mathlib.Core.Path.{◌≡◌}
 use lib.ListN.{length}

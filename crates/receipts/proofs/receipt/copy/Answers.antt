@@ -1,3 +1,4 @@
+-- `receipts::receipt::copy` meets its contract: each turn copies one byte.
 use Prim.Native.Nat.{ℕ, suc, ◌+◌, ◌<◌}
 use mathlib.Core.Path.{◌≡◌, refl, ◌∙◌}
 use mathlib.Core.List.{List}

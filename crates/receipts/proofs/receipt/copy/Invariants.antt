@@ -1,5 +1,4 @@
--- `receipts::receipt::copy` meets its contract. Invariant: the bytes that are still to be stored make of the list what all of them make of the first
--- one. Measure: the bytes still to copy.
+-- Invariant: the bytes that are still to be stored make of the list what all of them make of the first one. Measure: the bytes still to copy.
 use Prim.Native.Nat.{◌-◌, ◌≤◌}
 use mathlib.Core.Path.{◌≡◌}
 use lib.ListN.{length, drop}

@@ -1,3 +1,4 @@
+-- `receipts::receipt::copy_masks` meets its contract: each turn copies one term.
 use Prim.Native.Nat.{ℕ, suc, ◌+◌, ◌<◌}
 use mathlib.Core.Path.{◌≡◌, refl, ◌∙◌}
 use mathlib.Core.List.{List}

@@ -1,5 +1,4 @@
--- `receipts::receipt::copy_masks` meets its contract. Invariant: the terms that are still to be stored make of the row what all of them make of the first
--- one. Measure: the words still to copy.
+-- Invariant: the terms that are still to be stored make of the row what all of them make of the first one. Measure: the words still to copy.
 use Prim.Native.Nat.{◌-◌, ◌≤◌}
 use mathlib.Core.Path.{◌≡◌}
 use lib.ListN.{length, drop}

@@ -1,4 +1,4 @@
--- `search::search::lesser` meets its contract.
+-- `search::search::lesser` meets its contract: the comparison decides.
 use native.Mathlib.Omega.{arith}
 use Rattle.search.proofs.search.lesser.Goals as goal
 

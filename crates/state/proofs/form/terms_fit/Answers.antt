@@ -1,5 +1,5 @@
 -- `state::form::terms_fit` meets its contract: from the last term on the loop stops at the first that is not below the one behind it or lies in one
--- to test. The turns are `TermLaws`.
+-- of those. The turns are `TermLaws`.
 use mathlib.Core.Path.{refl, sym, ap, ◌∙◌}
 use mathlib.Core.Bool.{Bool, ◌&&◌, not}
 use lib.Dec.{ltb}

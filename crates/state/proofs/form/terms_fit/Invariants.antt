@@ -1,4 +1,4 @@
--- of those. Invariant: the terms from i on are tested, but for the own name, which is looked for among all names at the end. Measure: the terms still
+-- Invariant: the terms from i on are tested, but for the own name, which is looked for among all names at the end. Measure: the terms still to test.
 use Rattle.state.proofs.TermLaws.{Tested}
 use Rattle.state.proofs.form.terms_fit.Given as goal
 

@@ -1,3 +1,4 @@
+-- `state::rows::clear` meets its contract: each turn clears one byte.
 use mathlib.Core.Path.{refl, sym, ◌∙◌}
 use lib.ListN.{length-set}
 use Rattle.predicates.proofs.SumLaws.{zeros-turn, zeros_end}

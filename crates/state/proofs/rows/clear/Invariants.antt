@@ -1,5 +1,4 @@
--- `state::rows::clear` meets its contract. Invariant: the zeros that are still to be stored make of the bytes what all of them make of the
--- first ones. Measure: the bytes still to clear.
+-- Invariant: the zeros that are still to be stored make of the bytes what all of them make of the first ones. Measure: the bytes still to clear.
 use Prim.Native.Nat.{◌-◌}
 use mathlib.Core.Path.{◌≡◌}
 use lib.ListN.{length}

@@ -1,4 +1,5 @@
 -- `state::store::put_data` meets its contract: turn i writes datum i behind those before it, leaves it where it stands in its place already, or
+-- passes it over where it has been given up.
 use Prim.Native.Nat.{ℕ, ◌≤◌, ◌<◌}
 use mathlib.Core.Path.{◌≡◌, refl}
 use mathlib.Core.Bool.{Bool, true, false, ◌||◌}

@@ -1,5 +1,5 @@
--- passes it over where it has been given up. Invariant: the r data among the first i that have terms stand in their places, and the bytes
--- behind those are as they were. Measure: the rows still to pass.
+-- Invariant: the r data among the first i that have terms stand in their places, and the bytes behind those are as they were. Measure: the rows
+-- still to pass.
 use Prim.Native.Nat.{◌-◌, ◌≤◌}
 use Rattle.state.specs.Layout.{datum_bytes}
 use Rattle.state.specs.code.Tables.{columns, data_in}

@@ -1,4 +1,5 @@
 -- `state::store::put_entries` meets its contract: turn i writes entry i behind those before it, leaves it where it stands in its place already, or
+-- passes it over where it has been given up.
 use mathlib.Core.Path.{◌≡◌}
 use native.Mathlib.Omega.{arith}
 use Rattle.numbers.specs.Numbers.{tab}

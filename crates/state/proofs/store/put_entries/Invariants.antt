@@ -1,5 +1,5 @@
--- passes it over where it has been given up. Invariant: the r entries among the first i that have terms stand in their places, and the bytes
--- behind those are as they were. Measure: the rows still to pass.
+-- Invariant: the r entries among the first i that have terms stand in their places, and the bytes behind those are as they were. Measure: the rows
+-- still to pass.
 use Prim.Native.Nat.{◌-◌, ◌≤◌}
 use Rattle.state.specs.Layout.{entry_bytes}
 use Rattle.state.specs.code.Tables.{table_from, entries_in}

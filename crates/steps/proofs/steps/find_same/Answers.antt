@@ -1,3 +1,4 @@
+-- `steps::steps::find_same` meets its contract: the loop stops at the first row with the predicate.
 use mathlib.Core.Path.{◌≡◌, sym, ◌∙◌}
 use native.Mathlib.Omega.{arith}
 use Rattle.state.proofs.RowLaws.{table-room}

@@ -1,4 +1,4 @@
--- `steps::steps::find_same` meets its contract. Invariant: no row before i has the predicate. Measure: the rows still to try.
+-- Invariant: no row before i has the predicate. Measure: the rows still to try.
 use Prim.Native.Nat.{ℕ, ◌-◌, ◌≤◌, ◌<◌}
 use mathlib.Core.Path.{◌≡◌}
 use mathlib.Core.Bool.{false}

@@ -1,4 +1,5 @@
--- Invariant: the entries are those that the data before i have taught, and no entry of the state is another than it was. Measure: the data still to take up.
+-- Invariant: the entries are those that the data before i have taught, and no entry of the state is another than it was. Measure: the data still to
+-- take up.
 use Prim.Native.Nat.{◌+◌, ◌-◌, ◌≤◌}
 use mathlib.Core.Path.{◌≡◌}
 use lib.ListN.{length}
