@@ -52,3 +52,17 @@ fn median(mut times: Vec<f64>) -> f64 {
     times.sort_by(f64::total_cmp);
     times[times.len() / 2]
 }
+
+/// The processor's name, where the system tells it.
+pub fn machine() -> String {
+    let text = std::fs::read_to_string("/proc/cpuinfo").unwrap_or_default();
+    let field = |name: &str| {
+        let line = text.lines().find(|line| line.starts_with(name))?;
+        Some(line.split_once(':')?.1.trim().to_string())
+    };
+    let name = field("model name").unwrap_or("an unknown processor".into());
+    let numbers =
+        ["cpu family", "model\t", "cpu MHz"].map(|name| field(name).unwrap_or("?".into()));
+    let [family, model, mhz] = numbers;
+    format!("{name}, family {family}, model {model}, {mhz} MHz")
+}

@@ -11,7 +11,7 @@ use second::message::MESSAGE_BYTES;
 use second::samples::climbing::Climb;
 use second::samples::loads::{self, Filling, Load, FULL, QUIET, READINGS, USUAL};
 use second::state::{State, STATE_BYTES};
-use second::timing::{least, medians, Effort};
+use second::timing::{least, machine, medians, Effort};
 use second::{ageing, asking, engine, message, receiving, set_up, writing};
 use std::hint::black_box;
 
@@ -253,20 +253,6 @@ fn worst(effort: Effort, climb: Climb) {
             line(effort, call, name, &[Case::of(&state.bytes(), &[])], Some(20_000.));
         }
     }
-}
-
-/// The processor's name, where the system tells it.
-fn machine() -> String {
-    let text = std::fs::read_to_string("/proc/cpuinfo").unwrap_or_default();
-    let field = |name: &str| {
-        let line = text.lines().find(|line| line.starts_with(name))?;
-        Some(line.split_once(':')?.1.trim().to_string())
-    };
-    let name = field("model name").unwrap_or("an unknown processor".into());
-    let numbers =
-        ["cpu family", "model\t", "cpu MHz"].map(|name| field(name).unwrap_or("?".into()));
-    let [family, model, mhz] = numbers;
-    format!("{name}, family {family}, model {model}, {mhz} MHz")
 }
 
 fn main() {

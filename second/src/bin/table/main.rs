@@ -13,7 +13,7 @@ use calls::{Call, Case, Run, ASK, FEWEST};
 use lines::{lines, Goals, Line, FILLINGS, WORST_GOALS};
 use second::samples::climbing::Climb;
 use second::state::STATE_BYTES;
-use second::timing::{least, medians, Effort};
+use second::timing::{least, machine, medians, Effort};
 use std::hint::black_box;
 use std::process::ExitCode;
 use std::time::{Duration, Instant};
@@ -151,18 +151,4 @@ fn run_engine(call: &str, state: &str) -> bool {
         (0..1_000).for_each(|_| pass());
     }
     true
-}
-
-/// The processor's name, where the system tells it.
-fn machine() -> String {
-    let text = std::fs::read_to_string("/proc/cpuinfo").unwrap_or_default();
-    let field = |name: &str| {
-        let line = text.lines().find(|line| line.starts_with(name))?;
-        Some(line.split_once(':')?.1.trim().to_string())
-    };
-    let name = field("model name").unwrap_or("an unknown processor".into());
-    let numbers =
-        ["cpu family", "model\t", "cpu MHz"].map(|name| field(name).unwrap_or("?".into()));
-    let [family, model, mhz] = numbers;
-    format!("{name}, family {family}, model {model}, {mhz} MHz")
 }
