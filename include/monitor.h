@@ -91,11 +91,11 @@ extern "C" {
  *  measured (getauxval(AT_MINSIGSTKSZ) tells; with wider registers it is more): there 10,240 bytes do not suffice for receiving, and 16,384
  *  suffice for every call. */
 #define MONITOR_STACK_SET_UP 64
-#define MONITOR_STACK_AGE 256
+#define MONITOR_STACK_AGE 192
 #define MONITOR_STACK_RECEIVE 9472
 #define MONITOR_STACK_RECEIVE_WITH_READINGS 9536
 #define MONITOR_STACK_WRITE 640
-#define MONITOR_STACK_ASK 7552
+#define MONITOR_STACK_ASK 5824
 #define MONITOR_STACK_FEWEST 6144
 #define MONITOR_STACK_MESSAGE_READ 384
 #define MONITOR_STACK_MESSAGE_REWRITE 576

@@ -136,7 +136,7 @@ rows() {
 # defines FILE NAME: the file has a definition, a field or variant, a type or a function of this name
 defines() {
     awk -v name="$2" '{ for (i = 1; i <= NF; i++) if ($i == name && ($(i + 1) == ":" || $(i - 1) ~ /^(record|data|struct|enum)$/)) found = 1 }
-        index($0, "fn " name "(") { found = 1 } END { exit !found }' "$1"
+        index($0, "fn " name "(") || index($0, "fn " name "<") { found = 1 } END { exit !found }' "$1"
 }
 
 # names_defined HEADING: each name in a row is defined in a file that the row links

@@ -13,7 +13,8 @@ use lib.Count.{ones}
 use lib.IntN.{ℤ, pos, negsuc}
 use Rattle.names.specs.Sets.{set_union, has}
 use Rattle.names.proofs.SetLaws.{digit-single-same, union_left, union_right, union-above, ones-empty, ones_none, ones_above, has_in, has_mono, has_not_union, has-empty, has-single}
-use Rattle.predicates.specs.Lists.{all, In}
+use Rattle.std.specs.List.{list_all}
+use Rattle.predicates.specs.Lists.{In}
 use Rattle.predicates.specs.Predicates.{holds}
 use Rattle.predicates.proofs.ListLaws.{cond_ind, in_l, in_r, in_cases, map_in, map_out}
 use Rattle.state.specs.Model.{Datum, Store, State}
@@ -85,9 +86,9 @@ common-given s (d ∷ ds) =
 pub leaves-given : (s : ℕ) (k : Store) → Gives (λ x. Fine s k x) (leaves s k)
 unfolding leaves
 leaves-given s k =
-    cond_ind (λ (a : Answer). Gives (λ x. Fine s k x) a) (all (holds s) k.entries) (common (active s k.held)) Contradicted
+    cond_ind (λ (a : Answer). Gives (λ x. Fine s k x) a) (list_all (holds s) k.entries) (common (active s k.held)) Contradicted
     (λ t. gives_same (InAll s k.held) (λ x. Fine s k x) (common (active s k.held)) (λ x h. (t, h)) (λ x h. h.1) (common-given s k.held))
-    (λ t x h. T_not (all (holds s) k.entries) t h.0)
+    (λ t x h. T_not (list_all (holds s) k.entries) t h.0)
 
 -- ---- what either of two leaves
 

@@ -17,7 +17,8 @@ use Rattle.names.specs.Sets.{subset, set_union}
 use Rattle.names.specs.code.Parts.{others}
 use Rattle.names.proofs.SetLaws.{empty-subset, subset_trans, union_right, union-least, subset_refl}
 use Rattle.names.proofs.PartLaws.{others_in, others_lt, others_out}
-use Rattle.predicates.specs.Lists.{all, keep, In}
+use Rattle.std.specs.List.{list_all, filter}
+use Rattle.predicates.specs.Lists.{In}
 use Rattle.predicates.specs.Predicates.{holds}
 use Rattle.predicates.proofs.ListLaws.{both_l, both_r, all_in, all_out, keep_in, keep_out, map_in, map_out}
 use Rattle.state.specs.Model.{Datum, Store}
@@ -38,7 +39,7 @@ fits_allowed limit own u ps f =
     let h : T (subset u (others own)) = subset_trans u (set_union 0 (others own)) (others own) f.within (union-least 0 (others own) (others own) (empty-subset (others own)) (subset_refl (others own))) in
     record { names = others_lt own u h; few = f.few; others = others_out own u h }
 
-pub allowed_fits : (limit own u : ℕ) (ps : List (List ℕ)) → Allowed limit own u → T (all (holds u) ps) → Fits limit 0 (others own) ps u
+pub allowed_fits : (limit own u : ℕ) (ps : List (List ℕ)) → Allowed limit own u → T (list_all (holds u) ps) → Fits limit 0 (others own) ps u
 allowed_fits limit own u ps a h =
     record {
       above = empty-subset u;
@@ -63,10 +64,10 @@ module _ (k : Store) where
 
   -- what is true of the entries is true of the claims before the held data
   module _ (f : List ℕ → Bool) where
-    pub entries_at : T (all f entries) → (i : ℕ) → i < length entries → T (f (claim_at k i).terms)
+    pub entries_at : T (list_all f entries) → (i : ℕ) → i < length entries → T (f (claim_at k i).terms)
     entries_at h i l = rw (claim_entry k i l) (all_out f entries h (get_or entries i []) (at_in entries [] i l))
 
-    pub at_entries : ((i : ℕ) → i < length entries → T (f (claim_at k i).terms)) → T (all f entries)
+    pub at_entries : ((i : ℕ) → i < length entries → T (f (claim_at k i).terms)) → T (list_all f entries)
     at_entries g =
         all_in f entries (λ e m.
         let w = in_at entries [] e m in
@@ -75,11 +76,11 @@ module _ (k : Store) where
 
   module _ (rows : ℕ) (r : rows ≡ length entries + length k.held) (f : List ℕ → Bool) where
     -- what is true of the predicates is true of the claims
-    pub everything_at : T (all f (everything k)) → (i : ℕ) → i < rows → T (f (claim_at k i).terms)
+    pub everything_at : T (list_all f (everything k)) → (i : ℕ) → i < rows → T (f (claim_at k i).terms)
     unfolding everything
     everything_at h i l = go (dec_lt i (length entries))
       where
-        parts : T (all f entries) × ((d : Datum) → In d k.held → T (f d.terms))
+        parts : T (list_all f entries) × ((d : Datum) → In d k.held → T (f d.terms))
         parts = claims_out f entries k.held h
 
         go : Dec (i < length entries) → T (f (claim_at k i).terms)
@@ -89,7 +90,7 @@ module _ (k : Store) where
             let same : claim_at k i ≡ get_or k.held (i - length entries) (entry_claim []) = ap (claim_at k) place ∙ claim_datum k (i - length entries) in
             rw same (parts.1 _ (at_in k.held (entry_claim []) (i - length entries) (omega arith)))
 
-    pub at_everything : ((i : ℕ) → i < rows → T (f (claim_at k i).terms)) → T (all f (everything k))
+    pub at_everything : ((i : ℕ) → i < rows → T (f (claim_at k i).terms)) → T (list_all f (everything k))
     unfolding everything
     at_everything g = claims_in f entries k.held (at_entries f (λ i l. g i (omega arith))) datum
       where
@@ -104,12 +105,12 @@ module _ (k : Store) where
     abbrev Each : ℕ → Type 0
     Each y = (i : ℕ) → i < rows → T (not (inside y (claim_at k i))) → T (holds u (claim_at k i).terms)
 
-    pub needed_each : (y : ℕ) → T (all (holds u) (needed_at y k)) → Each y
+    pub needed_each : (y : ℕ) → T (list_all (holds u) (needed_at y k)) → Each y
     unfolding needed_at
     needed_each y h i l = go (dec_lt i (length entries))
       where
-        parts : T (all (holds u) entries) × ((d : Datum) → In d (keep (λ e. not (inside y e)) k.held) → T (holds u d.terms))
-        parts = claims_out (holds u) entries (keep (λ d. not (inside y d)) k.held) h
+        parts : T (list_all (holds u) entries) × ((d : Datum) → In d (filter (λ e. not (inside y e)) k.held) → T (holds u d.terms))
+        parts = claims_out (holds u) entries (filter (λ d. not (inside y d)) k.held) h
 
         go : Dec (i < length entries) → T (not (inside y (claim_at k i))) → T (holds u (claim_at k i).terms)
         go (yes a) = rw (claim_entry k i a) (λ _. all_out (holds u) entries parts.0 (get_or entries i []) (at_in entries [] i a))
@@ -118,10 +119,10 @@ module _ (k : Store) where
             let same : claim_at k i ≡ get_or k.held (i - length entries) (entry_claim []) = ap (claim_at k) place ∙ claim_datum k (i - length entries) in
             rw same (λ o. parts.1 _ (keep_in (λ d. not (inside y d)) k.held _ (at_in k.held (entry_claim []) (i - length entries) (omega arith)) o))
 
-    pub each_needed : (y : ℕ) → Each y → T (all (holds u) (needed_at y k))
+    pub each_needed : (y : ℕ) → Each y → T (list_all (holds u) (needed_at y k))
     unfolding needed_at
     each_needed y f =
-        claims_in (holds u) entries (keep (λ d. not (inside y d)) k.held) (all_in (holds u) entries entry)
+        claims_in (holds u) entries (filter (λ d. not (inside y d)) k.held) (all_in (holds u) entries entry)
         (λ d m. datum d (keep_out (λ e. not (inside y e)) k.held d m))
       where
         entry : (e : List ℕ) → In e entries → T (holds u e)
@@ -137,10 +138,10 @@ module _ (k : Store) where
             let c : claim_at k (length entries + w.0) ≡ d = claim_datum k w.0 ∙ sym w.2 in
             (rw c at (f (length entries + w.0) (omega (arith, w.1)))) m.1
 
-    pub everything-each : T (all (holds u) (everything k)) → (i : ℕ) → i < rows → T (holds u (claim_at k i).terms)
+    pub everything-each : T (list_all (holds u) (everything k)) → (i : ℕ) → i < rows → T (holds u (claim_at k i).terms)
     everything-each = everything_at rows r (holds u)
 
-    pub each-everything : ((i : ℕ) → i < rows → T (holds u (claim_at k i).terms)) → T (all (holds u) (everything k))
+    pub each-everything : ((i : ℕ) → i < rows → T (holds u (claim_at k i).terms)) → T (list_all (holds u) (everything k))
     each-everything = at_everything rows r (holds u)
 
 -- ---- the arrays
@@ -163,7 +164,7 @@ module _ (k : Store) (n rows : ℕ) (table : Rows) (order : List ℕ) (loaded : 
   module _ (u : ℕ) where
     -- ---- every instant
 
-    pub order-everything : T (all (holds u) (preds rows order table)) → T (all (holds u) (everything k))
+    pub order-everything : T (list_all (holds u) (preds rows order table)) → T (list_all (holds u) (everything k))
     unfolding preds pred_at
     order-everything h =
         each-everything k rows rows-count u (λ i l.
@@ -173,7 +174,7 @@ module _ (k : Store) (n rows : ℕ) (table : Rows) (order : List ℕ) (loaded : 
         rw (sym (loaded.means i l u))
         (rw at at (all_out (holds u) (tab rows (λ j. terms (get_or order j 0))) h _ (at_in (tab rows (λ j. terms (get_or order j 0))) [] w.0 (rw length-tab w.1)))))
 
-    pub everything-order : T (all (holds u) (everything k)) → T (all (holds u) (preds rows order table))
+    pub everything-order : T (list_all (holds u) (everything k)) → T (list_all (holds u) (preds rows order table))
     unfolding preds pred_at
     everything-order h =
         all-tab (holds u) rows (λ j. terms (get_or order j 0)) (λ j l.
@@ -182,20 +183,20 @@ module _ (k : Store) (n rows : ℕ) (table : Rows) (order : List ℕ) (loaded : 
     -- ---- an instant: x for the arrays of ends, y for the store
 
     module _ (lefts rights : List ℕ) (x y : ℕ) (same : (i : ℕ) → i < rows → outside lefts rights x i ≡ not (inside y (claim_at k i))) where
-      pub needs_needed : T (all (holds u) (needs rows lefts rights table order x)) → T (all (holds u) (needed_at y k))
+      pub needs_needed : T (list_all (holds u) (needs rows lefts rights table order x)) → T (list_all (holds u) (needed_at y k))
       unfolding needs
       needs_needed h =
           each_needed k rows rows-count u y (λ i l o.
           rw (sym (loaded.means i l u))
-          (all_out (holds u) (map terms (keep (outside lefts rights x) (take rows order))) h (terms i)
-          (map_in terms (keep (outside lefts rights x) (take rows order)) i
+          (all_out (holds u) (map terms (filter (outside lefts rights x) (take rows order))) h (terms i)
+          (map_in terms (filter (outside lefts rights x) (take rows order)) i
           (keep_in (outside lefts rights x) (take rows order) i (take_in rows order complete.ordered (complete.present i l)) (rw (same i l) o)))))
 
-      pub needed_needs : T (all (holds u) (needed_at y k)) → T (all (holds u) (needs rows lefts rights table order x))
+      pub needed_needs : T (list_all (holds u) (needed_at y k)) → T (list_all (holds u) (needs rows lefts rights table order x))
       unfolding needs
       needed_needs h =
-          all_in (holds u) (map terms (keep (outside lefts rights x) (take rows order))) (λ p m.
-          let w = map_out terms (keep (outside lefts rights x) (take rows order)) p m in
+          all_in (holds u) (map terms (filter (outside lefts rights x) (take rows order))) (λ p m.
+          let w = map_out terms (filter (outside lefts rights x) (take rows order)) p m in
           let v = keep_out (outside lefts rights x) (take rows order) w.0 w.1 in
           let z = in_take rows order w.0 v.0 in
           let l : w.0 < rows = rw z.2 (complete.placed z.0 z.1) in

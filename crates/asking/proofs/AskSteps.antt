@@ -4,7 +4,7 @@ use Prim.Native.Nat.{ℕ, suc, ◌+◌, ◌-◌, ◌^◌, ◌≤◌, ◌<◌, mi
 use mathlib.Core.Path.{◌≡◌, refl, sym, ap, ◌∙◌}
 use mathlib.Core.Logic.{◌⊎◌, inl, inr, ⊎_elim}
 use mathlib.Core.Bool.{not}
-use mathlib.Core.List.{List, [], ◌∷◌, ◌++◌}
+use mathlib.Core.List.{List, [], ◌∷◌}
 use native.Mathlib.Numerals.{add-one}
 use native.Mathlib.Decide.{dec_lt}
 use native.Mathlib.Omega.{arith}
@@ -23,16 +23,16 @@ use Rattle.state.specs.Model.{Datum, Store, State, end_limit, last_whole}
 use Rattle.state.specs.Layout.{held_count, entry_count, datum_at, head_of, store_of, state_of, own_at}
 use Rattle.state.specs.Form.{in_form}
 use Rattle.state.proofs.StateLaws.{length-held, length-entries, form_ok}
-use Rattle.state.proofs.StoreLaws.{column_front, length_column}
 use Rattle.asking.specs.declared.Answer.TheVariants.{Contradicted, Open, Between}
 use Rattle.asking.specs.Asking.{interval, exact, answer}
 use Rattle.asking.specs.code.Plain.{greatest_left, least_right}
 use Rattle.asking.specs.code.Claims.{inside, needed_at, everything, Explained}
 use Rattle.search.specs.code.Search.{Rows, Fits, Best, preds}
-use Rattle.claims.specs.code.Tables.{entry_claim, claim_at, Loaded, Bounded, claim_left, claim_right}
-use Rattle.search.specs.code.LeftEnds.{outside, Ready, needs, FirstEnd, Complete}
+use Rattle.search.specs.declared.rows.Span.{Span}
+use Rattle.claims.specs.code.Tables.{entry_claim, claim_at, Loaded, Bounded, claim_span}
+use Rattle.search.specs.code.LeftEnds.{outside, lefts_of, rights_of, Ready, needs, FirstEnd, Complete}
 use Rattle.claims.specs.declared.keys.Scale.{Scale}
-use Rattle.claims.specs.code.Keys.{scale_of, step_of, down_by, up_by, key_of, last_key, keyed, keyed_state}
+use Rattle.claims.specs.code.Keys.{scale_of, start_of, step_of, down_by, up_by, key_of, last_key, keyed, keyed_state}
 use Rattle.claims.proofs.KeyLaws.{mapped_loaded, bounded_in, keys_low}
 use Rattle.claims.proofs.ReadyLaws.{ready_in, rows_most_lem}
 use Rattle.ends.specs.Ends.{count_of, Split, up}
@@ -43,7 +43,8 @@ use Rattle.asking.proofs.AnswerLaws.{answer-rounded}
 use Rattle.asking.proofs.MappedLaws.{answer-keyed, keyed-low, keyed-everything}
 use Rattle.asking.proofs.EndLaws.{answer_open, answer-none, answer-between, right_too}
 use Rattle.predicates.proofs.IndexLaws.{in_at}
-use Rattle.claims.proofs.TableLaws.{claim_datum}
+use Rattle.claims.proofs.TableLaws.{claim_datum, left-stored, right-stored, ends-long}
+use Rattle.asking.specs.code.Mirror.{mirrored}
 use Rattle.asking.proofs.ArrayLaws.{fits_allowed, allowed_fits, order-everything, everything-order, needs_needed, needed_needs, left-outside, right-outside}
 
 -- ---- the held data, one after the other
@@ -156,8 +157,8 @@ module _ (limit : ℕ) (st : State) (n rows : ℕ) (table : Rows) (order : List 
             explained_in lefts rights end end (left-same end end refl) set f.4
 
         -- a right end is explained once a left one is
-        found : set' < no_set
-        found = go (dec_lt set' no_set)
+        pub ends-found : set' < no_set
+        ends-found = go (dec_lt set' no_set)
           where
             go : Dec (set' < no_set) → set' < no_set
             go (yes h) = h
@@ -169,7 +170,7 @@ module _ (limit : ℕ) (st : State) (n rows : ℕ) (table : Rows) (order : List 
                 (explained_out low high (get_or low r.0 0) w.0.right (right-same _ _ e.1 e.0) w.2))
 
         place : (i : ℕ) × (i < rows) × (end' ≡ last - get_or rights i 0) × (get_or rights i 0 ≤ last)
-        place = let f = first'.found found in (f.0, f.2, f.3 ∙ lows f.0 f.2, (below f.0 f.2).1)
+        place = let f = first'.found ends-found in (f.0, f.2, f.3 ∙ lows f.0 f.2, (below f.0 f.2).1)
 
         pub ends-room : end' ≤ last
         ends-room = let p = place in omega (arith, p.2)
@@ -184,7 +185,7 @@ module _ (limit : ℕ) (st : State) (n rows : ℕ) (table : Rows) (order : List 
             let r = row_of d m in
             let e = left_is d r.0 r.2 r.3 in
             first.others r.0 r.1 r.2 (inr (omega (arith, e))) w.0 (explained_out lefts rights (get_or lefts r.0 0) d.left (left-same _ _ e) w))
-            (explained_in low high end' y (right-same end' y p.3 p.2) set' (first'.found found).4)
+            (explained_in low high end' y (right-same end' y p.3 p.2) set' (first'.found ends-found).4)
             (λ d m l w.
             let r = row_of d m in
             let e = right_is d r.0 r.2 r.3 in
@@ -259,25 +260,35 @@ module _ (s : List ℕ) (t : T (in_form s)) (n rows : ℕ) (table : Rows) (order
   unfolding state_of keyed_state
   keyed_tied limit every = rw (keyed-everything s t) every
 
-  module _ (l₀ r₀ l r : List ℕ) (p : rows ≤ length l₀) (q : rows ≤ length r₀) (e : l ≡ tab rows (claim_left (key_of s) s n) ++ drop rows l₀)
-      (f : r ≡ tab rows (claim_right (key_of s) s n) ++ drop rows r₀) where
+  module _ (ends : List Span) (e : ends ≡ tab rows (claim_span (key_of s) s n)) where
+    abbrev l : List ℕ
+    l = lefts_of ends
+
+    abbrev r : List ℕ
+    r = rights_of ends
+
     pub ends_bounded : Bounded (keyed s) rows l r
-    ends_bounded = bounded_in s t n rows entries-count rows-count l₀ r₀ l r p q e f
+    ends_bounded = bounded_in s t n rows entries-count rows-count ends e
 
     pub ends_low : (i : ℕ) → i < rows → (get_or l i 0 ≤ last) × (get_or r i 0 ≤ last)
-    ends_low = keys_low s t n rows entries-count rows-count l₀ r₀ l r p q e f
+    ends_low = keys_low s t n rows entries-count rows-count ends e
 
     pub ends_ready : Ready n rows l r table order
     ends_ready = ready_in keyed_loaded rows_fit l r order ends_bounded complete (λ i h. omega (arith, (ends_low i h).0))
 
     -- as seen from the last end
-    module _ (low₀ high₀ low high : List ℕ) (a : rows ≤ length low₀) (b : rows ≤ length high₀)
-        (c : low ≡ tab rows (λ i. last - get_or r i 0) ++ drop rows low₀) (d : high ≡ tab rows (λ i. last - get_or l i 0) ++ drop rows high₀) where
+    module _ (seen : List Span) (c : seen ≡ tab rows (mirrored ends)) where
+      abbrev low : List ℕ
+      low = lefts_of seen
+
+      abbrev high : List ℕ
+      high = rights_of seen
+
       low_is : (i : ℕ) → i < rows → get_or low i 0 ≡ last - get_or r i 0
-      low_is i h = column_front (λ k. last - get_or r k 0) rows i low₀ low c h
+      low_is = left-stored rows (mirrored ends) seen c
 
       high_is : (i : ℕ) → i < rows → get_or high i 0 ≡ last - get_or l i 0
-      high_is i h = column_front (λ k. last - get_or l k 0) rows i high₀ high d h
+      high_is = right-stored rows (mirrored ends) seen c
 
       pub mirror_ready : Ready n rows low high table order
       mirror_ready =
@@ -285,8 +296,8 @@ module _ (s : List ℕ) (t : T (in_form s)) (n rows : ℕ) (table : Rows) (order
           record {
             entries_le = w.entries_le;
             most = w.most;
-            lefts-long = omega (arith, length_column (λ k. last - get_or r k 0) rows low₀ low c a);
-            rights-long = omega (arith, length_column (λ k. last - get_or l k 0) rows high₀ high d b);
+            lefts-long = omega (arith, (ends-long rows (mirrored ends) seen c).0);
+            rights-long = omega (arith, (ends-long rows (mirrored ends) seen c).1);
             below = λ i h. omega (arith, low_is i h);
             empty = λ i h.
                 let j : i < rows = omega (arith, w.entries_le) in omega (arith, low_is i j, high_is i j, w.empty i h, ends_low i j);
@@ -299,6 +310,12 @@ module _ (s : List ℕ) (t : T (in_form s)) (n rows : ℕ) (table : Rows) (order
       module _ (limit free : ℕ) (g : free ≡ others (num own_at 4 s)) (every : Explained limit (state_of s) (everything (store_of s)) → ⊥)
           (end set end' set' : ℕ) (first : FirstEnd n rows l r table order limit free end set) (some : set < no_set)
           (first' : FirstEnd n rows low high table order limit free end' set') where
+        pub mirror_found : set' < no_set
+        unfolding keyed_state head_of
+        mirror_found =
+            ends-found limit (keyed_state s) n rows table order keyed_loaded complete (keyed_tied limit every) l r ends_bounded end set (rw g at first) some
+            last low high low_is high_is ends_low end' set' (rw g at first')
+
         pub between-room : end' ≤ last
         unfolding keyed_state head_of
         between-room =
@@ -312,7 +329,7 @@ module _ (s : List ℕ) (t : T (in_form s)) (n rows : ℕ) (table : Rows) (order
             last low high low_is high_is ends_low end' set' (rw g at first')
 
         module _ (scale : Scale) (k : scale ≡ scale_of s) where
-          pub between-low : (scale.base ≤ last_whole) × (last - end' + step_of scale ≤ 2 ^ 64)
+          pub between-low : (start_of scale ≤ last_whole) × (last - end' + step_of scale ≤ 2 ^ 64)
           between-low = keyed-low s t limit scale k end (last - end') exact-between
 
           pub between_is : Between (down_by scale end) (up_by scale (last - end')) ≡ answer limit (state_of s)

@@ -9,7 +9,8 @@ use native.Mathlib.Decide.{dec_le}
 use native.Mathlib.Omega.{arith}
 use lib.Dec.{T, leb}
 use lib.IntN.{ℤ, pos}
-use Rattle.predicates.specs.Lists.{all, In}
+use Rattle.std.specs.List.{list_all}
+use Rattle.predicates.specs.Lists.{In}
 use Rattle.predicates.specs.Predicates.{holds}
 use Rattle.predicates.proofs.ListLaws.{split, cond_ind, keep_in, keep_out}
 use Rattle.state.specs.Model.{Datum, Store, State}
@@ -60,18 +61,18 @@ pub record Reached (s : ℕ) (k : Store) (x : ℤ) : Type 0 where
   pub last : Datum
   pub first-held : In first k.held
   pub last-held : In last k.held
-  pub first_true : T (all (holds s) (needed_at first.left k))
-  pub last_true : T (all (holds s) (needed_at last.right k))
+  pub first_true : T (list_all (holds s) (needed_at first.left k))
+  pub last_true : T (list_all (holds s) (needed_at last.right k))
   pub reached : Within first.left last.right x
 
-pub fine_ends : (s : ℕ) (k : Store) (x : ℤ) → Fine s k x → T (all (holds s) (everything k)) ⊎ Reached s k x
+pub fine_ends : (s : ℕ) (k : Store) (x : ℤ) → Fine s k x → T (list_all (holds s) (everything k)) ⊎ Reached s k x
 unfolding active
 fine_ends s k x h = go (common (active s k.held)) (common-given s k.held) (common-ends (active s k.held))
   where
     held-active : (d : Datum) → In d (active s k.held) → In d k.held
     held-active d m = (keep_out (λ (e : Datum). not (holds s e.terms)) k.held d m).0
 
-    go : (a : Answer) → Gives (InAll s k.held) a → EndsOf (active s k.held) a → T (all (holds s) (everything k)) ⊎ Reached s k x
+    go : (a : Answer) → Gives (InAll s k.held) a → EndsOf (active s k.held) a → T (list_all (holds s) (everything k)) ⊎ Reached s k x
     go Contradicted g e = absurd (g x h.1)
     go Open g e = inl (everything_in s k h.0 (λ d m. hold d m (split (holds s d.terms))))
       where

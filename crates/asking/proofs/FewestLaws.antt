@@ -12,14 +12,14 @@ use lib.Dec.{T, T_not, not_T, leb, leb→le, nleb→lt, ltb, ltb→lt, nltb→le
 use lib.Count.{ones}
 use lib.IntN.{ℤ, pos}
 use Rattle.names.proofs.SetLaws.{ones-empty, ones_none}
-use Rattle.predicates.specs.Lists.{all, keep, In}
+use Rattle.std.specs.List.{list_all, filter}
+use Rattle.predicates.specs.Lists.{In}
 use Rattle.predicates.specs.Predicates.{holds}
 use Rattle.predicates.proofs.ListLaws.{both, both_l, both_r, or_cases, neither, cond_ind, keep_in, keep_out}
 use Rattle.state.specs.Model.{Datum, Store, State}
 use Rattle.asking.specs.declared.Answer.{Answer}
 use Rattle.asking.specs.declared.Answer.TheVariants.{Contradicted, Open, Between}
-use Rattle.asking.specs.declared.Fewest.{Fewest}
-use Rattle.asking.specs.declared.Fewest.TheVariants.{Over, Few}
+use Rattle.asking.specs.Fewest.{Fewest, Over, Few}
 use Rattle.asking.specs.Instants.{Fine, Allowed, Counts, Gives}
 use Rattle.asking.specs.Asking.{leaves, sets_within, exact, rounded, answer}
 use Rattle.asking.specs.code.Claims.{needed_at, everything}
@@ -130,7 +130,7 @@ unfolding fewest
 fewest_is st =
     let k = st.store in
     let own = st.head.own in
-    choose-fewest (Works st) (keep (works k) (sets_within own 4))
+    choose-fewest (Works st) (filter (works k) (sets_within own 4))
     (λ s m. let r = keep_out (works k) (sets_within own 4) s m in works_in st s (allowed_out 4 own s r.0) r.1)
     (λ s w. keep_in (works k) (sets_within own 4) s (allowed_in 4 own s w.0) (works_out st s w))
 
@@ -148,7 +148,7 @@ rounded-same st = go (exact 0 st)
 
 -- a set makes every predicate true, or those that a left end of held data needs
 abbrev pub Seen : ℕ → Store → Type 0
-Seen u k = T (all (holds u) (everything k)) ⊎ ((d : Datum) × In d k.held × T (all (holds u) (needed_at d.left k)))
+Seen u k = T (list_all (holds u) (everything k)) ⊎ ((d : Datum) × In d k.held × T (list_all (holds u) (needed_at d.left k)))
 
 module _ (st : State) where
   pub works-ends : (u : ℕ) → Works st u → Seen u st.store

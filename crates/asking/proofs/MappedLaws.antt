@@ -10,22 +10,22 @@ use native.Mathlib.Decide.{dec_lt, dec_le}
 use native.Mathlib.Omega.{arith}
 use borrow.Author.Tests.{le-leb, lt-leb}
 use lib.Dec.{T, leb}
-use Rattle.predicates.specs.Lists.{all, keep, In}
+use Rattle.std.specs.List.{list_all, filter}
+use Rattle.predicates.specs.Lists.{In}
 use Rattle.predicates.specs.Predicates.{holds}
 use Rattle.predicates.proofs.ListLaws.{keep_out}
 use Rattle.state.specs.Model.{Datum, Store, last_whole}
 use Rattle.state.specs.Layout.{store_of, state_of}
 use Rattle.state.specs.Form.{in_form}
 use Rattle.claims.specs.declared.keys.Scale.{Scale}
-use Rattle.claims.specs.code.Keys.{scale_of, step_of, down_by, up_by, key_of, map_ends, mapped, keyed, keyed_state}
+use Rattle.claims.specs.code.Keys.{scale_of, start_of, step_of, down_by, up_by, key_of, map_ends, mapped, keyed, keyed_state}
 use Rattle.claims.proofs.KeyLaws.{Keyed, scale_last, key_less, key_down, key_up, held-keyed}
 use Rattle.asking.specs.declared.Answer.{Answer}
 use Rattle.asking.specs.declared.Answer.TheVariants.{Contradicted, Open, Between}
 use Rattle.asking.specs.Asking.{interval, cut, common, active, leaves, sets_within, either, left_by, exact, rounded, answer}
 use Rattle.asking.specs.Fewest.{not_contradicted, works, fewest, Works, FewestOf}
 use Rattle.asking.specs.code.Claims.{terms_of, everything}
-use Rattle.asking.specs.declared.Fewest.{Fewest}
-use Rattle.asking.specs.declared.Fewest.TheVariants.{Over, Few}
+use Rattle.asking.specs.Fewest.{Fewest, Over, Few}
 use Rattle.asking.proofs.FewestLaws.{fewest_is, fewest_only, works_in, works_out}
 
 -- the answer with f of its ends
@@ -36,7 +36,7 @@ mapped_answer f (Between l r) = Between (f l) (f r)
 
 -- a test of the predicates passes over the ends
 keep-mapped : (f : ℕ → ℕ) (g : List ℕ → Bool) (ds : List Datum)
-    → keep (λ (d : Datum). g d.terms) (map (map_ends f) ds) ≡ map (map_ends f) (keep (λ (d : Datum). g d.terms) ds)
+    → filter (λ (d : Datum). g d.terms) (map (map_ends f) ds) ≡ map (map_ends f) (filter (λ (d : Datum). g d.terms) ds)
 keep-mapped f g [] = refl
 keep-mapped f g (d ∷ ds) = go (g d.terms) _ _ (keep-mapped f g ds)
   where
@@ -126,7 +126,7 @@ module _ (f : ℕ → ℕ) (P : ℕ → Type 0) (rises : (x y : ℕ) → P x →
     unfolding leaves mapped active
     map-leaves s =
         rw (keep-mapped f (λ p. not (holds s p)) k.held)
-        (either_way (all (holds s) k.entries) _ _
+        (either_way (list_all (holds s) k.entries) _ _
         (map-common (active s k.held) (λ d m. held d (keep_out (λ (e : Datum). not (holds s e.terms)) k.held d m).0)))
       where
         either_way : (b : Bool) (x y : Answer) → Follows x y → Follows (cond b x Contradicted) (cond b y Contradicted)
@@ -185,7 +185,7 @@ module _ (s : List ℕ) (t : T (in_form s)) where
 
     -- the right key can be read
     pub keyed-low : (scale : Scale) → scale ≡ scale_of s → (l r : ℕ) → Between l r ≡ exact limit (keyed_state s)
-        → (scale.base ≤ last_whole) × (r + step_of scale ≤ 2 ^ 64)
+        → (start_of scale ≤ last_whole) × (r + step_of scale ≤ 2 ^ 64)
     keyed-low scale c l r e = (scale_last s scale c, rw c (go (exact limit (state_of s)) (exact-keyed limit).1 (e ∙ (exact-keyed limit).0)))
       where
         go : (a : Answer) → Among key Stored rises a → Between l r ≡ mapped_answer key a → r + step_of (scale_of s) ≤ 2 ^ 64

@@ -78,14 +78,14 @@ module _ (u : ℕ) (p : List ℕ) where
 
 pub common_in : (u names : ℕ) (ds : List Datum) → T (subset u names) → ((d : Datum) → In d ds → T (subset u (singles d.terms)))
     → T (subset u (common_names names (masks_of ds)))
-unfolding common_names masks_of
+unfolding masks_of
 common_in u names [] h f = h
 common_in u names (d ∷ ds) h f =
     common_in u (shared names (singles d.terms)) ds (shared-greatest u names (singles d.terms) h (f d (inl refl))) (λ e m. f e (inr m))
 
 pub common_out : (u names : ℕ) (ds : List Datum) → T (subset u (common_names names (masks_of ds)))
     → T (subset u names) × ((d : Datum) → In d ds → T (subset u (singles d.terms)))
-unfolding common_names masks_of
+unfolding masks_of
 common_out u names [] h = (h, λ d m. absurd m)
 common_out u names (d ∷ ds) h =
     let r = common_out u (shared names (singles d.terms)) ds h in (
@@ -94,13 +94,13 @@ common_out u names (d ∷ ds) h =
     )
 
 all_names-above : (names : ℕ) (ds : List Datum) → T (subset names (all_names names (masks_of ds)))
-unfolding all_names masks_of
+unfolding masks_of
 all_names-above names [] = subset_refl names
 all_names-above names (d ∷ ds) =
     subset_trans names (set_union names (singles d.terms)) _ (union_left names (singles d.terms)) (all_names-above (set_union names (singles d.terms)) ds)
 
 pub all_names_in : (names : ℕ) (ds : List Datum) (d : Datum) → In d ds → T (subset (singles d.terms) (all_names names (masks_of ds)))
-unfolding all_names masks_of
+unfolding masks_of
 all_names_in names [] d m = absurd m
 all_names_in names (e ∷ ds) d (inl q) =
     subst (λ (c : Datum). T (subset (singles c.terms) (all_names (set_union names (singles e.terms)) (masks_of ds)))) (sym q)

@@ -5,7 +5,7 @@ use Prim.Native.Nat.{ℕ, zero, suc, ◌+◌, ◌-◌, ◌^◌, ◌≤◌, ◌<�
 use mathlib.Core.Path.{◌≡◌, refl, sym, ap, ap₂, subst, ◌∙◌}
 use mathlib.Core.Logic.{◌⊎◌, inl, inr, ⊎_elim}
 use mathlib.Core.Bool.{Bool, true, false, ◌||◌, not, cond}
-use mathlib.Core.List.{List, [], ◌∷◌, ◌++◌}
+use mathlib.Core.List.{List, [], ◌∷◌}
 use native.Mathlib.Decide.{ℕ_discrete, dec_lt}
 use native.Mathlib.Numerals.{add-one}
 use native.Mathlib.Omega.{arith}
@@ -14,31 +14,31 @@ use lib.Count.{ones}
 use lib.Pow.{pow_pos}
 use lib.Dec.{T, T_not, not_T, eqb, eqb→eq, ltb}
 use lib.IntN.{ℤ, pos}
-use lib.ListN.{length, get_or, take, drop, length-map, drop_of_length-le}
-use lib.Seq.{take_at, drop-cons}
+use lib.ListN.{length, get_or, drop, length-map, drop_of_length-le}
+use lib.Seq.{drop-cons}
 use Rattle.numbers.specs.Numbers.{num, tab}
 use Rattle.numbers.proofs.NumberLaws.{get_or-tab, length-tab, tab_ext, above_zero}
 use Rattle.names.specs.Sets.{no_set, subset, set_union, has, minus}
 use Rattle.names.specs.code.Parts.{shared, others, least_name}
-use Rattle.names.proofs.SetLaws.{ones_none, ones-empty, has-empty, has-single, subset_le, subset-empty, subset_trans, subset_out, digits_ext, digit-empty, digit-union, digit_lt}
+use Rattle.names.proofs.SetLaws.{subset_refl, ones_none, ones-empty, has-empty, has-single, subset_le, subset-empty, subset_trans, subset_out, digits_ext, digit-empty, digit-union, digit_lt}
 use Rattle.names.proofs.PartLaws.{others_in, others_lt, others_out, shared-greatest, shared-right, shared-left, digit-shared, digit-minus, minus-subset, single_part, least_name_in, least_name-one}
-use Rattle.predicates.specs.Lists.{all, In}
+use Rattle.std.specs.List.{list_all}
+use Rattle.predicates.specs.Lists.{In}
 use Rattle.predicates.specs.Predicates.{holds}
 use Rattle.predicates.specs.code.Marks.{singles}
 use Rattle.predicates.proofs.ListLaws.{split, keep_in, map_out, true_T, or_l, or_r, or_cases}
 use Rattle.predicates.proofs.IndexLaws.{get_or_map, at_in, in_at}
-use Rattle.predicates.proofs.LoopLaws.{drop_next}
 use Rattle.state.specs.Model.{Datum, Store, State, last_whole}
 use Rattle.state.specs.Layout.{held_count, entry_count, datum_at, head_of, store_of, state_of, own_at}
 use Rattle.state.specs.Form.{in_form}
 use Rattle.state.proofs.StateLaws.{length-held, length-entries, form_ok}
-use Rattle.state.proofs.StoreLaws.{column_front}
-use Rattle.search.specs.code.LeftEnds.{no_end}
+use Rattle.search.specs.code.LeftEnds.{no_end, lefts_of, rights_of}
 use Rattle.claims.specs.declared.keys.Scale.{Scale}
-use Rattle.claims.specs.code.Keys.{scale_of, step_of, down_by, up_by, key_of, map_ends, mapped, keyed, keyed_state}
-use Rattle.claims.specs.code.Tables.{entry_claim, claim_at, claim_left, claim_right}
+use Rattle.claims.specs.code.Keys.{scale_of, start_of, step_of, down_by, up_by, key_of, map_ends, mapped, keyed, keyed_state}
+use Rattle.search.specs.declared.rows.Span.{Span}
+use Rattle.claims.specs.code.Tables.{entry_claim, claim_at, claim_left, claim_right, claim_span}
 use Rattle.claims.specs.code.Degrees.{deciding}
-use Rattle.claims.proofs.TableLaws.{datum_claim}
+use Rattle.claims.proofs.TableLaws.{datum_claim, left-stored, right-stored}
 use Rattle.claims.proofs.KeyLaws.{key_low, held-keyed, mapped_entry}
 use Rattle.asking.specs.Asking.{active, exact, answer}
 use Rattle.asking.specs.code.Plain.{greatest_left, least_right}
@@ -57,21 +57,8 @@ use Rattle.asking.proofs.OneLaws.{common_in, common_out, one_holds, holds_one_le
 -- ---- the masks, one after the other
 
 module _ (masks : List ℕ) (i : ℕ) where
-  pub common-turn : i < length masks → (names : ℕ) → common_names (shared names (get_or masks i 0)) (drop (i + 1) masks) ≡ common_names names (drop i masks)
-  unfolding common_names
-  common-turn h names = rw (drop_next masks i h)
-
   pub common-done : length masks ≤ i → (names : ℕ) → common_names names (drop i masks) ≡ names
-  unfolding common_names
   common-done h names = rw (drop_of_length-le masks {i = i} h)
-
-  pub all-turn : i < length masks → (names : ℕ) → all_names (set_union names (get_or masks i 0)) (drop (i + 1) masks) ≡ all_names names (drop i masks)
-  unfolding all_names
-  all-turn h names = rw (drop_next masks i h)
-
-  pub all_done : length masks ≤ i → (names : ℕ) → all_names names (drop i masks) ≡ names
-  unfolding all_names
-  all_done h names = rw (drop_of_length-le masks {i = i} h)
 
 -- ---- the held data, one after the other
 
@@ -175,10 +162,10 @@ module _ (held : List Datum) {lefts rights masks : List ℕ} (kept : InArrays he
   pub begun-empty : 0 < length held → (left right : ℕ) → left ≡ greatest_left 0 (active 0 held) → right ≡ least_right no_end (active 0 held)
       → (l r : ℕ) → l ≡ cond (ltb right left) no_end (min no_end left) → r ≡ cond (ltb right left) 0 (max 0 right) → Hull held (AtMostOne true 0) l r
   begun-empty h left right a b l r p q =
-      let all : active 0 held ≡ held = all-active held kept.bare in
+      let list_all : active 0 held ≡ held = all-active held kept.bare in
       hull_more held (AtMostOne false 0) (AtMostOne true 0) 0 no_end 0 left right begun-none
       (λ v. ⊎_elim (λ t. absurd t.0) (λ o. inr o)) (inl (tt, refl)) (λ v. ⊎_elim (λ t. inr t.1) (λ o. inl (inr o)))
-      (span-given held kept.below 0 left right a b (rw all h))
+      (span-given held kept.below 0 left right a b (rw list_all h))
       (span_right held kept.below 0 left right a b) l r p q
 
   -- sets that leave every predicate false leave the same
@@ -229,7 +216,7 @@ module _ (held : List Datum) {lefts rights masks : List ℕ} (kept : InArrays he
 -- ---- the state with keys for ends
 
 module _ (s : List ℕ) (form : T (in_form s)) where
-  pub keyed-bare : T (all (λ p. not (holds 0 p)) (keyed_state s).store.entries) × ((d : Datum) → In d (keyed_state s).store.held → T (not (holds 0 d.terms)))
+  pub keyed-bare : T (list_all (λ p. not (holds 0 p)) (keyed_state s).store.entries) × ((d : Datum) → In d (keyed_state s).store.held → T (not (holds 0 d.terms)))
   unfolding keyed_state state_of
   keyed-bare = each_bare (keyed_state s) (rw (keyed-everything s form) (form-bare (state_of s) (form_ok s form)))
 
@@ -258,12 +245,12 @@ module _ (s : List ℕ) (form : T (in_form s)) where
   keyed-count = length-map (store_of s).held (map_ends (key_of s)) ∙ length-held s
 
   -- the masks that are read from the bytes
-  pub masks-read : (n h : ℕ) (rest l : List ℕ) → n ≡ entry_count s → h ≡ held_count s
-      → l ≡ tab h (λ i. singles (claim_at (store_of s) (n + i)).terms) ++ rest → take h l ≡ masks_of (keyed s).held
+  pub masks-read : (n h : ℕ) (l : List ℕ) → n ≡ entry_count s → h ≡ held_count s
+      → l ≡ tab h (λ i. singles (claim_at (store_of s) (n + i)).terms) → l ≡ masks_of (keyed s).held
   unfolding masks_of
-  masks-read n h rest l a b e =
+  masks-read n h l a b e =
       let k = store_of s in
-      ap (take h) e ∙ take_at (tab h (λ i. singles (claim_at k (n + i)).terms)) rest h (length-tab h _)
+      e
       ∙ tab_ext 0 h (λ i. singles (claim_at k (n + i)).terms) (masks_of (keyed s).held) (length-map (keyed s).held (λ (d : Datum). singles d.terms) ∙ keyed-count ∙ sym b) (λ i l.
       let inside : i < held_count s = omega arith in
       let place : n + i ≡ entry_count s + i = omega arith in
@@ -272,20 +259,20 @@ module _ (s : List ℕ) (form : T (in_form s)) where
       ∙ sym (get_or_map (λ (d : Datum). singles d.terms) (keyed s).held (entry_claim []) 0 i (omega (arith, keyed-count)) ∙ ap (λ (d : Datum). singles d.terms) (keyed_at i inside)))
 
   -- the keys that are made of the bytes
-  pub kept_in : (h : ℕ) (l₀ r₀ l r masks : List ℕ) → h ≡ held_count s → l ≡ tab h (claim_left (key_of s) s 0) ++ drop h l₀
-      → r ≡ tab h (claim_right (key_of s) s 0) ++ drop h r₀ → masks ≡ masks_of (keyed s).held → InArrays (keyed s).held l r masks
+  pub kept_in : (h : ℕ) (ends : List Span) (masks : List ℕ) → h ≡ held_count s → ends ≡ tab h (claim_span (key_of s) s 0)
+      → masks ≡ masks_of (keyed s).held → InArrays (keyed s).held (lefts_of ends) (rights_of ends) masks
   unfolding claim_left claim_right masks_of keyed_state
-  kept_in h l₀ r₀ l r masks b e f m =
+  kept_in h ends masks b e m =
       record {
         masks_are = m;
         left_is = λ i k.
             let j : i < h = omega (arith, long, b) in
             let same : i - 0 ≡ i = omega arith in
-            column_front (claim_left (key_of s) s 0) h i l₀ l e j ∙ rw (le-ltb i 0 (omega arith), same, keyed_at i (omega arith));
+            left-stored h (claim_span (key_of s) s 0) ends e i j ∙ rw (le-ltb i 0 (omega arith), same, keyed_at i (omega arith));
         right_is = λ i k.
             let j : i < h = omega (arith, long, b) in
             let same : i - 0 ≡ i = omega arith in
-            column_front (claim_right (key_of s) s 0) h i r₀ r f j ∙ rw (le-ltb i 0 (omega arith), same, keyed_at i (omega arith));
+            right-stored h (claim_span (key_of s) s 0) ends e i j ∙ rw (le-ltb i 0 (omega arith), same, keyed_at i (omega arith));
         bare = keyed-bare.1;
         below = keyed_lasts;
       }
@@ -349,6 +336,11 @@ module _ (s : List ℕ) (form : T (in_form s)) (n names : ℕ) (a : n ≡ entry_
   abbrev own : ℕ
   own = st.head.own
 
+  pub decided-below : names < no_set
+  decided-below =
+      let inside : T (subset names (deciding (store_of s) (num own_at 4 s) n)) = rw (sym b) (subset_refl names) in
+      others_lt (num own_at 4 s) names (deciding_out (store_of s) (num own_at 4 s) names n inside).0
+
   entries_are : n ≡ length st.store.entries
   unfolding keyed_state keyed mapped
   entries_are = a ∙ sym (length-entries s)
@@ -362,7 +354,7 @@ module _ (s : List ℕ) (form : T (in_form s)) (n names : ℕ) (a : n ≡ entry_
 
   module _ (plain : Bool) (p : plain ≡ eqb n 0) where
     -- those that make every entry true are the names that decide, and the empty set where there are no entries
-    one_out : (u : ℕ) → Allowed 1 own u → T (all (holds u) st.store.entries) → AtMostOne plain names u
+    one_out : (u : ℕ) → Allowed 1 own u → T (list_all (holds u) st.store.entries) → AtMostOne plain names u
     one_out u w h = go (dec_lt 0 (ones u)) (ℕ_discrete n 0)
       where
         true_entry : (i : ℕ) → i < n → T (holds u (claim_at st.store i).terms)
@@ -376,7 +368,7 @@ module _ (s : List ℕ) (form : T (in_form s)) (n names : ℕ) (a : n ≡ entry_
             absurd (T_not (holds 0 (claim_at st.store 0).terms) (bare_entry 0 first)
             (subst (λ (v : ℕ). T (holds v (claim_at st.store 0).terms)) (ones_none u (omega arith)) (true_entry 0 first)))
 
-    one_in : (u : ℕ) → AtMostOne plain names u → Allowed 1 own u × T (all (holds u) st.store.entries)
+    one_in : (u : ℕ) → AtMostOne plain names u → Allowed 1 own u × T (list_all (holds u) st.store.entries)
     one_in u (inl t) =
         let none = eqb→eq n 0 (rw p at t.0) in (
           record { names = omega (arith, t.1); few = omega (arith, ap ones t.1, ones-empty); others = rw t.1 (has-empty own) },
@@ -409,7 +401,7 @@ module _ (s : List ℕ) (form : T (in_form s)) (n names : ℕ) (a : n ≡ entry_
           answer_is 1 st (Between left right) (one-counts f.0 f.1 (pos left) f.2, one-counts l.0 l.1 (pos right) l.2, counts-within)
 
       module _ (scale : Scale) (k : scale ≡ scale_of s) (h : left ≤ right) where
-        pub one-low : (scale.base ≤ last_whole) × (right + step_of scale ≤ 2 ^ 64)
+        pub one-low : (start_of scale ≤ last_whole) × (right + step_of scale ≤ 2 ^ 64)
         one-low = keyed-low s form 1 scale k left right (exact-between h)
 
         pub one-between : Between (down_by scale left) (up_by scale right) ≡ answer 1 (state_of s)
@@ -466,15 +458,14 @@ module _ (s : List ℕ) (form : T (in_form s)) (n names : ℕ) (a : n ≡ entry_
           go : Dec (0 < length (active c ds)) → 0 < length (active c ds)
           go (yes l) = l
           go (no f) =
-              let all = common_in c names ds o.1 (λ d i. hold f d i (split (holds c d.terms))) in
-              absurd (one-some c o.0 (subset-empty c (rw (sym common_is ∙ z) at all)))
+              let list_all = common_in c names ds o.1 (λ d i. hold f d i (split (holds c d.terms))) in
+              absurd (one-some c o.0 (subset-empty c (rw (sym common_is ∙ z) at list_all)))
 
     -- what the calls leave of the data, and what all names leave then
-    pub one_hull : (z : r ≡ 0) (h : ℕ) (l₀ r₀ lefts rights : List ℕ) → h ≡ held_count s → lefts ≡ tab h (claim_left (key_of s) s 0) ++ drop h l₀
-        → rights ≡ tab h (claim_right (key_of s) s 0) ++ drop h r₀ → (left right : ℕ)
-        → ((es : List Datum) → InArrays es lefts rights masks → Lacking es names → Hull es (AtMostOne (eqb n 0) names) left right)
+    pub one_hull : (z : r ≡ 0) (h : ℕ) (ends : List Span) → h ≡ held_count s → ends ≡ tab h (claim_span (key_of s) s 0) → (left right : ℕ)
+        → ((es : List Datum) → InArrays es (lefts_of ends) (rights_of ends) masks → Lacking es names → Hull es (AtMostOne (eqb n 0) names) left right)
         → Hull ds (AtMostOne (eqb n 0) names) left right
-    one_hull z h l₀ r₀ lefts rights k p q left right f = f ds (kept_in s form h l₀ r₀ lefts rights masks k p q m) (one_lacking z)
+    one_hull z h ends k p left right f = f ds (kept_in s form h ends masks k p m) (one_lacking z)
 
   -- ---- the fewest
 

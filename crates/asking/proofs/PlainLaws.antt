@@ -11,7 +11,8 @@ use borrow.Author.Tests.{lt-leb}
 use lib.Dec.{T, not_T, leb, nleb→lt, ltb, ltb→lt}
 use lib.ListN.{length}
 use Rattle.names.proofs.SetLaws.{subset-empty}
-use Rattle.predicates.specs.Lists.{all, In}
+use Rattle.std.specs.List.{list_all}
+use Rattle.predicates.specs.Lists.{In}
 use Rattle.predicates.specs.Predicates.{holds}
 use Rattle.predicates.proofs.PredicateLaws.{holds_out}
 use Rattle.predicates.proofs.ListLaws.{both_l, both_r, T_true, T_false, cond_ind, all_out}
@@ -87,11 +88,11 @@ all-active [] f = refl
 all-active (d ∷ ds) f =
     rw (T_true (not (holds 0 d.terms)) (f d (inl refl))) (ap (λ (es : List Datum). d ∷ es) (all-active ds (λ e m. f e (inr m))))
 
-some_false : (es : List (List ℕ)) → 0 < length es → T (all (λ p. not (holds 0 p)) es) → all (holds 0) es ≡ false
+some_false : (es : List (List ℕ)) → 0 < length es → T (list_all (λ p. not (holds 0 p)) es) → list_all (holds 0) es ≡ false
 some_false [] h t = absurd (omega arith)
-some_false (p ∷ es) h t = rw (T_false (holds 0 p) (both_l (not (holds 0 p)) (all (λ q. not (holds 0 q)) es) t))
+some_false (p ∷ es) h t = rw (T_false (holds 0 p) (both_l (not (holds 0 p)) (list_all (λ q. not (holds 0 q)) es) t))
 
-none_false : (es : List (List ℕ)) → length es ≡ 0 → all (holds 0) es ≡ true
+none_false : (es : List (List ℕ)) → length es ≡ 0 → list_all (holds 0) es ≡ true
 none_false [] h = refl
 none_false (p ∷ es) h = absurd (omega arith)
 
@@ -102,12 +103,12 @@ none-common (d ∷ ds) h = absurd (omega arith)
 
 -- ---- the answer; `bare`: the empty set makes no predicate true, as in a state in form
 
-module _ (st : State) (bare : T (all (λ p. not (holds 0 p)) (everything st.store))) where
-  pub each_bare : T (all (λ p. not (holds 0 p)) st.store.entries) × ((d : Datum) → In d st.store.held → T (not (holds 0 d.terms)))
+module _ (st : State) (bare : T (list_all (λ p. not (holds 0 p)) (everything st.store))) where
+  pub each_bare : T (list_all (λ p. not (holds 0 p)) st.store.entries) × ((d : Datum) → In d st.store.held → T (not (holds 0 d.terms)))
   unfolding everything
   each_bare = claims_out (λ p. not (holds 0 p)) st.store.entries st.store.held bare
 
-  plain-leaves : exact 0 st ≡ cond (all (holds 0) st.store.entries) (common st.store.held) Contradicted
+  plain-leaves : exact 0 st ≡ cond (list_all (holds 0) st.store.entries) (common st.store.held) Contradicted
   unfolding leaves
   plain-leaves = answer-leaves st ∙ rw (all-active st.store.held each_bare.1)
 
@@ -132,27 +133,27 @@ unfolding terms_fit term_fits
 fit_bare own width p h =
     not_T (holds 0 p) (λ k.
     let r = holds_out 0 p k in
-    let terms : T (all (term_fits own) p) = search (both_l, both_r) depth 9 in
+    let terms : T (list_all (term_fits own) p) = search (both_l, both_r) depth 9 in
     let some : T (ltb 0 r.0) = both_l (ltb 0 r.0) _ (all_out (term_fits own) p terms r.0 r.1) in
     omega (arith, ltb→lt 0 r.0 some, subset-empty r.0 r.2))
 
-fit_terms : (own width : ℕ) (p : List ℕ) → T (terms_fit own width p) → T (all (term_fits own) p)
+fit_terms : (own width : ℕ) (p : List ℕ) → T (terms_fit own width p) → T (list_all (term_fits own) p)
 unfolding terms_fit
 fit_terms own width p h = search (both_l, both_r) depth 9
 
 module _ (st : State) (ok : T (state_ok st)) where
   -- each term of a predicate fits
-  pub form-terms : T (all (all (term_fits st.head.own)) (everything st.store))
+  pub form-terms : T (list_all (list_all (term_fits st.head.own)) (everything st.store))
   unfolding everything datum_ok
   form-terms =
       let o = state_out st ok in
       let own = st.head.own in
-      claims_in (all (term_fits own)) st.store.entries st.store.held
-      (all_mono (terms_fit own entry_terms) (all (term_fits own)) st.store.entries (fit_terms own entry_terms) o.entries)
+      claims_in (list_all (term_fits own)) st.store.entries st.store.held
+      (all_mono (terms_fit own entry_terms) (list_all (term_fits own)) st.store.entries (fit_terms own entry_terms) o.entries)
       (λ d m. let h = all_out (datum_ok own) st.store.held o.held d m in fit_terms own 8 d.terms (search (both_l, both_r) depth 9))
 
   -- "no empty term"
-  pub form-bare : T (all (λ p. not (holds 0 p)) (everything st.store))
+  pub form-bare : T (list_all (λ p. not (holds 0 p)) (everything st.store))
   unfolding everything datum_ok
   form-bare =
       let o = state_out st ok in

@@ -14,7 +14,8 @@ use Rattle.names.specs.Sets.{subset, set_union, no_set}
 use Rattle.names.specs.code.Parts.{others}
 use Rattle.names.proofs.SetLaws.{empty-subset, union_left, union_right, union-least, ones-union, ones-empty}
 use Rattle.names.proofs.PartLaws.{others_in, others_lt, others_out}
-use Rattle.predicates.specs.Lists.{all, all_below}
+use Rattle.std.specs.List.{list_all}
+use Rattle.predicates.specs.Lists.{all_below}
 use Rattle.predicates.specs.Predicates.{holds, degree}
 use Rattle.predicates.proofs.ListLaws.{both_l, both_r, true_T, all_out}
 use Rattle.predicates.proofs.PredicateLaws.{holds_in, holds_mono, degree-least, degree-some}
@@ -49,10 +50,10 @@ module _ (limit : ℕ) (st : State) (ok : T (state_ok st)) where
   abbrev every : ℕ
   every = known + length k.held
 
-  fit : (i : ℕ) → i < every → T (all (term_fits own) (claim_at k i).terms)
-  fit = everything_at k every refl (all (term_fits own)) (form-terms st ok)
+  fit : (i : ℕ) → i < every → T (list_all (term_fits own) (claim_at k i).terms)
+  fit = everything_at k every refl (list_all (term_fits own)) (form-terms st ok)
 
-  pub hopeless-none : T (hopeless limit st) → (u : ℕ) → Allowed limit own u → T (all (holds u) k.entries) → ⊥
+  pub hopeless-none : T (hopeless limit st) → (u : ℕ) → Allowed limit own u → T (list_all (holds u) k.entries) → ⊥
   unfolding hopeless degree_within
   hopeless-none t u a h =
       T_not (all_below known (degree_within k limit)) t (below_in known (degree_within k limit) (λ i l.

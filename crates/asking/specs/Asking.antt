@@ -2,7 +2,7 @@
 -- together. Assumes nothing: these are definitions.
 use Rattle.std.specs.Prelude.{ℕ, zero, suc, ◌^◌, min, max, not, cond, List, [], ◌∷◌, ◌++◌, map, leb, eqb}
 use Rattle.names.specs.Sets.{set_union}
-use Rattle.predicates.specs.Lists.{all, keep}
+use Rattle.std.specs.List.{list_all, filter}
 use Rattle.predicates.specs.Predicates.{holds}
 use Rattle.ends.specs.Ends.{down, up}
 use Rattle.state.specs.Model.{Datum, Store, State}
@@ -28,12 +28,12 @@ common (d ∷ ds) = cut d (common ds)
 
 -- the data whose predicate the set leaves false
 unfoldable pub active : ℕ → List Datum → List Datum
-active s ds = keep (λ d. not (holds s d.terms)) ds
+active s ds = filter (λ d. not (holds s d.terms)) ds
 
 -- the instants that count for the set s: it "makes every entry true, and each held interval whose predicate that set leaves false contains the
 -- instant"
 unfoldable pub leaves : ℕ → Store → Answer
-leaves s k = cond (all (holds s) k.entries) (common (active s k.held)) Contradicted
+leaves s k = cond (list_all (holds s) k.entries) (common (active s k.held)) Contradicted
 
 -- ---- all sets within the limit
 

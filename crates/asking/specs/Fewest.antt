@@ -1,15 +1,23 @@
 -- The fewest failures (document 01, "Fewest failures"): "among sets of at most 4 names for which an instant so counts, the smallest, and of those
 -- the least mask; or 'over 4'". Once computed, and once as what it means. Assumes nothing: these are definitions.
-use Rattle.std.specs.Prelude.{ℕ, ◌≤◌, ◌<◌, ◌≡◌, ◌⊎◌, Bool, true, false, ◌&&◌, ◌||◌, cond, List, [], ◌∷◌, leb, ltb, eqb, ℤ}
+use Rattle.std.specs.Prelude.{ℕ, ◌≤◌, ◌<◌, ◌≡◌, ◌⊎◌, Bool, true, false, ◌&&◌, ◌||◌, cond, Option, None, Some, List, [], ◌∷◌, leb, ltb, eqb, ℤ}
 use Rattle.std.specs.Int.Count.{ones}
-use Rattle.predicates.specs.Lists.{keep}
+use Rattle.std.specs.List.{filter}
 use Rattle.state.specs.Model.{Store, State}
 use Rattle.asking.specs.declared.Answer.{Answer}
 use Rattle.asking.specs.declared.Answer.TheVariants.{Contradicted, Open, Between}
-use Rattle.asking.specs.declared.Fewest.{Fewest}
-use Rattle.asking.specs.declared.Fewest.TheVariants.{Over, Few}
 use Rattle.asking.specs.Instants.{Fine, Allowed}
 use Rattle.asking.specs.Asking.{leaves, sets_within}
+
+-- the fewest failures: over 4, or how many names and which
+pub data Fewest : Type 0 where
+  Over : Fewest
+  Few : ℕ → ℕ → Fewest
+
+-- those that a set of names is, if there is one
+abbrev pub fewest_of : Option ℕ → Fewest
+fewest_of None = Over
+fewest_of (Some m) = Few (ones m) m
 
 -- ---- computed
 
@@ -36,7 +44,7 @@ choose (s ∷ ss) = Few (ones (best s ss)) (best s ss)
 
 -- "among sets of at most 4 names"
 unfoldable pub fewest : State → Fewest
-fewest st = choose (keep (works st.store) (sets_within st.head.own 4))
+fewest st = choose (filter (works st.store) (sets_within st.head.own 4))
 
 -- ---- what it means
 

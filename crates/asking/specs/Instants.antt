@@ -2,7 +2,7 @@
 use Rattle.std.specs.Prelude.{ℕ, ◌≤◌, ◌<◌, not, List, [], ◌∷◌, T, ℤ, pos, negsuc}
 use Rattle.std.specs.Int.Count.{ones}
 use Rattle.names.specs.Sets.{no_set, has}
-use Rattle.predicates.specs.Lists.{all}
+use Rattle.std.specs.List.{list_all}
 use Rattle.predicates.specs.Predicates.{holds}
 use Rattle.state.specs.Model.{Datum, Store, State}
 use Rattle.asking.specs.declared.Answer.{Answer}
@@ -21,7 +21,7 @@ InAll s (d ∷ ds) x = (T (not (holds s d.terms)) → Within d.left d.right x) �
 
 -- the set "makes every entry true, and each held interval whose predicate that set leaves false contains the instant"
 abbrev pub Fine : ℕ → Store → ℤ → Type 0
-Fine s k x = T (all (holds s) k.entries) × InAll s k.held x
+Fine s k x = T (list_all (holds s) k.entries) × InAll s k.held x
 
 -- "some set within the limit, without the own name"
 pub record Allowed (limit own s : ℕ) : Type 0 where

@@ -1,35 +1,36 @@
 // Asking (document 01, "Asking"): open, contradicted, or from the first left end that can be explained to the last right end.
-ghost use Rattle.std.specs.Prelude.{◌≡◌, ◌++◌, ℕ, ◌+◌, ◌-◌, ◌^◌, ◌≤◌, ◌<◌, ◌&&◌, T, leb, length, get_or, drop};
+ghost use Rattle.std.specs.Prelude.{◌≡◌, ℕ, ◌+◌, ◌^◌, ◌≤◌, ◌<◌, ◌&&◌, leb, length, get_or};
 ghost use Rattle.numbers.specs.Numbers.{tab};
-ghost use Rattle.state.specs.Layout.{held_count, entry_count, store_of, state_of, state_size, data_most, entries_most};
-ghost use Rattle.state.specs.Form.{in_form};
+ghost use Rattle.state.specs.Layout.{held_count, entry_count, store_of, state_of, entries_most};
 ghost use Rattle.asking.specs.Asking.{answer};
 ghost use Rattle.asking.specs.code.Plain.{greatest_left, least_right};
 ghost use Rattle.asking.specs.Fewest.{not_contradicted};
 ghost use Rattle.asking.specs.code.Claims.{everything, Explained, hopeless};
+ghost use Rattle.asking.specs.code.Mirror.{mirrored};
 ghost use Rattle.predicates.specs.Lists.{all_below};
 ghost use Rattle.claims.specs.code.Degrees.{degree_within};
-ghost use Rattle.claims.specs.code.Tables.{Loaded, Room};
-ghost use Rattle.asking.specs.code.Sizes.{few_rows};
-ghost use Rattle.search.specs.code.LeftEnds.{Complete};
+ghost use Rattle.claims.specs.code.Tables.{Loaded};
+ghost use Rattle.search.specs.code.Search.{rows_most};
+ghost use Rattle.search.specs.code.LeftEnds.{lefts_of, rights_of, Complete};
 ghost use Rattle.state.specs.Model.{end_limit, last_whole};
-ghost use Rattle.search.specs.code.Search.{Rows, rows_of};
 ghost use Rattle.ends.specs.Ends.{count_of, BothSplit};
-ghost use Rattle.claims.specs.code.Keys.{step_of, down_by, up_by, last_key};
+ghost use Rattle.claims.specs.code.Keys.{start_of, step_of, down_by, up_by, last_key};
 ghost use Rattle.asking.specs.declared.Answer.TheVariants.{Between};
 
 use super::Answer;
 use claims::keys::Scale;
 use ends::{End, Ends};
+use search::rows::{Row, Span};
+use search::search::Search;
+use search::stretches::Table;
+use state::sound::InForm;
 
-// So many rows are few, and their masks.
+// So many rows are few.
 const FEW_ROWS: usize = 12;
-
-const FEW_MASKS: usize = FEW_ROWS * search::ROW_WIDTH;
 
 // The answer between two keys, in whole microseconds: the left end rounds down and the right end up.
 pub(crate) fn rounded(scale: Scale, left: u64, right: u64) -> Answer
-    requires { (scale.base ≤ last_whole) × (right + step_of scale ≤ 2 ^ 64) }
+    requires { (start_of scale ≤ last_whole) × (right + step_of scale ≤ 2 ^ 64) }
     ensures { result ≡ Between (down_by scale left) (up_by scale right) }
 {
     Answer::Between(
@@ -39,10 +40,9 @@ pub(crate) fn rounded(scale: Scale, left: u64, right: u64) -> Answer
 }
 
 // The greatest left end of the held data and the least right end.
-fn meeting(s: &[u8], h: usize) -> Ends
-    requires { (state_size ≤ length s.now) × T (in_form s.now) × (h ≡ held_count s.now) }
-    ensures { (count_of result.left ≡ greatest_left 0 (store_of s.now).held)
-        × (count_of result.right ≡ least_right end_limit (store_of s.now).held) × BothSplit result }
+fn meeting(s: InForm<'_>) -> Ends
+    ensures { (count_of result.left ≡ greatest_left 0 (store_of s.entry.bytes.now).held)
+        × (count_of result.right ≡ least_right end_limit (store_of s.entry.bytes.now).held) × BothSplit result }
 {
     let mut left = End {
         whole: 0,
@@ -52,29 +52,25 @@ fn meeting(s: &[u8], h: usize) -> Ends
         whole: state::LAST_WHOLE,
         millionths: 1,
     };
-    let mut i: usize = 0;
-    while i < h {
-        let next = state::intervals::get(s, i);
+    for i in 0..state::held(s.bytes) {
+        let next = state::intervals::get(s.bytes, i);
         left = ends::later(left, next.left);
         right = ends::earlier(right, next.right);
-        i += 1;
     }
     Ends { left, right }
 }
 
 // The answer at limit 0, where no name may have failed: what all held intervals have in common, if nothing is known to have failed.
-fn plain(s: &[u8]) -> Answer
-    requires { (state_size ≤ length s.now) × T (in_form s.now) }
-    ensures { result ≡ answer 0 (state_of s.now) }
+fn plain(s: InForm<'_>) -> Answer
+    ensures { result ≡ answer 0 (state_of s.entry.bytes.now) }
 {
-    if 0 < numbers::get32(s, state::KNOWN_AT) {
+    if 0 < state::known(s.bytes) {
         return Answer::Contradicted;
     }
-    let h = numbers::get32(s, state::HELD_AT) as usize;
-    if h == 0 {
+    if state::held(s.bytes) == 0 {
         return Answer::Open;
     }
-    let common = meeting(s, h);
+    let common = meeting(s);
     if ends::precedes(common.right, common.left) {
         return Answer::Contradicted;
     }
@@ -83,200 +79,129 @@ fn plain(s: &[u8]) -> Answer
 }
 
 // Whether an instant counts where no name has failed.
-pub fn agree(s: &[u8]) -> bool
-    requires { (state_size ≤ length s.now) × T (in_form s.now) }
-    ensures { result ≡ not_contradicted (answer 0 (state_of s.now)) }
+pub fn agree(s: InForm<'_>) -> bool
+    ensures { result ≡ not_contradicted (answer 0 (state_of s.entry.bytes.now)) }
 {
-    match plain(s) {
-        Answer::Contradicted => false,
-        Answer::Open => true,
-        Answer::Between(_, _) => true,
+    !matches!(plain(s), Answer::Contradicted)
+}
+
+// Turns the keys round, as seen from the last one, so that the right ends are left ones and their falling is a rising.
+fn mirror(ends: &mut [Span])
+    requires { (i : ℕ) → i < length ends.old → (get_or (lefts_of ends.old) i 0 ≤ last_key) × (get_or (rights_of ends.old) i 0 ≤ last_key) }
+    ensures { ends.new ≡ tab (length ends.old) (mirrored ends.old) }
+{
+    for span in ends.iter_mut() {
+        *span = Span {
+            left: claims::keys::LAST - span.right,
+            right: claims::keys::LAST - span.left,
+        };
     }
 }
 
-// The keys as seen from the last one, so that the right ends are left ones and their falling is a rising.
-fn mirror(lefts: &[u64], rights: &[u64], rows: usize, low: &mut [u64], high: &mut [u64])
-    requires rows_in_bounds { (rows ≤ length lefts.now) × (rows ≤ length rights.now) × (rows ≤ length low.old) × (rows ≤ length high.old) }
-    requires by_index { (i : ℕ) → i < rows → (get_or lefts.now i 0 ≤ last_key) × (get_or rights.now i 0 ≤ last_key) }
-    ensures low_after { low.new ≡ tab rows (λ i. last_key - get_or rights.now i 0) ++ drop rows low.old }
-    ensures high_after { high.new ≡ tab rows (λ i. last_key - get_or lefts.now i 0) ++ drop rows high.old }
-{
-    let mut i: usize = 0;
-    while i < rows {
-        low[i] = claims::keys::LAST - rights[i];
-        high[i] = claims::keys::LAST - lefts[i];
-        i += 1;
-    }
-}
-
-// The answer where not every instant counts: the first left end and the last right end that can be explained.
-fn between(
-    s: &[u8],
+// The answer where not every instant counts: the first left end and the last right end that can be explained. What is left in `ends`, an array of as
+// many as there are rows, is free.
+fn between_in(
+    s: InForm<'_>,
     n: usize,
-    rows: usize,
-    counts: &[u32],
-    masks: &[u32],
-    several: &[u32],
-    singles: &[u32],
+    rows: &[Row],
     order: &[u32],
     limit: u32,
+    ends: &mut [Span],
 ) -> Answer
-    requires state_size_in_bounds { (state_size ≤ length s.now) × T (in_form s.now) × (n ≤ entries_most) × (rows ≤ n + data_most) }
-    requires fact { (let t : Rows = rows_of counts.now masks.now several.now singles.now in
-        Loaded (store_of s.now) n rows t × Complete rows order.now) }
-    requires fact_2 { Explained limit (state_of s.now) (everything (store_of s.now)) → ⊥ }
-    ensures { result ≡ answer limit (state_of s.now) }
+    requires room { (n ≤ entries_most) × (length ends.old ≡ length rows.now) }
+    requires fact { Loaded (store_of s.bytes.now) n (length rows.now) rows.now × Complete (length rows.now) order.now }
+    requires fact_2 { Explained limit (state_of s.bytes.now) (everything (store_of s.bytes.now)) → ⊥ }
+    ensures { result ≡ answer limit (state_of s.entry.bytes.now) }
 {
-    let mut lefts = [0u64; search::ROWS_MOST];
-    let mut rights = [0u64; search::ROWS_MOST];
-    let scale = claims::keys::get_ends(s, n, rows, &mut lefts, &mut rights);
+    let scale = claims::keys::get_ends(s, n, ends);
     let mut listed = [0u32; search::ROWS_MOST];
-    let free = names::others(numbers::get32(s, state::OWN_AT));
-    let left = search::stretches::first_end(
-        &lefts,
-        &rights,
-        counts,
-        masks,
-        several,
-        singles,
-        order,
-        &mut listed,
-        n,
+    let free = names::others(state::own(s.bytes));
+    let table = Table {
         rows,
-        limit,
-        free,
-    );
-    if names::NO_SET <= left.set {
-        return Answer::Contradicted;
-    }
-    let mut low = [0u64; search::ROWS_MOST];
-    let mut high = [0u64; search::ROWS_MOST];
-    mirror(&lefts, &rights, rows, &mut low, &mut high);
-    let right = search::stretches::first_end(
-        &low,
-        &high,
-        counts,
-        masks,
-        several,
-        singles,
+        ends,
         order,
-        &mut listed,
-        n,
+        entries: n,
+    };
+    let left = match table.first_end(&mut listed, limit, free) {
+        None => return Answer::Contradicted,
+        Some(left) => left,
+    };
+    mirror(ends);
+    let table = Table {
         rows,
-        limit,
-        free,
-    );
+        ends,
+        order,
+        entries: n,
+    };
+    // Once a left end is explained, a right end is.
+    let right = table.first_end(&mut listed, limit, free).unwrap();
     rounded(scale, left.end, claims::keys::LAST - right.end)
 }
 
-// The answer over a state in form, with the arrays that its claims are read into.
-fn ask_in(
-    s: &[u8],
-    limit: u32,
-    n: usize,
-    rows: usize,
-    counts: &mut [u32],
-    masks: &mut [u32],
-    several: &mut [u32],
-    singles: &mut [u32],
-    order: &mut [u32],
-) -> Answer
-    requires state_size_in_bounds { (state_size ≤ length s.now) × T (in_form s.now) × (n ≡ entry_count s.now) × (rows ≡ n + held_count s.now) }
-    requires room { Room rows (rows_of counts.old masks.old several.old singles.old) × (rows ≤ length order.old) }
-    ensures { result ≡ answer limit (state_of s.now) }
+// The same, with an array for the ends.
+fn between(s: InForm<'_>, n: usize, rows: &[Row], order: &[u32], limit: u32) -> Answer
+    requires room { n ≤ entries_most }
+    requires fact { Loaded (store_of s.bytes.now) n (length rows.now) rows.now × Complete (length rows.now) order.now }
+    requires fact_2 { Explained limit (state_of s.bytes.now) (everything (store_of s.bytes.now)) → ⊥ }
+    ensures { result ≡ answer limit (state_of s.entry.bytes.now) }
 {
-    claims::load(s, n, rows, counts, masks, several, singles, order);
-    let free = names::others(numbers::get32(s, state::OWN_AT));
-    let set = search::search::predicate_step(
-        order,
-        counts,
-        masks,
-        several,
-        singles,
+    let mut ends = [Span { left: 0, right: 0 }; search::ROWS_MOST];
+    between_in(s, n, rows, order, limit, &mut ends[..rows.len()])
+}
+
+// The answer over a state in form, with arrays for its claims, of as many rows as there are. What is left in the arrays is free.
+fn ask_in(s: InForm<'_>, limit: u32, n: usize, rows: &mut [Row], order: &mut [u32]) -> Answer
+    requires count { n ≡ entry_count s.bytes.now }
+    requires room { (length rows.old ≡ n + held_count s.bytes.now) × (length order.old ≡ length rows.old) }
+    ensures { result ≡ answer limit (state_of s.entry.bytes.now) }
+{
+    claims::load(s, n, rows, order);
+    let free = names::others(state::own(s.bytes));
+    let search = Search {
         rows,
+        listed: order,
         limit,
-        names::NO_SET,
-        0,
-        0,
-        free,
-        names::NO_SET,
-    );
-    if set < names::NO_SET {
+        enough: names::NO_SET,
+    };
+    if search.predicate_step(0, 0, free, names::NO_SET) < names::NO_SET {
         return Answer::Open;
     }
-    between(s, n, rows, counts, masks, several, singles, order, limit)
+    between(s, n, rows, order, limit)
 }
 
-// The same where the rows are few, as they mostly are: clearing arrays for all rows would take longer than the rest.
-fn ask_few(s: &[u8], limit: u32, n: usize, rows: usize) -> Answer
-    requires state_size_in_bounds { (state_size ≤ length s.now) × T (in_form s.now) × (n ≡ entry_count s.now) × (rows ≡ n + held_count s.now) }
-    requires rows_le_few_rows { rows ≤ few_rows }
-    ensures { result ≡ answer limit (state_of s.now) }
+// The same, with room for so many rows. Mostly rows are few: clearing arrays for all of them would take longer than the rest.
+fn ask_over<const N: usize>(s: InForm<'_>, limit: u32, n: usize, rows: usize) -> Answer
+    requires count { (n ≡ entry_count s.bytes.now) × (rows ≡ n + held_count s.bytes.now) }
+    requires room { (rows ≤ N) × (N ≤ rows_most) }
+    ensures { result ≡ answer limit (state_of s.entry.bytes.now) }
 {
-    let mut counts = [0u32; FEW_ROWS];
-    let mut masks = [0u32; FEW_MASKS];
-    let mut several = [0u32; FEW_ROWS];
-    let mut singles = [0u32; FEW_ROWS];
-    let mut order = [0u32; FEW_ROWS];
-    ask_in(
-        s,
-        limit,
-        n,
-        rows,
-        &mut counts,
-        &mut masks,
-        &mut several,
-        &mut singles,
-        &mut order,
-    )
-}
-
-// The same for any number of rows.
-fn ask_many(s: &[u8], limit: u32, n: usize, rows: usize) -> Answer
-    requires { (state_size ≤ length s.now) × T (in_form s.now) × (n ≡ entry_count s.now) × (rows ≡ n + held_count s.now) }
-    ensures { result ≡ answer limit (state_of s.now) }
-{
-    let mut counts = [0u32; search::ROWS_MOST];
-    let mut masks = [0u32; search::MASKS_MOST];
-    let mut several = [0u32; search::ROWS_MOST];
-    let mut singles = [0u32; search::ROWS_MOST];
-    let mut order = [0u32; search::ROWS_MOST];
-    ask_in(
-        s,
-        limit,
-        n,
-        rows,
-        &mut counts,
-        &mut masks,
-        &mut several,
-        &mut singles,
-        &mut order,
-    )
+    let mut table = [Row::EMPTY; N];
+    let mut order = [0u32; N];
+    ask_in(s, limit, n, &mut table[..rows], &mut order[..rows])
 }
 
 // Whether the entries tell by themselves that no set within the limit makes all of them true.
-pub fn hopeless(s: &[u8], n: usize, limit: u32) -> bool
-    requires { (state_size ≤ length s.now) × T (in_form s.now) × (n ≡ entry_count s.now) }
-    ensures { result ≡ hopeless limit (state_of s.now) }
+pub fn hopeless(s: InForm<'_>, limit: u32) -> bool
+    ensures { result ≡ hopeless limit (state_of s.entry.bytes.now) }
 {
-    !claims::degrees::within(s, n, n, limit)
+    !claims::degrees::within(s, state::known(s.bytes), limit)
 }
 
 // Whether every claim needs one name at most and there are no more claims than the limit has names: then a set within it makes all of them true.
-fn affordable(s: &[u8], n: usize, rows: usize, limit: u32) -> bool
-    requires { (state_size ≤ length s.now) × T (in_form s.now) × (n ≡ entry_count s.now) × (rows ≤ n + held_count s.now) }
-    ensures { result ≡ (leb rows limit && all_below rows (degree_within (store_of s.now) 1)) }
+fn affordable(s: InForm<'_>, rows: usize, limit: u32) -> bool
+    requires { rows ≤ entry_count s.bytes.now + held_count s.bytes.now }
+    ensures { result ≡ (leb rows limit && all_below rows (degree_within (store_of s.entry.bytes.now) 1)) }
 {
     if (limit as usize) < rows {
         return false;
     }
-    claims::degrees::within(s, n, rows, 1)
+    claims::degrees::within(s, rows, 1)
 }
 
 // The answer over a state in form.
-pub fn ask(s: &[u8], limit: u32) -> Answer
-    requires { (state_size ≤ length s.now) × T (in_form s.now) }
-    ensures { result ≡ answer limit (state_of s.now) }
+// Limits 0 and 1 have ways of their own, and above them four tests come one after the other: a `match` would nest them.
+pub fn ask(s: InForm<'_>, limit: u32) -> Answer
+    ensures { result ≡ answer limit (state_of s.entry.bytes.now) }
 {
     if limit == 0 {
         return plain(s);
@@ -284,17 +209,16 @@ pub fn ask(s: &[u8], limit: u32) -> Answer
     if limit == 1 {
         return super::one::ask_one(s);
     }
-    let h = numbers::get32(s, state::HELD_AT) as usize;
-    let n = numbers::get32(s, state::KNOWN_AT) as usize;
-    if hopeless(s, n, limit) {
+    if hopeless(s, limit) {
         return Answer::Contradicted;
     }
-    let rows = n + h;
-    if affordable(s, n, rows, limit) {
+    let n = state::known(s.bytes);
+    let rows = n + state::held(s.bytes);
+    if affordable(s, rows, limit) {
         return Answer::Open;
     }
     if rows <= FEW_ROWS {
-        return ask_few(s, limit, n, rows);
+        return ask_over::<FEW_ROWS>(s, limit, n, rows);
     }
-    ask_many(s, limit, n, rows)
+    ask_over::<{ search::ROWS_MOST }>(s, limit, n, rows)
 }

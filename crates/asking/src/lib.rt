@@ -6,16 +6,9 @@ pub mod ask;
 pub mod one;
 
 // What asking answers.
-#[derive(Clone, Copy)]
+#[derive(Clone, Copy, Debug, PartialEq, Eq)]
 pub enum Answer {
     Contradicted,
     Open,
     Between(u64, u64),
-}
-
-// The fewest failures: how many names and which, or more than 4.
-#[derive(Clone, Copy)]
-pub enum Fewest {
-    Over,
-    Few(u32, u32),
 }

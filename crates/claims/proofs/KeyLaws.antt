@@ -11,8 +11,8 @@ use native.Mathlib.Numerals.{add-one}
 use native.Mathlib.Omega.{arith}
 use borrow.Author.Tests.{lt-ltb, le-ltb}
 use lib.Dec.{T, ltb, ltb→lt}
-use lib.ListN.{length, get_or, drop, length-map}
-use lib.Seq.{get_or-append-add, get_or-drop}
+use lib.ListN.{length, get_or, take, drop, length-map}
+use lib.Seq.{get_or-append-add, get_or-drop, length-take-le}
 use Rattle.numbers.specs.Numbers.{num, tab}
 use Rattle.numbers.proofs.NumberLaws.{length-tab, get_or-tab}
 use Rattle.ends.specs.Ends.{million, down, up, count_of, Split, BothSplit}
@@ -30,13 +30,16 @@ use Rattle.state.specs.code.Tables.{ends_at}
 use Rattle.state.proofs.StateLaws.{length-held, length-entries, held_count_le, form-datum, datum_at_ok}
 use Rattle.state.proofs.FormLaws.{ends_split}
 use Rattle.state.proofs.OkLaws.{OkDatum, ok_datum_out}
-use Rattle.state.proofs.StoreLaws.{column_front, length_column}
+use Rattle.state.proofs.StoreLaws.{column_front}
+use Rattle.search.specs.declared.rows.Span.{Span}
 use Rattle.search.specs.code.Search.{Rows}
+use Rattle.search.specs.code.LeftEnds.{lefts_of, rights_of}
 use Rattle.claims.specs.declared.keys.Scale.{Scale}
+use Rattle.claims.specs.declared.keys.Scale.TheVariants.{Counts, Ranks}
 use Rattle.claims.specs.code.Keys.{least_whole, base_of, greatest_whole, top_of, count_limit, countable, scale_by, scale_of, below, parts_most, rank_step, rank_key, millionths_at, parts_of}
-use Rattle.claims.specs.code.Keys.{Counted, count_from, key_by, step_of, down_by, up_by, key_of, last_key, map_ends, mapped, keyed}
-use Rattle.claims.specs.code.Tables.{entry_claim, claim_at, claim_left, claim_right, Loaded, Bounded}
-use Rattle.claims.proofs.TableLaws.{claim_entry, claim_datum, datum_claim}
+use Rattle.claims.specs.code.Keys.{Counted, count_from, key_by, start_of, step_of, down_by, up_by, key_of, last_key, map_ends, mapped, keyed}
+use Rattle.claims.specs.code.Tables.{entry_claim, claim_at, claim_left, claim_right, claim_span, Loaded, Bounded}
+use Rattle.claims.proofs.TableLaws.{claim_entry, claim_datum, datum_claim, left-stored, right-stored, ends-long}
 
 -- ---- the first and the last whole microsecond
 
@@ -68,9 +71,13 @@ module _ (s : List ℕ) where
   unfolding base_of
   base_last = least-last (held_count s)
 
-  pub scale_last : (scale : Scale) → scale ≡ scale_of s → scale.base ≤ last_whole
+  pub scale_last : (scale : Scale) → scale ≡ scale_of s → start_of scale ≤ last_whole
   unfolding scale_of
-  scale_last scale e = rw e (cond_ind (λ (v : ℕ). v ≤ last_whole) (countable s) (base_of s) 0 (λ _. base_last) (λ _. omega arith))
+  scale_last scale e = rw e (go (countable s))
+    where
+      go : (b : Bool) → start_of (scale_by b (base_of s)) ≤ last_whole
+      go true = base_last
+      go false = omega arith
 
   -- the loop that looks for both
   pub least_next : (i r x least : ℕ) → least ≡ least_whole i s → x ≡ num (datum_place i) 8 s → r ≡ min least x → r ≡ least_whole (i + 1) s
@@ -90,11 +97,11 @@ module _ (s : List ℕ) where
   unfolding countable
   counts_pass first last e f h = le-ltb (top_of s) (base_of s + count_limit) (omega arith)
 
-  pub scale_counted : (base : ℕ) → base ≡ base_of s → countable s ≡ true → record { counted = true; base = base } ≡ scale_of s
+  pub scale_counted : (base : ℕ) → base ≡ base_of s → countable s ≡ true → Counts base ≡ scale_of s
   unfolding scale_of
   scale_counted base e c = rw (e, c)
 
-  pub scale_ranked : countable s ≡ false → record { counted = false; base = 0 } ≡ scale_of s
+  pub scale_ranked : countable s ≡ false → Ranks ≡ scale_of s
   unfolding scale_of
   scale_ranked c = rw c
 
@@ -194,16 +201,6 @@ key_made parts e r s q = rw (q, count-whole e.whole e.millionths s, count_millio
 
 -- ---- what the code reads
 
--- the ends of a claim by the same keys
-module _ (f g : ℕ → ℕ) (same : (x : ℕ) → f x ≡ g x) (s : List ℕ) (n i : ℕ) where
-  pub left-same : claim_left f s n i ≡ claim_left g s n i
-  unfolding claim_left
-  left-same = ap (λ (v : ℕ). cond (ltb i n) 1 v) (same (datum_at s (i - n)).left)
-
-  pub right-same : claim_right f s n i ≡ claim_right g s n i
-  unfolding claim_right
-  right-same = ap (λ (v : ℕ). cond (ltb i n) 0 v) (same (datum_at s (i - n)).right)
-
 module _ (f : ℕ → ℕ) (s : List ℕ) (n i : ℕ) (ends : Ends) (r : ℕ) (l : n ≤ i) (e : ends ≡ ends_at s (i - n)) where
   pub claim_left_lem : r ≡ f (count_of ends.left) → r ≡ claim_left f s n i
   unfolding claim_left datum_at ends_at
@@ -213,15 +210,37 @@ module _ (f : ℕ → ℕ) (s : List ℕ) (n i : ℕ) (ends : Ends) (r : ℕ) (l
   unfolding claim_right datum_at ends_at
   claim_right_lem q = rw (le-ltb i n l) (rw e at q)
 
+-- both keys of a claim, as they are stored
+abbrev span-from : ℕ → ℕ → Span
+span-from a b = record { left = a; right = b }
+
+span-of : (a b c d : ℕ) → a ≡ c → b ≡ d → span-from a b ≡ span-from c d
+span-of a b c d p q = rw (p, q)
+
+pub entry-span : (f : ℕ → ℕ) (s : List ℕ) (n i : ℕ) (v : Span) → i < n → (v.left ≡ 1) × (v.right ≡ 0) → v ≡ claim_span f s n i
+unfolding claim_left claim_right
+entry-span f s n i v h e = rw (lt-ltb i n h) (span-of v.left v.right 1 0 e.0 e.1)
+
+pub datum-span : (f : ℕ → ℕ) (s : List ℕ) (n i a b : ℕ) (ends : Ends) → n ≤ i → ends ≡ ends_at s (i - n) → a ≡ f (count_of ends.left)
+    → b ≡ f (count_of ends.right) → span-from a b ≡ claim_span f s n i
+datum-span f s n i a b ends l e p q =
+    span-of a b (claim_left f s n i) (claim_right f s n i) (claim_left_lem f s n i ends a l e p) (claim_right_lem f s n i ends b l e q)
+
 -- counts are the keys where they fit, and ranks where they do not
 pub counts_key : (s : List ℕ) (base : ℕ) → Counted s base → (x : ℕ) → count_from base x ≡ key_of s x
 unfolding key_of scale_of
 counts_key s base c x = rw (c.0, c.1)
 
-pub ranks_key : (s l : List ℕ) (h : ℕ) → countable s ≡ false → h ≡ held_count s → l ≡ tab (h * 2) (millionths_at s) ++ drop (h * 2) (zeros parts_most)
-    → (x : ℕ) → rank_key l x ≡ key_of s x
-unfolding key_of scale_of parts_of
-ranks_key s l h c e q x = rw c (ap (λ (p : List ℕ). rank_key p x) (rw e at q))
+pub ranks_key : (s l : List ℕ) → countable s ≡ false → l ≡ parts_of s → (x : ℕ) → rank_key l x ≡ key_of s x
+unfolding key_of scale_of
+ranks_key s l c e x = rw (c, e)
+
+pub parts-made : (s p : List ℕ) (h : ℕ) → h ≡ held_count s → h ≤ 16 → p ≡ tab (length (take (h * 2) (zeros parts_most))) (millionths_at s)
+    → p ++ drop (h * 2) (zeros parts_most) ≡ parts_of s
+unfolding parts_of
+parts-made s p h e few q =
+    let long : length (take (h * 2) (zeros parts_most)) ≡ h * 2 = length-take-le (h * 2) (zeros parts_most) (omega arith) in
+    rw (q, long, e)
 
 -- ---- keys of a state in form
 
@@ -440,22 +459,21 @@ module _ (s : List ℕ) (t : T (in_form s)) (n rows : ℕ) (a : n ≡ entry_coun
           let small = datum-keyed s t j held in
           record { left = rw (later, claim); right = rw (later, claim); left-low = rw later (key_low s t _ small.0.1); right-low = rw later (key_low s t _ small.1.1) }
 
-  module _ (l₀ r₀ l r : List ℕ) (g : rows ≤ length l₀) (k : rows ≤ length r₀) (p : l ≡ tab rows (claim_left (key_of s) s n) ++ drop rows l₀)
-      (q : r ≡ tab rows (claim_right (key_of s) s n) ++ drop rows r₀) where
-    left_at : (i : ℕ) → i < rows → get_or l i 0 ≡ claim_left (key_of s) s n i
-    left_at i h = column_front (claim_left (key_of s) s n) rows i l₀ l p h
+  module _ (ends : List Span) (p : ends ≡ tab rows (claim_span (key_of s) s n)) where
+    left-key : (i : ℕ) → i < rows → get_or (lefts_of ends) i 0 ≡ claim_left (key_of s) s n i
+    left-key = left-stored rows (claim_span (key_of s) s n) ends p
 
-    right_at : (i : ℕ) → i < rows → get_or r i 0 ≡ claim_right (key_of s) s n i
-    right_at i h = column_front (claim_right (key_of s) s n) rows i r₀ r q h
+    right-key : (i : ℕ) → i < rows → get_or (rights_of ends) i 0 ≡ claim_right (key_of s) s n i
+    right-key = right-stored rows (claim_span (key_of s) s n) ends p
 
-    pub bounded_in : Bounded (keyed s) rows l r
+    pub bounded_in : Bounded (keyed s) rows (lefts_of ends) (rights_of ends)
     bounded_in =
         record {
-          lefts-long = omega (arith, length_column (claim_left (key_of s) s n) rows l₀ l p g);
-          rights-long = omega (arith, length_column (claim_right (key_of s) s n) rows r₀ r q k);
-          left_is = λ i h. left_at i h ∙ (keys i h).left;
-          right_is = λ i h. right_at i h ∙ (keys i h).right;
+          lefts-long = omega (arith, (ends-long rows (claim_span (key_of s) s n) ends p).0);
+          rights-long = omega (arith, (ends-long rows (claim_span (key_of s) s n) ends p).1);
+          left_is = λ i h. left-key i h ∙ (keys i h).left;
+          right_is = λ i h. right-key i h ∙ (keys i h).right;
         }
 
-    pub keys_low : (i : ℕ) → i < rows → (get_or l i 0 ≤ last_key) × (get_or r i 0 ≤ last_key)
-    keys_low i h = (omega (arith, left_at i h, (keys i h).left-low), omega (arith, right_at i h, (keys i h).right-low))
+    pub keys_low : (i : ℕ) → i < rows → (get_or (lefts_of ends) i 0 ≤ last_key) × (get_or (rights_of ends) i 0 ≤ last_key)
+    keys_low i h = (omega (arith, left-key i h, (keys i h).left-low), omega (arith, right-key i h, (keys i h).right-low))

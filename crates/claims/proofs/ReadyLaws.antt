@@ -3,18 +3,21 @@
 -- No contract cites this file. Assumes nothing.
 use Prim.Native.Nat.{ℕ, ◌+◌, ◌≤◌, ◌<◌}
 use mathlib.Core.Path.{◌≡◌}
-use mathlib.Core.List.{List, ◌++◌}
+use mathlib.Core.List.{List}
 use native.Mathlib.Omega.{arith}
-use lib.Dec.{T}
-use lib.ListN.{length, get_or, drop, length-replicate}
+use lib.Dec.{T, eqb, eqb_refl}
+use lib.ListN.{length, get_or, take}
 use Rattle.numbers.specs.Numbers.{tab}
 use Rattle.state.specs.Model.{Store, State}
-use Rattle.state.specs.Layout.{held_count, entry_count, zeros, store_of}
+use Rattle.state.specs.Layout.{held_count, entry_count, store_of}
 use Rattle.state.specs.Form.{in_form, state_ok}
+use Rattle.predicates.proofs.ListLaws.{any_in}
+use Rattle.predicates.proofs.IndexLaws.{take_in}
 use Rattle.state.proofs.StateLaws.{state_out, held_count_le, entry_count_le}
 use Rattle.search.specs.code.Search.{Rows}
-use Rattle.claims.specs.code.Tables.{claim_at, Loaded, Bounded, claim_left, claim_right}
-use Rattle.search.specs.code.LeftEnds.{no_end, Ready, Complete}
+use Rattle.search.specs.declared.rows.Span.{Span}
+use Rattle.claims.specs.code.Tables.{claim_at, Loaded, Bounded, claim_span}
+use Rattle.search.specs.code.LeftEnds.{no_end, lefts_of, rights_of, Ready, Complete}
 use Rattle.claims.specs.code.Keys.{key_of, keyed, keyed_state}
 use Rattle.claims.proofs.TableLaws.{claim_entry}
 use Rattle.claims.proofs.KeyLaws.{mapped_loaded, bounded_in, keys_low}
@@ -32,7 +35,7 @@ module _ {k : Store} {n rows : ℕ} {table : Rows} (loaded : Loaded k n rows tab
         empty = λ i h. hollow i (omega (arith, loaded.entries_are)) (bounded.left_is i (omega (arith, loaded.rows_are))) (bounded.right_is i (omega (arith, loaded.rows_are)));
         ordered = complete.ordered;
         placed = complete.placed;
-        present = complete.present;
+        present = λ k h. any_in (λ x. eqb k x) (take rows order) k (take_in rows order complete.ordered (complete.present k h)) (eqb_refl k);
         parted = loaded.parted;
       }
     where
@@ -61,15 +64,13 @@ module _ (s : List ℕ) (t : T (in_form s)) (n h : ℕ) (a : n ≡ entry_count s
   pub counts_fit : (n ≤ 32) × (h ≤ 16)
   counts_fit = (omega (arith, entry_count_le s t), omega (arith, held_count_le s t))
 
-  pub prepared_in : (table : Rows) (order lefts rights : List ℕ) → Loaded (store_of s) n rows table → Complete rows order
-      → lefts ≡ tab rows (claim_left (key_of s) s n) ++ drop rows (zeros 48)
-      → rights ≡ tab rows (claim_right (key_of s) s n) ++ drop rows (zeros 48) → Prepared (keyed_state s) n rows table order lefts rights
+  pub prepared_in : (table : Rows) (order : List ℕ) (ends : List Span) → Loaded (store_of s) n rows table → Complete rows order
+      → ends ≡ tab rows (claim_span (key_of s) s n) → Prepared (keyed_state s) n rows table order (lefts_of ends) (rights_of ends)
   unfolding keyed_state keyed
-  prepared_in table order lefts rights loaded complete l r =
-      let room : rows ≤ length (zeros 48) = omega (arith, counts_fit, length-replicate {A = ℕ} 48 0) in
+  prepared_in table order ends loaded complete e =
       let count : rows ≡ n + held_count s = omega arith in
-      let bounded : Bounded (keyed s) rows lefts rights = bounded_in s t n rows a count _ _ lefts rights room room l r in
+      let bounded : Bounded (keyed s) rows (lefts_of ends) (rights_of ends) = bounded_in s t n rows a count ends e in
       let most : rows ≤ 48 = omega (arith, counts_fit) in
-      let below : (i : ℕ) → i < rows → get_or lefts i 0 < no_end = λ i k. omega (arith, (keys_low s t n rows a count _ _ lefts rights room room l r i k).0) in
+      let below : (i : ℕ) → i < rows → get_or (lefts_of ends) i 0 < no_end = λ i k. omega (arith, (keys_low s t n rows a count ends e i k).0) in
       let mapped = mapped_loaded (key_of s) (store_of s) loaded in
-      record { loaded = mapped; bounded = bounded; complete = complete; ready = ready_in mapped most lefts rights order bounded complete below }
+      record { loaded = mapped; bounded = bounded; complete = complete; ready = ready_in mapped most (lefts_of ends) (rights_of ends) order bounded complete below }

@@ -74,11 +74,7 @@ unfolding place_fits saved_at
 saved-small at s h = saved_if (eqb (num at 4 s) 0) _ (eqb (num at 4 s) 1) (three_at at s) h
 
 -- by the flag that was read
-pub at_nothing : (at flag : ℕ) (s : List ℕ) → flag ≡ num at 4 s → flag ≡ 0 → saved_at at s ≡ nothing
-unfolding saved_at
-at_nothing at flag s e z = rw (← e, z)
-
-pub at_three : (at flag : ℕ) (s : List ℕ) → flag ≡ num at 4 s → (flag ≡ 0 → ⊥) → saved_at at s ≡ three_at at s
+at_three : (at flag : ℕ) (s : List ℕ) → flag ≡ num at 4 s → (flag ≡ 0 → ⊥) → saved_at at s ≡ three_at at s
 unfolding saved_at
 at_three at flag s e n = rw (← e, ne_eqb flag 0 n)
 

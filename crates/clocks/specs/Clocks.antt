@@ -1,12 +1,12 @@
 -- The sender's clock (document 02, W-201): test (20) of document 002 in whole numbers, and the three triples that are saved of a sender.
 -- A triple is (a, b, w): the sender's clock reading (`there`), the own one beside it (`here`), and a half width (`half`). Assumes nothing: these are
 -- definitions.
-use Rattle.std.specs.Prelude.{ℕ, ◌+◌, ◌*◌, ◌-◌, ◌^◌, ◌<◌, ◌≡◌, Bool, true, false, ◌&&◌, ◌||◌}
-use Rattle.std.specs.Prelude.{not, cond, List, [], ◌∷◌, ◌++◌, T, leb, ltb, get_or, set}
+use Rattle.std.specs.Prelude.{ℕ, ◌+◌, ◌*◌, ◌^◌, ◌<◌, ◌≡◌, Bool, true, false, ◌&&◌, ◌||◌}
+use Rattle.std.specs.Prelude.{not, cond, List, [], ◌∷◌, ◌++◌, T, leb, ltb, get_or, set, Option, None, Some}
+use Rattle.std.specs.Int.{abs_diff}
 use Rattle.predicates.specs.Lists.{In}
 use Rattle.clocks.specs.declared.Triple.{Triple}
 use Rattle.clocks.specs.declared.Readings.{Readings}
-use Rattle.clocks.specs.declared.Readings.TheVariants.{Without, With}
 
 -- ---- what can be taken
 
@@ -25,10 +25,14 @@ Fits t = (t.there < triple_limit) × (t.here < triple_limit) × (t.half < triple
 abbrev pub fails : Triple → ℕ → Bool
 fails t drift = leb triple_limit t.there || (leb triple_limit t.here || (leb triple_limit t.half || ltb drift_most drift))
 
--- the same of what the host gives with a receipt: no readings, or a triple and the sender's drift
-unfoldable pub readings_fail : Readings → Bool
-readings_fail Without = false
-readings_fail (With t drift) = fails t drift
+-- what the host gives with a receipt, where it gives readings: a triple and the sender's drift
+abbrev pub with_drift : Triple → ℕ → Option Readings
+with_drift t drift = Some (record { triple = t; drift = drift })
+
+-- the same of what the host gives with a receipt: no readings can't fail
+unfoldable pub readings_fail : Option Readings → Bool
+readings_fail None = false
+readings_fail (Some r) = fails r.triple r.drift
 
 -- the test for `Fits`
 abbrev pub small : Triple → Bool
@@ -36,16 +40,12 @@ small t = ltb t.there triple_limit && (ltb t.here triple_limit && ltb t.half tri
 
 -- ---- test (20)
 
--- | x − y |
-abbrev pub apart : ℕ → ℕ → ℕ
-apart x y = (x - y) + (y - x)
-
 -- | (b₂ − b₁) − (a₂ − a₁) | > (drifts) · | a₂ − a₁ | + w₁ + w₂, "times 1,000,000 to stay whole"; drifts are counted in millionths, and b₂ − b₁ is a
 -- distance: "a b below a saved one counting by its distance"
 unfoldable pub strays : ℕ → Triple → Triple → Bool
 strays drifts old new =
-    ltb (drifts * apart old.there new.there + 1_000_000 * (old.half + new.half))
-    (1_000_000 * apart (apart old.here new.here + old.there) new.there)
+    ltb (drifts * abs_diff old.there new.there + 1_000_000 * (old.half + new.half))
+    (1_000_000 * abs_diff (abs_diff old.here new.here + old.there) new.there)
 
 -- ---- what is saved
 
@@ -88,14 +88,14 @@ saved_ok (three previous a b) = small previous && (small a && small b)
 -- ---- a receipt, with readings or without
 
 -- the sender's readings violate the test, where `own` is the own drift
-unfoldable pub violated_by : ℕ → Saved → Readings → Bool
-violated_by own s Without = false
-violated_by own s (With t drift) = violates (own + drift) s t
+unfoldable pub violated_by : ℕ → Saved → Option Readings → Bool
+violated_by own s None = false
+violated_by own s (Some r) = violates (own + r.drift) s r.triple
 
 -- what is saved of each name after a receipt from the sender
-unfoldable pub watched : Readings → ℕ → List Saved → List Saved
-watched Without sender cs = cs
-watched (With t drift) sender cs = set cs sender (saving (get_or cs sender nothing) t)
+unfoldable pub watched : Option Readings → ℕ → List Saved → List Saved
+watched None sender cs = cs
+watched (Some r) sender cs = set cs sender (saving (get_or cs sender nothing) r.triple)
 
 -- ---- the same of all triples that a sender has given, oldest first
 

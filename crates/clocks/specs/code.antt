@@ -1,2 +1,3 @@
 -- Definitions that serve the code alone: no statement of document 01 cites a file of this folder.
 pub mod Drifts
+pub mod Three

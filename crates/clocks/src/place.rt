@@ -1,10 +1,11 @@
 // The bytes of one sender's place (document 02, W-201): its form, the test of new readings against what is saved there, and saving them.
-ghost use Rattle.std.specs.Prelude.{◌≡◌, ◌+◌, ◌≤◌, T, eqb, ltb, length};
+ghost use Rattle.std.specs.Prelude.{◌≡◌, ◌+◌, ◌≤◌, T, IfSome, length};
 ghost use Rattle.numbers.specs.Numbers.{put};
-ghost use Rattle.clocks.specs.Clocks.{Fits, triple_limit, drift_most, three, small, saved_ok, violates, saving};
-ghost use Rattle.clocks.specs.Places.{triple_size, place_size, triple_bytes, saved_bytes, triple_at, three_at, saved_at, blank, blank_at, place_fits};
+ghost use Rattle.clocks.specs.Clocks.{Fits, drift_most, violates, saving};
+ghost use Rattle.clocks.specs.Places.{triple_size, place_size, triple_bytes, saved_bytes, triple_at, saved_at, place_fits};
+ghost use Rattle.clocks.specs.code.Three.{three_of, saved_as, three_in, FitsThree};
 
-use super::Triple;
+use super::{Saved, Triple};
 
 // How many bytes a place has, and where its triples stand in it: the previous one, those of the largest a − b + w and b − a + w.
 pub const PLACE_SIZE: usize = 76;
@@ -15,36 +16,8 @@ const AHEAD_IN: usize = 28;
 
 const BEHIND_IN: usize = 52;
 
-// The numbers of the triple at `at` or-ed together: zero where each is zero, and below 2^43 where each is.
-fn bits(s: &[u8], at: usize) -> u64
-    requires { at + triple_size ≤ length s.now }
-    ensures { (eqb result 0 ≡ blank (triple_at at s.now)) × (ltb result triple_limit ≡ small (triple_at at s.now)) }
-{
-    numbers::get64(s, at) | (numbers::get64(s, at + 8) | numbers::get64(s, at + 16))
-}
-
-// The same of the place's three triples.
-fn all_bits(s: &[u8], at: usize) -> u64
-    requires { at + place_size ≤ length s.now }
-    ensures { (eqb result 0 ≡ blank_at at s.now) × (ltb result triple_limit ≡ saved_ok (three_at at s.now)) }
-{
-    bits(s, at + PREVIOUS_IN) | (bits(s, at + AHEAD_IN) | bits(s, at + BEHIND_IN))
-}
-
-// Whether the place at `at` is in form: nothing saved and all zero, or three triples of numbers below 2^43. The numbers are read behind the
-// test of the flag: so the compiler reads two at a time.
-pub fn fits(s: &[u8], at: usize) -> bool
-    requires { at + place_size ≤ length s.now }
-    ensures { result ≡ place_fits at s.now }
-{
-    let flag = numbers::get32(s, at);
-    if flag == 0 {
-        return all_bits(s, at) == 0;
-    }
-    (flag == 1) & (all_bits(s, at) < super::TRIPLE_LIMIT)
-}
-
 // Reads the triple at `at`.
+#[tactic(auto, unfolding(crate::specs::Places::triple_at))]
 fn get_triple(s: &[u8], at: usize) -> Triple
     requires { at + triple_size ≤ length s.now }
     ensures { result ≡ triple_at at s.now }
@@ -66,41 +39,73 @@ fn put_triple(s: &mut [u8], at: usize, t: Triple)
     numbers::put64(s, at + 16, t.half);
 }
 
+// Reads the three triples of the place at `at`, whatever its flag says.
+fn get_three(s: &[u8], at: usize) -> Saved
+    requires { at + place_size ≤ length s.now }
+    ensures { result ≡ three_in at s.now }
+{
+    Saved {
+        previous: get_triple(s, at + PREVIOUS_IN),
+        ahead: get_triple(s, at + AHEAD_IN),
+        behind: get_triple(s, at + BEHIND_IN),
+    }
+}
+
+// Reads what is saved in the place at `at`.
+#[tactic(auto, unfolding(crate::specs::Places::saved_at, crate::specs::Places::three_at))]
+fn get(s: &[u8], at: usize) -> Option<Saved>
+    requires { at + place_size ≤ length s.now }
+    ensures value { saved_as result ≡ saved_at at s.now }
+    ensures in_range { T (place_fits at s.now) → IfSome result (λ v. FitsThree v) }
+{
+    if numbers::get32(s, at) == 0 {
+        return None;
+    }
+    Some(get_three(s, at))
+}
+
+// Writes to the place at `at` that these three are saved.
+fn put_three(s: &mut [u8], at: usize, saved: &Saved)
+    requires { at + place_size ≤ length s.old }
+    ensures { s.new ≡ put at (saved_bytes (three_of saved.now)) s.old }
+{
+    numbers::put32(s, at, 1);
+    put_triple(s, at + PREVIOUS_IN, saved.previous);
+    put_triple(s, at + AHEAD_IN, saved.ahead);
+    put_triple(s, at + BEHIND_IN, saved.behind);
+}
+
+// Whether the place at `at` is in form: nothing saved and all zero, or three triples of numbers below 2^43. The numbers are read behind the
+// test of the flag: so the compiler reads two at a time.
+pub fn fits(s: &[u8], at: usize) -> bool
+    requires { at + place_size ≤ length s.now }
+    ensures { result ≡ place_fits at s.now }
+{
+    let flag = numbers::get32(s, at);
+    if flag == 0 {
+        return get_three(s, at).bits() == 0;
+    }
+    (flag == 1) & (get_three(s, at).bits() < super::TRIPLE_LIMIT)
+}
+
 // Whether a new triple violates test (20) against one that is saved at `at`, where own and sender's drift are given.
+#[tactic(auto, unfolding(crate::specs::Clocks::violates))]
 pub fn violated(s: &[u8], at: usize, own: u32, drift: u32, new: Triple) -> bool
     requires { (at + place_size ≤ length s.now) × T (place_fits at s.now) × (own ≤ drift_most) × (drift ≤ drift_most) × Fits new }
     ensures { result ≡ violates (own + drift) (saved_at at s.now) new }
 {
-    if numbers::get32(s, at) == 0 {
-        return false;
-    }
-    let previous = get_triple(s, at + PREVIOUS_IN);
-    let ahead = get_triple(s, at + AHEAD_IN);
-    let behind = get_triple(s, at + BEHIND_IN);
-    super::violates((own + drift) as u64, previous, ahead, behind, new)
-}
-
-// Writes a place in which three triples are saved.
-fn put_three(s: &mut [u8], at: usize, previous: Triple, ahead: Triple, behind: Triple)
-    requires { at + place_size ≤ length s.old }
-    ensures { s.new ≡ put at (saved_bytes (three previous ahead behind)) s.old }
-{
-    numbers::put32(s, at, 1);
-    put_triple(s, at + PREVIOUS_IN, previous);
-    put_triple(s, at + AHEAD_IN, ahead);
-    put_triple(s, at + BEHIND_IN, behind);
+    get(s, at).is_some_and(|saved| saved.violated(u64::from(own + drift), new))
 }
 
 // Saves a new triple in the place at `at`.
+#[tactic(auto, unfolding(crate::specs::Clocks::saving))]
 pub fn save(s: &mut [u8], at: usize, new: Triple)
     requires { (at + place_size ≤ length s.old) × T (place_fits at s.old) × Fits new }
     ensures { s.new ≡ put at (saved_bytes (saving (saved_at at s.old) new)) s.old }
 {
-    if numbers::get32(s, at) == 0 {
-        put_three(s, at, new, new, new);
-        return;
-    }
-    let ahead = super::further_ahead(get_triple(s, at + AHEAD_IN), new);
-    let behind = super::further_behind(get_triple(s, at + BEHIND_IN), new);
-    put_three(s, at, new, ahead, behind);
+    let saved = match get(s, at) {
+        None => Saved::first(new),
+        Some(old) => old.saving(new),
+    };
+    put_three(s, at, &saved);
 }

@@ -5,13 +5,11 @@
 ghost use Rattle.std.specs.Prelude.{◌≡◌, ◌+◌, ◌<◌, ◌^◌, min, max, ltb};
 ghost use Rattle.ends.specs.Ends.{count_of, Split, up};
 
-pub mod column;
-
 // How many millionths a microsecond has.
 pub const MILLION: u64 = 1_000_000;
 
-// An end, in whole microseconds and millionths of one.
-#[derive(Clone, Copy)]
+// An end, in whole microseconds and millionths of one: in that order they decide which of two ends is the earlier.
+#[derive(Clone, Copy, PartialEq, Eq, PartialOrd, Ord)]
 pub struct End {
     pub whole: u64,
     pub millionths: u64,
@@ -29,7 +27,7 @@ pub fn precedes(a: End, b: End) -> bool
     requires { Split a × Split b }
     ensures { result ≡ ltb (count_of a) (count_of b) }
 {
-    (a.whole < b.whole) | ((a.whole == b.whole) & (a.millionths < b.millionths))
+    a < b
 }
 
 // The earlier of two ends.
@@ -37,7 +35,7 @@ pub fn earlier(a: End, b: End) -> End
     requires { Split a × Split b }
     ensures { (count_of result ≡ min (count_of a) (count_of b)) × Split result }
 {
-    if precedes(a, b) { a } else { b }
+    a.min(b)
 }
 
 // The later of two ends.
@@ -45,7 +43,7 @@ pub fn later(a: End, b: End) -> End
     requires { Split a × Split b }
     ensures { (count_of result ≡ max (count_of a) (count_of b)) × Split result }
 {
-    if precedes(a, b) { b } else { a }
+    a.max(b)
 }
 
 // The end that lies so much behind a. The millionths carry a microsecond over once they are as many as it has.

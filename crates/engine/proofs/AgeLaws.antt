@@ -5,11 +5,12 @@ use Prim.Native.Nat.{ℕ, zero, suc, ◌+◌, ◌*◌, ◌-◌, ◌/◌, ◌%◌
 use mathlib.Core.Path.{◌≡◌, refl, sym, ap, ◌∙◌}
 use mathlib.Core.Bool.{Bool, true, false, ◌&&◌, ◌||◌, not, cond, and-true, and_assoc}
 use mathlib.Core.List.{List, [], ◌∷◌, ◌++◌, map}
-use native.Mathlib.Nat.{mul-add, add-mul, mul_assoc, mul_comm, mod-add-div'}
+use native.Mathlib.Nat.{add-mul, mul_assoc, mul_comm, mod-add-div'}
 use native.Mathlib.Omega.{arith}
-use borrow.Author.Tests.{ltb-true, ltb-false, lt-ltb, le-ltb, lt-leb, le-leb}
+use borrow.Author.Tests.{ltb-true, ltb-false, le-ltb, lt-leb, le-leb}
 use lib.Dec.{T, leb, ltb, ltb→lt}
-use Rattle.predicates.specs.Lists.{any, all, all_below}
+use Rattle.std.specs.List.{list_any, list_all}
+use Rattle.predicates.specs.Lists.{all_below}
 use Rattle.numbers.specs.Numbers.{num, tab}
 use Rattle.ends.specs.Ends.{million, count}
 use Rattle.state.specs.Model.{Datum, Store, end_limit, reading_limit}
@@ -17,7 +18,7 @@ use Rattle.clocks.specs.Clocks.{drift_most}
 use Rattle.state.specs.Layout.{datum_at, held_count, head_of, store_of, state_of, drift_at, reading_at}
 use Rattle.state.specs.Form.{in_form}
 use Rattle.predicates.proofs.IndexLaws.{below_out}
-use Rattle.state.proofs.StateLaws.{state_out, form_ok}
+use Rattle.state.proofs.StateLaws.{form_ok, drift-fits}
 use Rattle.engine.specs.Ageing.{least_advance, greatest_advance, slow, fast, widened, aged}
 use Rattle.engine.specs.Refusals.{age_refusal}
 use Rattle.engine.proofs.EndLaws.{ages_right}
@@ -35,26 +36,15 @@ drift_split r d =
     mul_assoc q million r ∙ ap (λ (x : ℕ). q * x) (mul_comm million r) ∙ sym (mul_assoc q r million) in
     omega arith
 
--- d × (1,000,000 − r) and d × (1,000,000 + r)
-pub least-drift : (r d : ℕ) → r ≤ drift_most → least_advance r d + d * r ≡ d * million
-unfolding least_advance
-least-drift r d h =
-    let e : (million - r) + r ≡ million = omega arith in
-    sym (mul-add d (million - r) r) ∙ ap (λ (x : ℕ). d * x) e
-
-pub greatest-drift : (r d : ℕ) → greatest_advance r d ≡ d * million + d * r
-unfolding greatest_advance
-greatest-drift r d = mul-add d million r
-
 -- ---- the right ends
 
 module _ {A : Type 0} (f : A → Bool) where
-  all-last : (l : List A) (x : A) → all f (l ++ (x ∷ [])) ≡ all f l && f x
+  all-last : (l : List A) (x : A) → list_all f (l ++ (x ∷ [])) ≡ list_all f l && f x
   all-last [] x = and-true (f x)
   all-last (y ∷ l) x = rw (all-last l x, and_assoc)
 
   -- a test of a table, element by element
-  pub all-tab-below : (n : ℕ) (g : ℕ → A) → all f (tab n g) ≡ all_below n (λ i. f (g i))
+  pub all-tab-below : (n : ℕ) (g : ℕ → A) → list_all f (tab n g) ≡ all_below n (λ i. f (g i))
   unfolding tab all_below
   all-tab-below zero g = refl
   all-tab-below (suc n) g = rw (all-last (tab n g) (g n), all-tab-below n g)
@@ -80,28 +70,19 @@ or_not true b = refl
 or_not false b = refl
 
 -- "30 an end would pass 2^58 − 1"
-passes_stays : (lo hi : ℕ) (k : Store) → any (λ d. leb end_limit d.right) (aged lo hi k).held ≡ not (stays_below hi k)
+passes_stays : (lo hi : ℕ) (k : Store) → list_any (λ d. leb end_limit d.right) (aged lo hi k).held ≡ not (stays_below hi k)
 unfolding aged widened stays_below
 passes_stays lo hi k = go k.held
   where
-    go : (ds : List Datum) → any (λ d. leb end_limit d.right) (map (widened lo hi) ds) ≡ not (all (λ d. ltb (d.right + hi) end_limit) ds)
+    go : (ds : List Datum) → list_any (λ d. leb end_limit d.right) (map (widened lo hi) ds) ≡ not (list_all (λ d. ltb (d.right + hi) end_limit) ds)
     go [] = refl
-    go (d ∷ ds) = rw (leb_not end_limit (d.right + hi) (ltb (d.right + hi) end_limit) refl, go ds) (or_not (ltb (d.right + hi) end_limit) (all (λ e. ltb (e.right + hi) end_limit) ds))
+    go (d ∷ ds) = rw (leb_not end_limit (d.right + hi) (ltb (d.right + hi) end_limit) refl, go ds) (or_not (ltb (d.right + hi) end_limit) (list_all (λ e. ltb (e.right + hi) end_limit) ds))
 
 -- ---- the refusals
 
-pub age_early : (s : List ℕ) (reading : ℕ) → reading_limit ≤ reading → age_refusal (state_of s) reading ≡ 3
-unfolding age_refusal
-age_early s reading h = rw (le-leb reading_limit reading h)
-
-pub age_back : (s : List ℕ) (reading last : ℕ) → last ≡ num reading_at 8 s → reading < reading_limit → reading < last → age_refusal (state_of s) reading ≡ 20
-unfolding age_refusal state_of head_of
-age_back s reading last e h k = rw (lt-leb reading_limit reading h, ← e, lt-ltb reading last k)
-
 -- the drift that the state holds
 pub drift-held : (s : List ℕ) → T (in_form s) → num drift_at 4 s ≤ drift_most
-unfolding state_of head_of
-drift-held s t = (state_out (state_of s) (form_ok s t)).drift_le
+drift-held = drift-fits
 
 -- the code's words for what passed: the last reading, the drift, and both advances
 module _ (s : List ℕ) (reading last drift : ℕ) (at_last : last ≡ num reading_at 8 s) (at_drift : drift ≡ num drift_at 4 s) where

@@ -13,7 +13,8 @@ use lib.Dec.{T, T_not, not_T, eqb, eqb→eq, eqb_refl, leb, le→leb, nleb→lt,
 use lib.ListN.{length, set, replicate, length-set, length-map}
 use Rattle.clocks.specs.Clocks.{saved_ok, readings_fail, watched}
 use Rattle.state.specs.Layout.{datum_terms, clocks_most}
-use Rattle.predicates.specs.Lists.{any, all, In}
+use Rattle.std.specs.List.{list_any, list_all}
+use Rattle.predicates.specs.Lists.{In}
 use Rattle.predicates.specs.Predicates.{implies, is_true, is_normal, formed}
 use Rattle.predicates.proofs.ListLaws.{both, both_l, both_r, neither}
 use Rattle.epochs.specs.Epochs.{epoch_most, epochs_most, withdraw}
@@ -48,7 +49,7 @@ set_up_ok u e =
     let b = refuse-none (ltb 1_000 u.drift) 2 _ (omega arith) d.1 in
     let c = refuse-none (leb reading_limit u.reading) 3 _ (omega arith) b.1 in
     let epoch = le→leb u.epoch 15 (nltb→le 15 u.epoch d.0) in
-    let epochs : T (all (λ e. leb e epoch_most) (set (replicate epochs_most 0) u.own u.epoch)) =
+    let epochs : T (list_all (λ e. leb e epoch_most) (set (replicate epochs_most 0) u.own u.epoch)) =
     all_set (λ e. leb e epoch_most) (replicate epochs_most 0) u.own u.epoch tt epoch in
     let known : T (eqb (length (set (replicate epochs_most 0) u.own u.epoch)) epochs_most) = rw length-set tt in
     let own = le→leb u.own 28 (nltb→le 28 u.own a.0) in
@@ -71,17 +72,17 @@ unfolding slow fast
 slow-fast h reading = let passed = reading - h.reading in least-greatest h.drift passed passed (le_refl passed)
 
 -- right data that are widened, none beyond the last end
-widened_ok : (own lo hi : ℕ) (ds : List Datum) → lo ≤ hi → T (all (datum_ok own) ds)
-    → T (not (any an_end_passes (map (widened lo hi) ds))) → T (all (datum_ok own) (map (widened lo hi) ds))
+widened_ok : (own lo hi : ℕ) (ds : List Datum) → lo ≤ hi → T (list_all (datum_ok own) ds)
+    → T (not (list_any an_end_passes (map (widened lo hi) ds))) → T (list_all (datum_ok own) (map (widened lo hi) ds))
 unfolding widened
 widened_ok own lo hi [] l h k = tt
 widened_ok own lo hi (d ∷ ds) l h k =
-    let o = ok_datum_out own d (both_l (datum_ok own d) (all (datum_ok own) ds) h) in
-    let low = neither (an_end_passes (widened lo hi d)) (any an_end_passes (map (widened lo hi) ds)) k in
+    let o = ok_datum_out own d (both_l (datum_ok own d) (list_all (datum_ok own) ds) h) in
+    let low = neither (an_end_passes (widened lo hi d)) (list_any an_end_passes (map (widened lo hi) ds)) k in
     let below = (neither (leb end_limit (d.left + lo)) (leb end_limit (d.right + hi)) low.0).1 in
-    both (datum_ok own (widened lo hi d)) (all (datum_ok own) (map (widened lo hi) ds))
+    both (datum_ok own (widened lo hi d)) (list_all (datum_ok own) (map (widened lo hi) ds))
     (ok_datum_in own (widened lo hi d) record { ends = omega arith; below = nleb→lt end_limit (d.right + hi) below; fit = o.fit })
-    (widened_ok own lo hi ds l (both_r (datum_ok own d) (all (datum_ok own) ds) h) low.1)
+    (widened_ok own lo hi ds l (both_r (datum_ok own d) (list_all (datum_ok own) ds) h) low.1)
 
 -- "Entries stay."
 pub entries_stay : (lo hi : ℕ) (k : Store) → (aged lo hi k).entries ≡ k.entries
@@ -101,9 +102,9 @@ age_ok st reading h e =
     let hi = fast st.head reading in
     let a = refuse-none (leb reading_limit reading) 3 _ (omega arith) e in
     let b = refuse-none (ltb reading st.head.reading) 20 _ (omega arith) a.1 in
-    let c = refuse-none (any an_end_passes (aged lo hi st.store).held) 30 _ (omega arith) b.1 in
+    let c = refuse-none (list_any an_end_passes (aged lo hi st.store).held) 30 _ (omega arith) b.1 in
     let now = lt→ltb reading reading_limit (nleb→lt reading_limit reading a.0) in
-    let old : T (all (datum_ok own) ds) = search (both_l, both_r) depth 9 in
+    let old : T (list_all (datum_ok own) ds) = search (both_l, both_r) depth 9 in
     let held = widened_ok own lo hi ds (slow-fast st.head reading) old (rw (held_widened lo hi st.store) at c.0) in
     rw (held_widened lo hi st.store, entries_stay lo hi st.store, length-map ds (widened lo hi)) (search (both, both_l, both_r) depth 12)
 
@@ -215,7 +216,7 @@ unfolding head_ok
 moved_ok h g t e =
     let k = hearing_ok h g t e.names in
     let cs = (hearing h g).clocks in
-    let right : T (all saved_ok cs) = search (both_l, both_r) depth 9 in
+    let right : T (list_all saved_ok cs) = search (both_l, both_r) depth 9 in
     let there : length cs ≡ clocks_most = eqb→eq (length cs) clocks_most (search (both_l, both_r) depth 9) in
     let clocks-there : T (eqb (length (watched (heeded h g) g.sender cs)) clocks_most) = rw (length-watched (heeded h g) g.sender cs, there) tt in
     let clocks = watched_ok (heeded h g) g.sender cs (heeded-fits h g e.readings) (omega (arith, there, e.sender_le)) right in

@@ -8,7 +8,7 @@ use mathlib.Core.List.{List, [], ◌∷◌, map}
 use native.Mathlib.Omega.{arith}
 use borrow.Author.Tests.{lt-leb, leb-false}
 use lib.Dec.{T, leb}
-use Rattle.predicates.specs.Lists.{any, all}
+use Rattle.std.specs.List.{list_any, list_all}
 use Rattle.predicates.proofs.ListLaws.{both_l, both_r}
 use Rattle.state.specs.Model.{Datum, State, end_limit}
 use Rattle.state.specs.Form.{datum_ok, state_ok}
@@ -35,18 +35,18 @@ right_decides d h = go (leb end_limit d.right) refl
 -- ---- ageing
 
 -- data that are widened
-widened_decides : (own lo hi : ℕ) (ds : List Datum) → lo ≤ hi → T (all (datum_ok own) ds)
-    → any an_end_passes (map (widened lo hi) ds) ≡ any (λ d. leb end_limit d.right) (map (widened lo hi) ds)
+widened_decides : (own lo hi : ℕ) (ds : List Datum) → lo ≤ hi → T (list_all (datum_ok own) ds)
+    → list_any an_end_passes (map (widened lo hi) ds) ≡ list_any (λ d. leb end_limit d.right) (map (widened lo hi) ds)
 unfolding widened
 widened_decides own lo hi [] l t = refl
 widened_decides own lo hi (d ∷ ds) l t =
-    let o = ok_datum_out own d (both_l (datum_ok own d) (all (datum_ok own) ds) t) in
-    ap (λ (b : Bool). b || any an_end_passes (map (widened lo hi) ds)) (right_decides (widened lo hi d) (omega arith))
-    ∙ ap (λ (b : Bool). leb end_limit (d.right + hi) || b) (widened_decides own lo hi ds l (both_r (datum_ok own d) (all (datum_ok own) ds) t))
+    let o = ok_datum_out own d (both_l (datum_ok own d) (list_all (datum_ok own) ds) t) in
+    ap (λ (b : Bool). b || list_any an_end_passes (map (widened lo hi) ds)) (right_decides (widened lo hi d) (omega arith))
+    ∙ ap (λ (b : Bool). leb end_limit (d.right + hi) || b) (widened_decides own lo hi ds l (both_r (datum_ok own d) (list_all (datum_ok own) ds) t))
 
 -- of a state in form
 pub ages_right : (st : State) (reading : ℕ) → T (state_ok st)
-    → ages_past st reading ≡ any (λ d. leb end_limit d.right) (aged (slow st.head reading) (fast st.head reading) st.store).held
+    → ages_past st reading ≡ list_any (λ d. leb end_limit d.right) (aged (slow st.head reading) (fast st.head reading) st.store).held
 unfolding passes_end aged
 ages_right st reading t =
     widened_decides st.head.own (slow st.head reading) (fast st.head reading) st.store.held (slow-fast st.head reading)

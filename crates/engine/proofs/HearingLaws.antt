@@ -10,13 +10,13 @@ use lib.ListN.{length, get_or}
 use Rattle.numbers.proofs.NumberLaws.{length-tab, get_or-tab, tab_ext}
 use Rattle.names.specs.Sets.{set_union, has}
 use Rattle.names.proofs.SetLaws.{has-empty, has_mono, has-union-none, union_left, union_right}
-use Rattle.predicates.specs.Lists.{all}
+use Rattle.std.specs.List.{list_all}
 use Rattle.predicates.proofs.ListLaws.{both, both_l, both_r, true_T, T_true, T_false, cond_ind}
 use Rattle.predicates.proofs.IndexLaws.{all_get_or}
 use Rattle.epochs.specs.Epochs.{epoch_most, epochs_most, raised, NotAbove, spoken}
 use Rattle.epochs.specs.code.Known.{Named}
 use Rattle.epochs.proofs.EpochLaws.{length-raised, get_or-raised, length-spoken, spoken_le, spoken-own, raised-same, risen-none}
-use Rattle.clocks.specs.declared.Readings.TheVariants.{Without}
+use Rattle.std.specs.Prelude.{None}
 use Rattle.clocks.specs.Clocks.{Saved, nothing, saved_ok, readings_fail}
 use Rattle.state.specs.Model.{Head}
 use Rattle.state.specs.Layout.{clocks_most}
@@ -48,7 +48,7 @@ module _ (r : ℕ) (cs : List Saved) where
   unfolding cleared
   get_or-cleared n h = get_or-tab (length cs) n (λ n. cond (has n r) nothing (get_or cs n nothing)) nothing h
 
-  pub cleared_ok : T (all saved_ok cs) → T (all saved_ok (cleared r cs))
+  pub cleared_ok : T (list_all saved_ok cs) → T (list_all saved_ok (cleared r cs))
   unfolding cleared saved_ok
   cleared_ok h =
       all-tab saved_ok (length cs) (λ n. cond (has n r) nothing (get_or cs n nothing))
@@ -64,12 +64,12 @@ cleared-none cs =
 -- ---- the epochs
 
 -- a list of epochs, by its places
-epochs_out : (es : List ℕ) → T (all (λ e. leb e epoch_most) es) → (n : ℕ) → get_or es n 0 ≤ epoch_most
+epochs_out : (es : List ℕ) → T (list_all (λ e. leb e epoch_most) es) → (n : ℕ) → get_or es n 0 ≤ epoch_most
 epochs_out [] t n = omega arith
 epochs_out (e ∷ es) t zero = leb→le e epoch_most (both_l (leb e epoch_most) _ t)
 epochs_out (e ∷ es) t (suc n) = epochs_out es (both_r (leb e epoch_most) _ t) n
 
-epochs_in_lem : (es : List ℕ) → ((n : ℕ) → get_or es n 0 ≤ epoch_most) → T (all (λ e. leb e epoch_most) es)
+epochs_in_lem : (es : List ℕ) → ((n : ℕ) → get_or es n 0 ≤ epoch_most) → T (list_all (λ e. leb e epoch_most) es)
 epochs_in_lem [] h = tt
 epochs_in_lem (e ∷ es) h = both (leb e epoch_most) _ (le→leb e epoch_most (h 0)) (epochs_in_lem es (λ n. h (suc n)))
 
@@ -78,7 +78,7 @@ module _ (own : ℕ) (names : List ℕ) (r : ℕ) (h : Head) where
   abbrev said : List ℕ
   said = spoken own names h.epochs
 
-  heard-epochs : T (all (λ e. leb e epoch_most) h.epochs) → Named names → T (all (λ e. leb e epoch_most) (raised h.epochs said))
+  heard-epochs : T (list_all (λ e. leb e epoch_most) h.epochs) → Named names → T (list_all (λ e. leb e epoch_most) (raised h.epochs said))
   heard-epochs t named =
       let known = epochs_out h.epochs t in
       let small = spoken_le own epoch_most names h.epochs known (λ i l. omega (arith, named.small i l)) in
@@ -88,11 +88,11 @@ module _ (own : ℕ) (names : List ℕ) (r : ℕ) (h : Head) where
   pub heard_ok : T (head_ok h) → Named names → T (head_ok (heard_head own names r h))
   unfolding head_ok heard_head
   heard_ok t named =
-      let cs : T (all saved_ok h.clocks) = search (both_l, both_r) depth 9 in
-      let es : T (all (λ e. leb e epoch_most) h.epochs) = search (both_l, both_r) depth 12 in
+      let cs : T (list_all saved_ok h.clocks) = search (both_l, both_r) depth 9 in
+      let es : T (list_all (λ e. leb e epoch_most) h.epochs) = search (both_l, both_r) depth 12 in
       let clocks = cleared_ok r h.clocks cs in
       let clocks-there : T (eqb (length (cleared r h.clocks)) clocks_most) = rw length-cleared (search (both_l, both_r) depth 9) in
-      let epochs : T (all (λ e. leb e epoch_most) (raised h.epochs said)) = heard-epochs es named in
+      let epochs : T (list_all (λ e. leb e epoch_most) (raised h.epochs said)) = heard-epochs es named in
       let epochs-there : T (eqb (length (raised h.epochs said)) epochs_most) = rw length-raised (search (both_l, both_r) depth 12) in
       search (both, both_l, both_r) depth 14
 
@@ -109,12 +109,12 @@ module _ (h : Head) (g : Delivery) where
   -- the readings that are heeded fit, if those given do
   pub heeded-fits : T (not (readings_fail g.readings)) → T (not (readings_fail (heeded h g)))
   unfolding heeded readings_fail
-  heeded-fits k = cond_ind (λ r. T (not (readings_fail r))) (has g.sender (late h g)) Without g.readings (λ _. tt) (λ _. k)
+  heeded-fits k = cond_ind (λ r. T (not (readings_fail r))) (has g.sender (late h g)) None g.readings (λ _. tt) (λ _. k)
 
   -- without readings none are heeded
-  pub heeded-none : g.readings ≡ Without → heeded h g ≡ Without
+  pub heeded-none : g.readings ≡ None → heeded h g ≡ None
   unfolding heeded
-  heeded-none e = cond_ind (λ r. r ≡ Without) (has g.sender (late h g)) Without g.readings (λ _. refl) (λ _. e)
+  heeded-none e = cond_ind (λ r. r ≡ None) (has g.sender (late h g)) None g.readings (λ _. refl) (λ _. e)
 
   -- where no epoch is above the known one nothing moves
   pub quiet-risen : NotAbove (spoken_by h g) h.epochs → risen h g ≡ 0

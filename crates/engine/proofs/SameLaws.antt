@@ -13,7 +13,7 @@ use lib.Dec.{T, T_not, eqb, eqb→eq, ltb, ltb→lt}
 use lib.ListN.{length}
 use Rattle.names.specs.Sets.{subset}
 use Rattle.names.proofs.SetLaws.{empty-subset}
-use Rattle.predicates.specs.Lists.{any, all}
+use Rattle.std.specs.List.{list_any, list_all}
 use Rattle.predicates.specs.Predicates.{is_true, is_normal, precedes}
 use Rattle.predicates.proofs.ListLaws.{both_l, both_r, or_cases, any_out, all_out, T_true, T_false}
 use Rattle.epochs.specs.Epochs.{NotAbove, withdraw}
@@ -23,7 +23,6 @@ use Rattle.state.specs.Layout.{datum_terms, data_most, entries_most}
 use Rattle.state.specs.Form.{datum_ok, store_ok, state_ok}
 use Rattle.state.proofs.OkLaws.{ok_datum_out}
 use Rattle.state.proofs.StateLaws.{state_out}
-use Rattle.clocks.specs.declared.Readings.TheVariants.{Without}
 use Rattle.steps.specs.Steps.{judged, received, too_many}
 use Rattle.steps.specs.Withdrawn.{withdrawn}
 use Rattle.steps.proofs.WithdrawnLaws.{withdrawn-none}
@@ -33,6 +32,7 @@ use Rattle.engine.specs.Hearing.{spoken_by, risen, late, hearing, heeded, arrive
 use Rattle.engine.specs.Calls.{age, receive, clock_of, violated, moved, made, done}
 use Rattle.engine.specs.Refusals.{an_end_passes, passes_end, age_refusal, from_self, grows_past, receipt_refusal}
 use Rattle.engine.proofs.WatchLaws.{watched-none, violated-none}
+use Rattle.std.specs.Prelude.{None}
 use Rattle.engine.proofs.HearingLaws.{heeded-none, quiet-risen, quiet-hearing}
 
 -- ---- an ageing to the last reading: "An equal reading is fine and changes nothing."
@@ -54,12 +54,12 @@ aged-none : (k : Store) → aged 0 0 k ≡ k
 unfolding aged
 aged-none k = rw (widened_none k.held)
 
-ends-below : (own : ℕ) (ds : List Datum) → T (all (datum_ok own) ds) → any an_end_passes ds ≡ false
+ends-below : (own : ℕ) (ds : List Datum) → T (list_all (datum_ok own) ds) → list_any an_end_passes ds ≡ false
 ends-below own [] t = refl
 ends-below own (d ∷ ds) t =
-    let o = ok_datum_out own d (both_l (datum_ok own d) (all (datum_ok own) ds) t) in
+    let o = ok_datum_out own d (both_l (datum_ok own d) (list_all (datum_ok own) ds) t) in
     let left : d.left < end_limit = omega (arith, o.ends, o.below) in
-    rw (lt-leb end_limit d.left left, lt-leb end_limit d.right o.below) (ends-below own ds (both_r (datum_ok own d) (all (datum_ok own) ds) t))
+    rw (lt-leb end_limit d.left left, lt-leb end_limit d.right o.below) (ends-below own ds (both_r (datum_ok own d) (list_all (datum_ok own) ds) t))
 
 module _ (st : State) (t : T (state_ok st)) where
   pub age-same : (age_refusal st st.head.reading ≡ 0) × (done st (age st.head.reading) ≡ st)
@@ -85,22 +85,22 @@ unfolding state_ok
 store_ok_lem st t = search (both_l, both_r) depth 9
 
 -- in normal form the empty term stands alone
-empty-alone : (p : List ℕ) → T (all (λ u. precedes 0 u) p) → length p ≤ 0
+empty-alone : (p : List ℕ) → T (list_all (λ u. precedes 0 u) p) → length p ≤ 0
 empty-alone [] a = omega arith
 empty-alone (u ∷ p) a =
-    absurd (T_not (subset 0 u) (both_r (ltb 0 u) (not (subset 0 u)) (both_l (precedes 0 u) (all (λ v. precedes 0 v) p) a)) (empty-subset u))
+    absurd (T_not (subset 0 u) (both_r (ltb 0 u) (not (subset 0 u)) (both_l (precedes 0 u) (list_all (λ v. precedes 0 v) p) a)) (empty-subset u))
 
 true_alone : (p : List ℕ) → T (is_normal p) → T (is_true p) → length p ≤ 1
 unfolding is_normal is_true
 true_alone [] n h = omega arith
 true_alone (t ∷ p) n h =
-    let first = both_l (all (λ u. precedes t u) p) (is_normal p) n in
+    let first = both_l (list_all (λ u. precedes t u) p) (is_normal p) n in
     ⊎_elim (λ z. omega (arith, empty-alone p (rw (eqb→eq t 0 z) at first))) (λ z.
     let k = any_out (λ u. eqb u 0) p z in
     let less = ltb→lt t k.0 (both_l (ltb t k.0) _ (all_out (λ u. precedes t u) p first k.0 k.1)) in
-    absurd (omega (arith, eqb→eq k.0 0 k.2))) (or_cases (eqb t 0) (any (λ u. eqb u 0) p) h)
+    absurd (omega (arith, eqb→eq k.0 0 k.2))) (or_cases (eqb t 0) (list_any (λ u. eqb u 0) p) h)
 
-module _ (st : State) (t : T (state_ok st)) (g : Delivery) (w : g.readings ≡ Without) (q : NotAbove (spoken_by st.head g) st.head.epochs)
+module _ (st : State) (t : T (state_ok st)) (g : Delivery) (w : g.readings ≡ None) (q : NotAbove (spoken_by st.head g) st.head.epochs)
     (h : T (is_true (arrived st.head g).terms)) where
   quiet : violated st.head g ≡ false
   unfolding violated

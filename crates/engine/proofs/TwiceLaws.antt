@@ -8,7 +8,7 @@ use native.Mathlib.Nat.{add_assoc, add-mul, mul-le-mul_right}
 use native.Mathlib.Omega.{arith}
 use lib.Dec.{T, not_T, leb, ltb, leb→le, nleb→lt, ltb→lt, nltb→le}
 use Rattle.predicates.proofs.ListLaws.{neither}
-use Rattle.predicates.specs.Lists.{any}
+use Rattle.std.specs.List.{list_any}
 use Rattle.ends.specs.Ends.{million}
 use Rattle.state.specs.Model.{Datum, State, end_limit, reading_limit}
 use Rattle.state.proofs.LentLaws.{refuse-none}
@@ -48,7 +48,7 @@ module _ (st : State) (t u : ℕ) (low : st.head.reading ≤ t) (high : t ≤ u)
 record AgePassed (st : State) (t : ℕ) : Type 0 where
   early : T (not (leb reading_limit t))
   later : T (not (ltb t st.head.reading))
-  fits : T (not (any an_end_passes (done st (age t)).store.held))
+  fits : T (not (list_any an_end_passes (done st (age t)).store.held))
 
 age_passed : (st : State) (t : ℕ) → age_refusal st t ≡ 0 → AgePassed st t
 unfolding age_refusal passes_end done made
@@ -65,7 +65,7 @@ no_test false h = refl
 
 passed_age : (st : State) (t : ℕ) → AgePassed st t → age_refusal st t ≡ 0
 unfolding age_refusal passes_end done made
-passed_age st t p = rw (no_test (leb reading_limit t) p.early, no_test (ltb t st.head.reading) p.later, no_test (any an_end_passes (done st (age t)).store.held) p.fits)
+passed_age st t p = rw (no_test (leb reading_limit t) p.early, no_test (ltb t st.head.reading) p.later, no_test (list_any an_end_passes (done st (age t)).store.held) p.fits)
 
 -- two readings, the second no earlier: the one call is taken, and makes the same state
 pub age_once : (st : State) (t u : ℕ) → age_refusal st t ≡ 0 → age_refusal (done st (age t)) u ≡ 0
@@ -80,7 +80,7 @@ age_once st t u a b =
       passed_age st u record {
         early = q.early;
         later = not_T (ltb u st.head.reading) (λ c. let l = ltb→lt u st.head.reading c in omega arith);
-        fits = subst (λ (z : State). T (not (any an_end_passes z.store.held))) same q.fits;
+        fits = subst (λ (z : State). T (not (list_any an_end_passes z.store.held))) same q.fits;
       },
       same,
     )
@@ -92,14 +92,14 @@ none_of true b s t = absurd s
 none_of false b s t = t
 
 -- ends that stay below the last one when they gain more do so when they gain less
-fits_less : (a b c e : ℕ) → a ≤ c → b ≤ e → (ds : List Datum) → T (not (any an_end_passes (map (widened c e) ds)))
-    → T (not (any an_end_passes (map (widened a b) ds)))
+fits_less : (a b c e : ℕ) → a ≤ c → b ≤ e → (ds : List Datum) → T (not (list_any an_end_passes (map (widened c e) ds)))
+    → T (not (list_any an_end_passes (map (widened a b) ds)))
 unfolding widened
 fits_less a b c e l r [] t = tt
 fits_less a b c e l r (d ∷ ds) t =
-    let far = neither (an_end_passes (widened c e d)) (any an_end_passes (map (widened c e) ds)) t in
+    let far = neither (an_end_passes (widened c e d)) (list_any an_end_passes (map (widened c e) ds)) t in
     let ends = neither (leb end_limit (d.left + c)) (leb end_limit (d.right + e)) far.0 in
-    none_of (an_end_passes (widened a b d)) (any an_end_passes (map (widened a b) ds))
+    none_of (an_end_passes (widened a b d)) (list_any an_end_passes (map (widened a b) ds))
     (none_of (leb end_limit (d.left + a)) (leb end_limit (d.right + b)) (less d.left a c l ends.0) (less d.right b e r ends.1))
     (fits_less a b c e l r ds far.1)
   where
@@ -125,6 +125,6 @@ age-parted st t u low high e =
       passed_age (done st (age t)) u record {
         early = p.early;
         later = not_T (ltb u t) (λ c. let l = ltb→lt u t c in omega arith);
-        fits = subst (λ (z : State). T (not (any an_end_passes z.store.held))) (sym (age_twice st t u low high)) p.fits;
+        fits = subst (λ (z : State). T (not (list_any an_end_passes z.store.held))) (sym (age_twice st t u low high)) p.fits;
       },
     )

@@ -7,12 +7,11 @@ use mathlib.Core.List.{List, [], ◌∷◌}
 use lib.Dec.{T}
 use lib.ListN.{length, get_or, set, length-set}
 use Rattle.numbers.specs.Numbers.{num, put, Bytes}
-use Rattle.predicates.specs.Lists.{all}
+use Rattle.std.specs.List.{list_all}
 use Rattle.predicates.proofs.ListLaws.{both, both_l, both_r}
 use Rattle.predicates.proofs.IndexLaws.{all_get_or}
-use Rattle.clocks.specs.declared.Triple.{Triple}
+use Rattle.std.specs.Prelude.{Option, None, Some}
 use Rattle.clocks.specs.declared.Readings.{Readings}
-use Rattle.clocks.specs.declared.Readings.TheVariants.{Without, With}
 use Rattle.clocks.specs.Clocks.{Fits, drift_most, Saved, nothing, saved_ok, saving, violates, readings_fail, violated_by, watched}
 use Rattle.clocks.specs.Places.{saved_bytes, saved_at}
 use Rattle.clocks.proofs.PlaceLaws.{saving_ok, small_out, fails-small}
@@ -22,37 +21,37 @@ use Rattle.state.specs.Form.{in_form}
 use Rattle.state.proofs.StateLaws.{form_ok, put-state-same, place-put, clock_read}
 use Rattle.engine.specs.Calls.{clock_of}
 
-pub all_set : {A : Type 0} (f : A → Bool) (l : List A) (i : ℕ) (v : A) → T (all f l) → T (f v) → T (all f (set l i v))
+pub all_set : {A : Type 0} (f : A → Bool) (l : List A) (i : ℕ) (v : A) → T (list_all f l) → T (f v) → T (list_all f (set l i v))
 all_set f [] i v t h = tt
-all_set f (x ∷ l) zero v t h = both (f v) (all f l) h (both_r (f x) (all f l) t)
-all_set f (x ∷ l) (suc i) v t h = both (f x) (all f (set l i v)) (both_l (f x) (all f l) t) (all_set f l i v (both_r (f x) (all f l) t) h)
+all_set f (x ∷ l) zero v t h = both (f v) (list_all f l) h (both_r (f x) (list_all f l) t)
+all_set f (x ∷ l) (suc i) v t h = both (f x) (list_all f (set l i v)) (both_l (f x) (list_all f l) t) (all_set f l i v (both_r (f x) (list_all f l) t) h)
 
-pub length-watched : (r : Readings) (sender : ℕ) (cs : List Saved) → length (watched r sender cs) ≡ length cs
+pub length-watched : (r : Option Readings) (sender : ℕ) (cs : List Saved) → length (watched r sender cs) ≡ length cs
 unfolding watched
-length-watched Without sender cs = refl
-length-watched (With t drift) sender cs = length-set cs sender (saving (get_or cs sender nothing) t)
+length-watched None sender cs = refl
+length-watched (Some x) sender cs = length-set cs sender (saving (get_or cs sender nothing) x.triple)
 
-pub watched_ok : (r : Readings) (sender : ℕ) (cs : List Saved) → T (not (readings_fail r)) → sender < length cs → T (all saved_ok cs)
-    → T (all saved_ok (watched r sender cs))
+pub watched_ok : (r : Option Readings) (sender : ℕ) (cs : List Saved) → T (not (readings_fail r)) → sender < length cs → T (list_all saved_ok cs)
+    → T (list_all saved_ok (watched r sender cs))
 unfolding readings_fail watched
-watched_ok Without sender cs h l a = a
-watched_ok (With t drift) sender cs h l a =
-    all_set saved_ok cs sender _ a (saving_ok (get_or cs sender nothing) t (all_get_or saved_ok cs sender nothing a l) (fails-small t drift h).0)
+watched_ok None sender cs h l a = a
+watched_ok (Some x) sender cs h l a =
+    all_set saved_ok cs sender _ a (saving_ok (get_or cs sender nothing) x.triple (all_get_or saved_ok cs sender nothing a l) (fails-small x.triple x.drift h).0)
 
 -- without readings
-pub watched-none : (r : Readings) (sender : ℕ) (cs : List Saved) → r ≡ Without → watched r sender cs ≡ cs
+pub watched-none : (r : Option Readings) (sender : ℕ) (cs : List Saved) → r ≡ None → watched r sender cs ≡ cs
 unfolding watched
-watched-none r sender cs e = subst (λ (x : Readings). watched x sender cs ≡ cs) (sym e) refl
+watched-none r sender cs e = subst (λ (x : Option Readings). watched x sender cs ≡ cs) (sym e) refl
 
-pub violated-none : (own : ℕ) (v : Saved) (r : Readings) → r ≡ Without → violated_by own v r ≡ false
+pub violated-none : (own : ℕ) (v : Saved) (r : Option Readings) → r ≡ None → violated_by own v r ≡ false
 unfolding violated_by
-violated-none own v r e = subst (λ (x : Readings). violated_by own v x ≡ false) (sym e) refl
+violated-none own v r e = subst (λ (x : Option Readings). violated_by own v x ≡ false) (sym e) refl
 
 -- of a clock of which nothing is saved
-pub none-saved : (own : ℕ) (r : Readings) → violated_by own nothing r ≡ false
+pub none-saved : (own : ℕ) (r : Option Readings) → violated_by own nothing r ≡ false
 unfolding violated_by violates
-none-saved own Without = refl
-none-saved own (With t drift) = refl
+none-saved own None = refl
+none-saved own (Some x) = refl
 
 -- one place, stored in a state in form
 pub place-saved : (s : List ℕ) → T (in_form s) → Bytes s → state_size ≤ length s → (i : ℕ) (v : Saved) → i < clocks_most
@@ -64,30 +63,30 @@ place-saved s f b h i v l =
 -- ---- readings that a call was given
 
 -- they fit
-pub with_fits : (r : Readings) (t : Triple) (drift : ℕ) → r ≡ With t drift → T (not (readings_fail r)) → Fits t × (drift ≤ drift_most)
+pub with_fits : (r : Option Readings) (x : Readings) → r ≡ Some x → T (not (readings_fail r)) → Fits x.triple × (x.drift ≤ drift_most)
 unfolding readings_fail
-with_fits r t drift e h =
-    let k = fails-small t drift (subst (λ (x : Readings). T (not (readings_fail x))) e h) in (small_out t k.0, k.1)
+with_fits r x e h =
+    let k = fails-small x.triple x.drift (subst (λ (y : Option Readings). T (not (readings_fail y))) e h) in (small_out x.triple k.0, k.1)
 
 -- tested against the sender's place
-pub with_violated : (s : List ℕ) (sender : ℕ) (r : Readings) (t : Triple) (drift own : ℕ) → sender < clocks_most → r ≡ With t drift → own ≡ num drift_at 4 s
-    → violates (own + drift) (saved_at (clock_place sender) s) t ≡ violated_by (head_of s).drift (clock_of (head_of s) sender) r
+pub with_violated : (s : List ℕ) (sender : ℕ) (r : Option Readings) (x : Readings) (own : ℕ) → sender < clocks_most → r ≡ Some x → own ≡ num drift_at 4 s
+    → violates (own + x.drift) (saved_at (clock_place sender) s) x.triple ≡ violated_by (head_of s).drift (clock_of (head_of s) sender) r
 unfolding violated_by head_of
-with_violated s sender r t drift own l e d =
-    subst (λ (x : Readings). violates (own + drift) (saved_at (clock_place sender) s) t ≡ violated_by (head_of s).drift (clock_of (head_of s) sender) x) (sym e)
+with_violated s sender r x own l e d =
+    subst (λ (y : Option Readings). violates (own + x.drift) (saved_at (clock_place sender) s) x.triple ≡ violated_by (head_of s).drift (clock_of (head_of s) sender) y) (sym e)
     (rw (d, clock_read s sender l))
 
 -- saved in the sender's place
-pub with_saved : (s u : List ℕ) (sender : ℕ) (r : Readings) (t : Triple) (drift : ℕ) → T (in_form s) → Bytes s → state_size ≤ length s → sender < clocks_most
-    → r ≡ With t drift → u ≡ put (clock_place sender) (saved_bytes (saving (saved_at (clock_place sender) s) t)) s
+pub with_saved : (s u : List ℕ) (sender : ℕ) (r : Option Readings) (x : Readings) → T (in_form s) → Bytes s → state_size ≤ length s → sender < clocks_most
+    → r ≡ Some x → u ≡ put (clock_place sender) (saved_bytes (saving (saved_at (clock_place sender) s) x.triple)) s
     → u ≡ put 0 (state_bytes (record { head = with_clocks (head_of s) (watched r sender (head_of s).clocks); store = store_of s })) s
 unfolding watched
-with_saved s u sender r t drift f b h l e p =
-    subst (λ (x : Readings). u ≡ put 0 (state_bytes (record { head = with_clocks (head_of s) (watched x sender (head_of s).clocks); store = store_of s })) s) (sym e)
-    (p ∙ rw (← (clock_read s sender l)) (place-saved s f b h sender (saving (get_or (head_of s).clocks sender nothing) t) l))
+with_saved s u sender r x f b h l e p =
+    subst (λ (y : Option Readings). u ≡ put 0 (state_bytes (record { head = with_clocks (head_of s) (watched y sender (head_of s).clocks); store = store_of s })) s) (sym e)
+    (p ∙ rw (← (clock_read s sender l)) (place-saved s f b h sender (saving (get_or (head_of s).clocks sender nothing) x.triple) l))
 
 -- nothing is saved without them
-pub without-saved : (s : List ℕ) (sender : ℕ) (r : Readings) → T (in_form s) → Bytes s → state_size ≤ length s → r ≡ Without
+pub without-saved : (s : List ℕ) (sender : ℕ) (r : Option Readings) → T (in_form s) → Bytes s → state_size ≤ length s → r ≡ None
     → s ≡ put 0 (state_bytes (record { head = with_clocks (head_of s) (watched r sender (head_of s).clocks); store = store_of s })) s
 unfolding state_of
 without-saved s sender r f b h e = rw (watched-none r sender (head_of s).clocks e) (sym (put-state-same s f b h))

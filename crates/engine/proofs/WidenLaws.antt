@@ -6,21 +6,19 @@ use Prim.Native.Nat.{ℕ, ◌+◌, ◌*◌, ◌-◌, ◌≤◌, ◌<◌}
 use mathlib.Core.Path.{◌≡◌, sym, ◌∙◌}
 use mathlib.Core.List.{List}
 use native.Mathlib.Omega.{arith}
-use mathlib.Core.Bool.{true}
-use lib.Dec.{T, leb→le, ltb, ltb→lt, lt→ltb}
+use lib.Dec.{T, leb→le, ltb→lt}
 use lib.ListN.{length, drop, length-append, length-replicate}
-use Rattle.predicates.proofs.ListLaws.{both_l, both_r, true_T, T_true}
+use Rattle.predicates.proofs.ListLaws.{both_l, both_r}
 use Rattle.numbers.specs.Numbers.{num, bytes, put, tab, Bytes}
 use Rattle.numbers.proofs.NumberLaws.{length-bytes, put-append, put_num-same, length-tab, map-tab}
-use Rattle.ends.specs.declared.End.{End}
 use Rattle.ends.specs.declared.Ends.{Ends}
-use Rattle.ends.specs.Ends.{count_of, Split, BothSplit}
-use Rattle.state.specs.Model.{Datum, last_whole, end_limit}
+use Rattle.ends.specs.Ends.{count_of, BothSplit}
+use Rattle.state.specs.Model.{Datum, end_limit}
 use Rattle.state.specs.code.Tables.{ends_at, with_ends}
-use Rattle.state.specs.Layout.{state_size, reading_at, held_at, data_at, data_most, datum_size, zeros, joined, row_bytes, datum_bytes, data_bytes, parts, state_bytes, right_in, row_in, datum_terms, own_at}
+use Rattle.state.specs.Layout.{state_size, reading_at, held_at, data_at, data_most, datum_size, zeros, joined, row_bytes, datum_bytes, data_bytes, parts, state_bytes, row_in, datum_terms, own_at}
 use Rattle.state.specs.Layout.{datum_place, datum_at, held_count, head_of, store_of, state_of}
 use Rattle.state.specs.Form.{terms_fit, datum_fits, data_fit, in_form, datum_ok}
-use Rattle.predicates.proofs.IndexLaws.{below_in, below_out}
+use Rattle.predicates.proofs.IndexLaws.{below_out}
 use Rattle.state.proofs.LayoutLaws.{part, At, length-datum}
 use Rattle.state.proofs.FormLaws.{zeros_out, row_part, datum-row, ends_split}
 use Rattle.state.proofs.StateLaws.{held_count_le, form-datum, datum_at_ok, begins-form}
@@ -29,8 +27,6 @@ use Rattle.state.proofs.PutLaws.{part_stands, put_stands, drop-put, length-joine
 use Rattle.state.proofs.PartLaws.{part_stored}
 use Rattle.engine.specs.Ageing.{slow, fast, widened, aged}
 use Rattle.engine.specs.Calls.{age, moved, made, done}
-use Rattle.engine.specs.code.Ageing.{far_below, stays_below}
-use Rattle.engine.proofs.AgeLaws.{stays_at, stays_below_lem}
 
 -- ---- a held datum
 
@@ -60,18 +56,6 @@ pub record EndsHeld (d : Datum) (e : Ends) : Type 0 where
 pub ends_held : (s : List ℕ) → T (in_form s) → (i : ℕ) → i < held_count s → (e : Ends) → e ≡ ends_at s i → EndsHeld (datum_at s i) e
 unfolding datum_at ends_at
 ends_held s t i h e r = record { split = rw r (ends_split (num own_at 4 s) s i (form-datum s t i h)); left_is = rw r; right_is = rw r }
-
--- the whole microseconds alone tell that every right end can be stored
-pub far_stays : (s : List ℕ) → T (in_form s) → (hi : End) → Split hi → far_below hi.whole s ≡ true → stays_below (count_of hi) (store_of s) ≡ true
-unfolding far_below datum_at ends_at
-far_stays s t hi split e =
-    rw (stays_below_lem (count_of hi) s)
-    (T_true _ (below_in (held_count s) (stays_at (count_of hi) s)
-    (λ i h.
-    let told = below_out (held_count s) (λ k. ltb (num (datum_place k + right_in) 8 s + hi.whole) (last_whole - 1)) (true_T _ e) i h in
-    let low = ltb→lt (num (datum_place i + right_in) 8 s + hi.whole) (last_whole - 1) told in
-    let small = (ends_split (num own_at 4 s) s i (form-datum s t i h)).1 in
-    lt→ltb ((datum_at s i).right + count_of hi) end_limit (omega (arith, low, small, split)))))
 
 -- ---- the loop
 

@@ -1,11 +1,10 @@
 -- The epochs that a receipt brings (document 02, W-204): which old names it withdraws, which it names late, and what it makes of the head. "Epochs
 -- are heard first, also where the predicate is true". Assumes nothing: these are definitions.
-use Rattle.std.specs.Prelude.{ℕ, cond, List, length, get_or}
+use Rattle.std.specs.Prelude.{ℕ, cond, List, length, get_or, Option, None}
 use Rattle.numbers.specs.Numbers.{tab}
 use Rattle.names.specs.Sets.{has}
 use Rattle.epochs.specs.Epochs.{older, raised, spoken}
 use Rattle.clocks.specs.declared.Readings.{Readings}
-use Rattle.clocks.specs.declared.Readings.TheVariants.{Without}
 use Rattle.clocks.specs.Clocks.{Saved, nothing}
 use Rattle.state.specs.Model.{Datum, Head}
 use Rattle.steps.specs.Withdrawn.{withdrawn_datum}
@@ -39,8 +38,8 @@ hearing h g =
     }
 
 -- "an older sender's readings being neither tested nor saved"
-unfoldable pub heeded : Head → Delivery → Readings
-heeded h g = cond (has g.sender (late h g)) Without g.readings
+unfoldable pub heeded : Head → Delivery → Option Readings
+heeded h g = cond (has g.sender (late h g)) None g.readings
 
 -- the datum as it is received: "an older one counts as failed". The terms with the own identifier are struck before
 unfoldable pub arrived : Head → Delivery → Datum

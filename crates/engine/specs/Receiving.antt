@@ -1,6 +1,6 @@
 -- What a receipt is given and the datum that it makes (document 01, "Receiving", head; document 02, W-201 and W-202).
 -- Assumes nothing: these are definitions.
-use Rattle.std.specs.Prelude.{ℕ, ◌+◌, ◌*◌, List}
+use Rattle.std.specs.Prelude.{ℕ, ◌+◌, ◌*◌, List, Option}
 use Rattle.predicates.specs.Predicates.{formed}
 use Rattle.clocks.specs.declared.Readings.{Readings}
 use Rattle.ends.specs.Ends.{million}
@@ -11,7 +11,7 @@ use Rattle.engine.specs.Ageing.{least_advance, greatest_advance}
 pub record Delivery : Type 0 where
   pub least : ℕ
   pub greatest : ℕ
-  pub readings : Readings
+  pub readings : Option Readings
   pub sender : ℕ
   -- the names that the message gives: the sender's and that of each identifier in its terms (document 02, W-204)
   pub names : List ℕ
@@ -19,7 +19,7 @@ pub record Delivery : Type 0 where
   pub right : ℕ
   pub terms : List ℕ
 
-abbrev pub delivery : ℕ → ℕ → Readings → ℕ → List ℕ → ℕ → ℕ → List ℕ → Delivery
+abbrev pub delivery : ℕ → ℕ → Option Readings → ℕ → List ℕ → ℕ → ℕ → List ℕ → Delivery
 delivery least greatest readings sender names left right terms =
     record { least = least; greatest = greatest; readings = readings; sender = sender; names = names; left = left; right = right; terms = terms }
 

@@ -2,7 +2,7 @@
 -- The refusals of the buffer, the form and the message's words (24, 25, 10 to 17) are tested on the bytes. 0 means taken.
 -- Assumes nothing: these are definitions.
 use Rattle.std.specs.Prelude.{ℕ, Bool, ◌||◌, eqb, leb, ltb, length}
-use Rattle.predicates.specs.Lists.{any}
+use Rattle.std.specs.List.{list_any}
 use Rattle.epochs.specs.Epochs.{epoch_most}
 use Rattle.state.specs.Model.{Datum, Head, Store, State, name_most, end_limit, reading_limit}
 use Rattle.clocks.specs.Clocks.{drift_most}
@@ -51,7 +51,7 @@ an_end_passes d = leb end_limit d.left || leb end_limit d.right
 
 -- of a held datum
 unfoldable pub passes_end : Store → Bool
-passes_end k = any an_end_passes k.held
+passes_end k = list_any an_end_passes k.held
 
 -- an ageing to the reading would pass it
 abbrev pub ages_past : State → ℕ → Bool

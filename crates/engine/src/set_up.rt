@@ -1,5 +1,6 @@
 // Setting up (document 01, "State bytes"): a fresh state holds nothing and knows nothing.
 ghost use Rattle.std.specs.Prelude.{◌≡◌, ◌≤◌, length};
+ghost use Rattle.refusals.specs.Refusals.{number};
 ghost use Rattle.numbers.specs.Numbers.{put};
 ghost use Rattle.epochs.specs.Epochs.{epoch_most};
 ghost use Rattle.state.specs.Model.{name_most};
@@ -7,6 +8,8 @@ ghost use Rattle.state.specs.Layout.{state_size, state_bytes};
 ghost use Rattle.state.specs.Refusal.{after};
 ghost use Rattle.engine.specs.Calls.{setup, set_up};
 ghost use Rattle.engine.specs.Refusals.{set_up_refusal};
+
+use refusals::Refusal;
 
 // Puts the fresh state of an own name, a drift, a reading and an epoch, part by part: the head, no data, the fresh knowledge, nothing saved of any
 // clock, and of the epochs the own one.
@@ -18,34 +21,39 @@ fn put_fresh(s: &mut [u8], own: u32, drift: u32, reading: u64, epoch: u64)
     numbers::put32(s, state::DRIFT_AT, drift);
     numbers::put64(s, state::READING_AT, reading);
     numbers::put32(s, state::HELD_AT, 0);
-    state::rows::clear(s, state::DATA_AT, state::DATA_END);
+    state::rows::clear(s, state::DATA_AT, state::ENTRIES_AT);
     let known = state::knowledge::fresh();
-    let counts = known.counts;
-    let masks = known.masks;
-    state::store::put_known(s, 0, &counts, &masks, known.count, state::ENTRIES_MOST);
+    state::store::put_known(s, 0, known.counts(), &known.masks, state::ENTRIES_MOST);
     state::rows::clear(s, state::CLOCKS_AT, state::EPOCHS_AT);
     state::rows::clear(s, state::EPOCHS_AT, state::STATE_SIZE);
     s[state::EPOCHS_AT + own as usize] = epoch as u8;
 }
 
-// Sets a monitor up. Answers 0, or the number of the refusal and leaves the bytes as they are.
-pub fn set_up(state: &mut [u8], own: u32, drift: u32, reading: u64, epoch: u64) -> u32
+// Sets a monitor up, or refuses and leaves the bytes as they are.
+#[tactic(auto, unfolding(crate::specs::Refusals::set_up_refusal, state::specs::Refusal::after))]
+pub fn set_up(
+    state: &mut [u8],
+    own: u32,
+    drift: u32,
+    reading: u64,
+    epoch: u64,
+) -> Result<(), Refusal>
     requires { state_size ≤ length state.old }
-    ensures value { result ≡ set_up_refusal (setup own drift reading epoch) }
-    ensures state_after { state.new ≡ after result (state_bytes (set_up (setup own drift reading epoch))) state.old }
+    ensures value { number result ≡ set_up_refusal (setup own drift reading epoch) }
+    ensures state_after { state.new ≡ after (number result) (state_bytes (set_up (setup own drift reading epoch))) state.old }
 {
     if state::NAME_MOST < own {
-        return 1;
+        return Err(Refusal::OwnName);
     }
     if (epochs::EPOCH_MOST as u64) < epoch {
-        return 41;
+        return Err(Refusal::OwnEpoch);
     }
-    if state::DRIFT_MOST < drift {
-        return 2;
+    if clocks::DRIFT_MOST < drift {
+        return Err(Refusal::Drift);
     }
     if state::READING_LIMIT <= reading {
-        return 3;
+        return Err(Refusal::Reading);
     }
     put_fresh(state, own, drift, reading, epoch);
-    0
+    Ok(())
 }

@@ -4,24 +4,23 @@
 -- No contract cites this file. Assumes nothing.
 use Prim.Native.Nat.{ℕ, suc, ◌+◌, ◌*◌, ◌-◌, ◌≤◌, ◌<◌}
 use mathlib.Core.Path.{◌≡◌, refl, sym, ap, ◌∙◌}
-use mathlib.Core.Bool.{true}
-use mathlib.Core.List.{List, [], ◌∷◌, ◌++◌, append-nil}
+use mathlib.Core.List.{List, [], ◌∷◌, ◌++◌}
 use native.Mathlib.Nat.{zero-add, suc-add}
 use native.Mathlib.Omega.{arith}
 use lib.Dec.{T, eqb, eqb→eq, eqb_refl, ltb, ltb→lt}
-use lib.ListN.{length, get_or, take, drop, set, length-append, length-drop, drop_of_length-le, take-append-drop}
-use lib.Seq.{sets, sets-eq, drop-append-add, take-take, length-take-le}
+use lib.ListN.{length, get_or, take, drop, set, length-append, take-append-drop}
+use lib.Seq.{sets, drop-append-add, take-take}
 use Rattle.numbers.specs.Numbers.{num, tab}
 use Rattle.numbers.proofs.NumberLaws.{length-tab, get_or-tab}
-use Rattle.predicates.specs.Lists.{all}
+use Rattle.std.specs.List.{list_all}
 use Rattle.predicates.specs.code.Marks.{singles, mark_of}
 use Rattle.predicates.proofs.ListLaws.{both_l, both_r, all_out}
 use Rattle.predicates.proofs.MarkLaws.{singles-zeros, mark-singles}
 use Rattle.state.specs.Layout.{own_at, entry_place, entry_count, masks_at, row_at, entry_at}
 use Rattle.state.specs.Form.{term_fits, row_fits, in_form, entry_fits}
-use Rattle.state.specs.code.Tables.{table, TableFits, row_of, has_terms, entry_masks, table_from}
+use Rattle.state.specs.code.Tables.{table, TableFits, row_of, entry_masks, table_from}
 use Rattle.state.proofs.LayoutLaws.{all-tab, At, at_joined, at_part}
-use Rattle.state.proofs.RowLaws.{table-room, row-length, row_full}
+use Rattle.state.proofs.RowLaws.{table-room}
 use Rattle.state.proofs.StateLaws.{form_entry}
 use Rattle.state.proofs.StoreLaws.{length-masks, length-entry_masks, column_front, length_column, row_standing}
 use Rattle.entries.specs.code.Marks.{Marked}
@@ -38,16 +37,12 @@ sets_behind (x ∷ a) l e k = rw suc-add (sets_cons x (length a + k) (a ++ l) e 
 
 -- ---- where a row lies
 
--- what fills 16 places leaves nothing of them
-filled : (l row : List ℕ) → length row ≡ 16 → l ++ drop 16 row ≡ l
-filled l row e = ap (λ (r : List ℕ). l ++ r) (drop_of_length-le row {i = 16} (omega arith)) ∙ append-nil l
-
 module _ (first : ℕ) (s masks : List ℕ) where
   row_bytes_lem : (i : ℕ) → i < first → take 16 (drop (i * 16) (entry_masks first s ++ masks)) ≡ masks_at 16 (entry_place i) s
   unfolding entry_masks
   row_bytes_lem i h =
       let f : ℕ → List ℕ = λ k. masks_at 16 (entry_place k) s in
-      let wide : T (all (λ l. eqb (length l) 16) (tab first f)) = all-tab (λ l. eqb (length l) 16) first f (λ k _. rw (length-masks 16 (entry_place k) s) (eqb_refl 16)) in
+      let wide : T (list_all (λ l. eqb (length l) 16) (tab first f)) = all-tab (λ l. eqb (length l) 16) first f (λ k _. rw (length-masks 16 (entry_place k) s) (eqb_refl 16)) in
       let there : At (i * 16) (get_or (tab first f) i []) (entry_masks first s ++ masks) =
       rw zero-add at (at_joined (λ l. l) (λ l. eqb (length l) 16) 16 (λ l t. eqb→eq (length l) 16 t) [] 0 i (tab first f) (entry_masks first s ++ masks) wide
       (omega (arith, length-tab first f)) (masks, refl)) in
@@ -69,21 +64,22 @@ module _ (first : ℕ) (s masks : List ℕ) where
   pub array_room : (i : ℕ) → first ≤ i → i * 16 + 16 ≤ length (entry_masks first s ++ masks) → (i - first) * 16 + 16 ≤ length masks
   array_room i h k = omega (arith, length-append (entry_masks first s) masks, length-entry_masks first s)
 
-  -- a row read from the bytes, or copied from the array
-  pub row_read : (i : ℕ) (row : List ℕ) → length row ≡ 16 → i < first
-      → tab 16 (λ k. num (entry_place i + 4 + k * 4) 4 s) ++ drop 16 row ≡ take 16 (drop (i * 16) (entry_masks first s ++ masks))
+  -- a row read from the bytes
+  pub row_read : (i : ℕ) → i < first → tab 16 (λ k. num (entry_place i + 4 + k * 4) 4 s) ≡ take 16 (drop (i * 16) (entry_masks first s ++ masks))
   unfolding masks_at
-  row_read i row e h = filled (tab 16 (λ k. num (entry_place i + 4 + k * 4) 4 s)) row e ∙ sym (row_bytes_lem i h)
+  row_read i h = sym (row_bytes_lem i h)
 
-  pub row_copied : (i : ℕ) (row : List ℕ) → length row ≡ 16 → first ≤ i → i * 16 + 16 ≤ length (entry_masks first s ++ masks)
-      → sets row 0 (take ((i - first) * 16 + 16 - (i - first) * 16) (drop ((i - first) * 16) masks)) ≡ take 16 (drop (i * 16) (entry_masks first s ++ masks))
-  row_copied i row e h k =
-      let from = (i - first) * 16 in
-      let part = take 16 (drop from masks) in
-      let room = array_room i h k in
-      let wide : from + 16 - from ≡ 16 = omega arith in
-      let long : length part ≡ 16 = length-take-le 16 (drop from masks) (omega (arith, length-drop from masks)) in
-      rw (wide, row_array i h) (sets-eq part row 0 (omega arith) ∙ rw long (filled part row e))
+  -- a row lent from the array
+  pub row_lent : (counts : List ℕ) (i : ℕ) → first ≤ i
+      → take ((i - first) * 16 + get_or counts i 0 - (i - first) * 16) (drop ((i - first) * 16) masks) ≡ row_of 16 (table_from first s counts masks) i
+  unfolding row_of
+  row_lent counts i h =
+      let wide : (i - first) * 16 + get_or counts i 0 - (i - first) * 16 ≡ get_or counts i 0 = omega arith in
+      rw wide (ap (λ (l : List ℕ). take (get_or counts i 0) l) (sym (row_array i h)))
+
+  -- room for a row more
+  pub more_room : (n : ℕ) → (n + 1) * 16 ≤ first * 16 + length masks → n * 16 + 16 ≤ length (entry_masks first s ++ masks)
+  more_room n h = omega (arith, h, length-append (entry_masks first s) masks, length-entry_masks first s)
 
 -- the terms in use of row i, which was read
 module _ (i : ℕ) (counts masks row : List ℕ) (t : TableFits 16 (i + 1) (table counts masks)) (e : row ≡ take 16 (drop (i * 16) masks)) where
@@ -94,26 +90,24 @@ module _ (i : ℕ) (counts masks row : List ℕ) (t : TableFits 16 (i + 1) (tabl
   unfolding row_of
   row-taken = rw e (take-take (get_or counts i 0) 16 (drop (i * 16) masks) (t.narrow i))
 
-  pub length_taken : get_or counts i 0 ≡ length (take (get_or counts i 0) row)
-  length_taken = sym (ap length row-taken ∙ row-length 16 i counts masks room)
-
-  pub has-taken : (get_or counts i 0 ≡ 0 → ⊥) → has_terms (row_of 16 (table counts masks) i) ≡ true
-  has-taken f = row_full 16 i counts masks f room
+pub row-none : (i : ℕ) (counts masks : List ℕ) → get_or counts i 0 ≡ 0 → length (row_of 16 (table counts masks) i) ≡ 0
+unfolding row_of
+row-none i counts masks z = rw z
 
 -- ---- the mark of an entry in a state in form
 
 module _ (s : List ℕ) (t : T (in_form s)) (i : ℕ) (h : i < entry_count s) where
   -- no term in use is empty, and those behind them count for nothing: the whole row gives the mark
-  pub mark-read : (row : List ℕ) → length row ≡ 16 → singles (tab 16 (λ k. num (entry_place i + 4 + k * 4) 4 s) ++ drop 16 row) ≡ mark_of (entry_at s i)
+  pub mark-read : singles (tab 16 (λ k. num (entry_place i + 4 + k * 4) 4 s)) ≡ mark_of (entry_at s i)
   unfolding entry_fits row_fits term_fits entry_at row_at masks_at
-  mark-read row e =
+  mark-read =
       let own = num own_at 4 s in
       let masks = masks_at 16 (entry_place i) s in
       let used = num (entry_place i) 4 s in
       let form = form_entry s t i h in
-      let zero : T (all (λ x. eqb x 0) (drop used masks)) = search (both_l, both_r) depth 9 in
-      let full : T (all (term_fits own) (entry_at s i)) = search (both_l, both_r) depth 9 in
-      ap singles (filled masks row e ∙ sym (take-append-drop used masks)) ∙ singles-zeros (take used masks) (drop used masks) zero
+      let zero : T (list_all (λ x. eqb x 0) (drop used masks)) = search (both_l, both_r) depth 9 in
+      let full : T (list_all (term_fits own) (entry_at s i)) = search (both_l, both_r) depth 9 in
+      ap singles (sym (take-append-drop used masks)) ∙ singles-zeros (take used masks) (drop used masks) zero
       ∙ sym (mark-singles (entry_at s i) (λ x m. ltb→lt 0 x (both_l (ltb 0 x) _ (all_out (term_fits own) (entry_at s i) full x m))))
 
 -- the counts and the marks of a state in form have been made

@@ -15,17 +15,17 @@ use lib.Dec.{T, not_T}
 use Rattle.names.specs.Sets.{subset}
 use Rattle.numbers.specs.Numbers.{tab}
 use Rattle.numbers.proofs.NumberLaws.{length-tab, get_or-tab, tab_cong, tab_suc}
-use Rattle.predicates.specs.Lists.{any, keep}
+use Rattle.std.specs.List.{list_any, filter}
 use Rattle.predicates.specs.Predicates.{holds, implies, normal}
 use Rattle.predicates.specs.code.Marks.{mark_of, Apart}
 use Rattle.entries.specs.Entries.{explained, learn}
 use Rattle.state.specs.code.Tables.{table, TableFits, row_of, has_terms, entries_in}
 use Rattle.entries.specs.code.Marks.{Marked, Left, any_below, given_up}
 use Rattle.predicates.proofs.ListLaws.{T_false, cond_ind, any_in, keep_append, any_append}
-use Rattle.predicates.proofs.IndexLaws.{take_in}
+use Rattle.predicates.proofs.IndexLaws.{at_in}
 use Rattle.predicates.proofs.PredicateLaws.{implies-normal}
 use Rattle.predicates.proofs.MarkLaws.{implies_not}
-use Rattle.state.proofs.RowLaws.{row-empty, table_less}
+use Rattle.state.proofs.RowLaws.{row-empty, table_more}
 use Rattle.state.proofs.StoreLaws.{front_rest}
 
 -- ---- a loop that looks for a row
@@ -49,14 +49,14 @@ any_below-here (suc n) i f h e = go (λ p. any_below-here n i f p e) (ℕ_discre
     go rest (no p) = ap (λ (b : Bool). b || f n) (rest (omega arith))
 
 -- a test of the rows in use, row by row
-pub any-kept : {A : Type 0} (g f : A → Bool) (n : ℕ) (r : ℕ → A) → any f (keep g (tab n r)) ≡ any_below n (λ i. g (r i) && f (r i))
+pub any-kept : {A : Type 0} (g f : A → Bool) (n : ℕ) (r : ℕ → A) → list_any f (filter g (tab n r)) ≡ any_below n (λ i. g (r i) && f (r i))
 unfolding tab any_below
 any-kept g f zero r = refl
 any-kept g f (suc n) r =
-    ap (λ l. any f l) (keep_append g (tab n r) (r n ∷ [])) ∙ any_append f (keep g (tab n r)) (keep g (r n ∷ []))
+    ap (λ l. list_any f l) (keep_append g (tab n r) (r n ∷ [])) ∙ any_append f (filter g (tab n r)) (filter g (r n ∷ []))
     ∙ ap₂ (λ (a b : Bool). a || b) (any-kept g f n r) (last (g (r n)))
   where
-    last : (b : Bool) → any f (cond b (r n ∷ []) []) ≡ b && f (r n)
+    last : (b : Bool) → list_any f (cond b (r n ∷ []) []) ≡ b && f (r n)
     last true = or-false (f (r n))
     last false = refl
 
@@ -124,27 +124,21 @@ left-given_up n test counts c p i h f =
     let same : get_or c i 0 ≡ cond (test i) 0 (get_or counts i 0) = rw p (given_up-count test counts n i h) in
     cond_ind (λ (x : ℕ). get_or c i 0 ≡ x → get_or c i 0 ≡ get_or counts i 0) (test i) 0 (get_or counts i 0) (λ _ z. absurd (f z)) (λ _ z. z) same
 
--- those that are given up, and one that is put behind them
-pub left-learnt : (n v : ℕ) (test : ℕ → Bool) (counts a b : List ℕ) → a ≡ given_up n test counts → b ≡ set a n v → Left n counts b
-left-learnt n v test counts a b p q i h f =
-    let same : get_or b i 0 ≡ get_or a i 0 = rw q (get_or-set_other a n i v 0 (λ e. omega arith)) in
-    same ∙ left-given_up n test counts a p i h (λ z. f (same ∙ z))
-
 pub left_trans : (n : ℕ) (a b c : List ℕ) → Left n a b → Left n b c → Left n a c
 left_trans n a b c p q i l f = q i l f ∙ p i l (λ z. f (q i l f ∙ z))
 
 -- ---- rows in use
 
 -- an empty predicate in place of each that passes the test: those that pass are gone
-pub keep_emptied : (t : List ℕ → Bool) (n : ℕ) (r : ℕ → List ℕ) → keep has_terms (tab n (λ i. cond (t (r i)) [] (r i))) ≡ keep (λ p. not (t p)) (keep has_terms (tab n r))
+pub keep_emptied : (t : List ℕ → Bool) (n : ℕ) (r : ℕ → List ℕ) → filter has_terms (tab n (λ i. cond (t (r i)) [] (r i))) ≡ filter (λ p. not (t p)) (filter has_terms (tab n r))
 unfolding tab has_terms
 keep_emptied t zero r = refl
 keep_emptied t (suc n) r =
     keep_append has_terms (tab n (λ i. cond (t (r i)) [] (r i))) (cond (t (r n)) [] (r n) ∷ [])
     ∙ ap₂ (λ (a b : List (List ℕ)). a ++ b) (keep_emptied t n r) (last (r n) (t (r n)) refl)
-    ∙ sym (ap (λ l. keep (λ p. not (t p)) l) (keep_append has_terms (tab n r) (r n ∷ [])) ∙ keep_append (λ p. not (t p)) (keep has_terms (tab n r)) (keep has_terms (r n ∷ [])))
+    ∙ sym (ap (λ l. filter (λ p. not (t p)) l) (keep_append has_terms (tab n r) (r n ∷ [])) ∙ keep_append (λ p. not (t p)) (filter has_terms (tab n r)) (filter has_terms (r n ∷ [])))
   where
-    last : (p : List ℕ) (b : Bool) → t p ≡ b → keep has_terms (cond b [] p ∷ []) ≡ keep (λ q. not (t q)) (keep has_terms (p ∷ []))
+    last : (p : List ℕ) (b : Bool) → t p ≡ b → filter has_terms (cond b [] p ∷ []) ≡ filter (λ q. not (t q)) (filter has_terms (p ∷ []))
     last [] true e = refl
     last [] false e = refl
     last (u ∷ p) true e = rw e
@@ -158,9 +152,9 @@ row-cond w false counts c masks i e = rw e
 
 -- the rows given up are those that pass
 pub rows-given_up : (w n : ℕ) (t : List ℕ → Bool) (counts masks : List ℕ) →
-    keep has_terms (tab n (row_of w (table (given_up n (λ i. t (row_of w (table counts masks) i)) counts) masks))) ≡ keep (λ p. not (t p)) (keep has_terms (tab n (row_of w (table counts masks))))
+    filter has_terms (tab n (row_of w (table (given_up n (λ i. t (row_of w (table counts masks) i)) counts) masks))) ≡ filter (λ p. not (t p)) (filter has_terms (tab n (row_of w (table counts masks))))
 rows-given_up w n t counts masks =
-    ap (λ l. keep has_terms l)
+    ap (λ l. filter has_terms l)
     (tab_cong n (row_of w (table (given_up n (λ i. t (row_of w (table counts masks) i)) counts) masks)) (λ i. cond (t (row_of w (table counts masks) i)) [] (row_of w (table counts masks) i))
     (λ i h. row-cond w (t (row_of w (table counts masks) i)) counts (given_up n (λ k. t (row_of w (table counts masks) k)) counts) masks i (given_up-count (λ k. t (row_of w (table counts masks) k)) counts n i h)))
     ∙ keep_emptied t n (row_of w (table counts masks))
@@ -225,14 +219,17 @@ module _ (i : ℕ) (counts masks p : List ℕ) (a b : ℕ) (f : (get_or counts i
       go (yes z) = implies-none p 16 i counts masks s z
       go (no n) = h p (row_of 16 (table counts masks) i) g (f n)
 
--- no mark of the first n lets its row imply p
-pub rows_apart : (n : ℕ) (counts masks marks p : List ℕ) (b : ℕ) → Marked n (table counts masks) marks → b ≡ mark_of p → ((i : ℕ) → get_or marks i 0 < 2 ^ 32)
-    → any (λ m. subset m b) (take n marks) ≡ false → (i : ℕ) → i < n → has_terms (row_of 16 (table counts masks) i) && implies (row_of 16 (table counts masks) i) p ≡ false
-rows_apart n counts masks marks p b k g w e i h =
+-- of marks among which none is within b each is apart from b
+pub marks_apart : (marks : List ℕ) (b : ℕ) → ((i : ℕ) → get_or marks i 0 < 2 ^ 32) → list_any (λ m. subset m b) marks ≡ false → (i : ℕ) → i < length marks → Apart (get_or marks i 0) b
+marks_apart marks b w e i h =
     let m = get_or marks i 0 in
-    let none : T (subset m b) → ⊥ =
-    λ t. subst (λ (x : Bool). T x) e (any_in (λ x. subset x b) (take n marks) m (take_in n marks k.reach (i, h, refl)) t) in
-    row_apart i counts masks p m b (k.mark i h) g (λ q r x y. implies_not q r m b x y (w i) (T_false (subset m b) (not_T (subset m b) none)))
+    let none : T (subset m b) → ⊥ = λ t. subst (λ (x : Bool). T x) e (any_in (λ x. subset x b) marks m (at_in marks 0 i h) t) in
+    λ q r x y. implies_not q r m b x y (w i) (T_false (subset m b) (not_T (subset m b) none))
+
+-- no mark of the first n lets its row imply p
+pub rows_apart : (n : ℕ) (counts masks marks p : List ℕ) (b : ℕ) → Marked n (table counts masks) marks → b ≡ mark_of p
+    → ((i : ℕ) → i < n → Apart (get_or marks i 0) b) → (i : ℕ) → i < n → has_terms (row_of 16 (table counts masks) i) && implies (row_of 16 (table counts masks) i) p ≡ false
+rows_apart n counts masks marks p b k g w i h = row_apart i counts masks p (get_or marks i 0) b (k.mark i h) g (w i h)
 
 pub explained-rows : (n : ℕ) (counts masks p : List ℕ) →
     explained (entries_in n (table counts masks)) p ≡ any_below n (λ i. has_terms (row_of 16 (table counts masks) i) && implies (row_of 16 (table counts masks) i) p)
@@ -283,9 +280,6 @@ given_up-turn test counts c d i b h p q r = r ∙ rw (q, p) (sym (given_up_next 
 
 -- ---- marks
 
-pub marked_less : (n m : ℕ) (counts masks marks : List ℕ) → Marked n (table counts masks) marks → m ≤ n → Marked m (table counts masks) marks
-marked_less n m counts masks marks k h = record { reach = omega (arith, k.reach); mark = λ i l. k.mark i (omega arith) }
-
 -- the next row has its mark
 pub marked_next : (i v : ℕ) (counts masks marks : List ℕ) → v ≡ mark_of (row_of 16 (table counts masks) i) → i < length marks → Marked i (table counts masks) marks
     → Marked (i + 1) (table counts masks) (set marks i v)
@@ -296,49 +290,87 @@ marked_next i v counts masks marks e h k = record { reach = omega (arith, length
         subst (λ (x : ℕ). get_or (set marks i v) x 0 ≡ mark_of (row_of 16 (table counts masks) x)) (sym p) (get_or-set_same marks i v 0 h ∙ e)
     at j l f (no p) = get_or-set_other marks i j v 0 p ∙ k.mark j (omega arith) f
 
--- a row that is still there has kept its mark
-marked_given_up : (n : ℕ) (test : ℕ → Bool) (counts masks marks : List ℕ) → Marked n (table counts masks) marks → Marked n (table (given_up n test counts) masks) marks
-marked_given_up n test counts masks marks k = record { reach = k.reach; mark = λ i h. go i h (test i) (given_up-count test counts n i h) }
-  where
-    go : (i : ℕ) → i < n → (b : Bool) → get_or (given_up n test counts) i 0 ≡ cond b 0 (get_or counts i 0) → (get_or (given_up n test counts) i 0 ≡ 0 → ⊥)
-        → get_or marks i 0 ≡ mark_of (row_of 16 (table (given_up n test counts) masks) i)
-    go i h true e f = absurd (f e)
-    go i h false e f = k.mark i h (λ z. f (e ∙ z)) ∙ ap mark_of (sym (row_count 16 i counts (given_up n test counts) masks e))
+-- ---- a row that is given up
+
+module _ (counts masks : List ℕ) (i : ℕ) (near : i < length counts) where
+  pub table_gone : (w n : ℕ) → TableFits w n (table counts masks) → TableFits w n (table (set counts i 0) masks)
+  table_gone w n t = record { counted = omega (arith, t.counted, length-set counts i 0); long = t.long; narrow = λ j. small j (ℕ_discrete j i) }
+    where
+      small : (j : ℕ) → Dec (j ≡ i) → get_or (set counts i 0) j 0 ≤ w
+      small j (yes p) = subst (λ (k : ℕ). get_or (set counts i 0) k 0 ≤ w) (sym p) (omega (arith, get_or-set_same counts i 0 0 near))
+      small j (no p) = omega (arith, get_or-set_other counts i j 0 0 p, t.narrow j)
+
+  pub marked_gone : (n : ℕ) (marks : List ℕ) → Marked n (table counts masks) marks → Marked n (table (set counts i 0) masks) marks
+  marked_gone n marks k = record { reach = k.reach; mark = λ j l f. go j l f (ℕ_discrete j i) }
+    where
+      go : (j : ℕ) → j < n → (get_or (set counts i 0) j 0 ≡ 0 → ⊥) → Dec (j ≡ i) → get_or marks j 0 ≡ mark_of (row_of 16 (table (set counts i 0) masks) j)
+      go j l f (yes p) = absurd (f (ap (λ (x : ℕ). get_or (set counts i 0) x 0) p ∙ get_or-set_same counts i 0 0 near))
+      go j l f (no p) =
+          let same : get_or (set counts i 0) j 0 ≡ get_or counts j 0 = get_or-set_other counts i j 0 0 p in
+          k.mark j l (λ z. f (same ∙ z)) ∙ ap mark_of (sym (row_count 16 j counts (set counts i 0) masks same))
+
+-- ---- a predicate without terms
+
+pub has_none : (p : List ℕ) → length p ≡ 0 → has_terms p ≡ false
+unfolding has_terms
+has_none [] h = refl
+has_none (x ∷ p) h = absurd (omega arith)
+
+pub implies_nothing : (e q : List ℕ) → 0 < length e → length q ≡ 0 → implies e q ≡ false
+unfolding implies holds
+implies_nothing [] q h z = absurd (omega arith)
+implies_nothing (t ∷ e) [] h z = refl
+implies_nothing (t ∷ e) (u ∷ q) h z = absurd (omega arith)
+
+-- ---- a row that is put last, in steps: its count, its terms, its mark
+
+module _ (n : ℕ) (counts masks e : List ℕ) (t : TableFits 16 n (table counts masks)) (near : n < length counts) (room : n * 16 + 16 ≤ length masks) (few : length e ≤ 16) where
+  more : TableFits 16 (n + 1) (table counts masks)
+  more = table_more 16 n (n + 1) counts masks t (omega arith) (omega (arith, room))
+
+  pub table-put : TableFits 16 (n + 1) (table (set counts n (length e)) (sets masks (n * 16) e))
+  table-put = table_appended 16 n counts masks e more few
+
+  pub table-counted : TableFits 16 n (table (set counts n (length e)) masks)
+  table-counted = record { counted = omega (arith, near, length-set counts n (length e)); long = t.long; narrow = table-put.narrow }
+
+  module _ (marks : List ℕ) (k : Marked n (table counts masks) marks) where
+    same : (i : ℕ) → i < n → get_or (set counts n (length e)) i 0 ≡ get_or counts i 0
+    same i l = get_or-set_other counts n i (length e) 0 (λ x. omega arith)
+
+    pub marked-counted : Marked n (table (set counts n (length e)) masks) marks
+    marked-counted =
+        record {
+          reach = k.reach;
+          mark = λ i l c. k.mark i l (λ z. c (same i l ∙ z)) ∙ ap mark_of (sym (row_count 16 i counts (set counts n (length e)) masks (same i l)));
+        }
+
+    pub marked-put : Marked n (table (set counts n (length e)) (sets masks (n * 16) e)) marks
+    marked-put =
+        record {
+          reach = k.reach;
+          mark = λ i l c. k.mark i l (λ z. c (same i l ∙ z)) ∙ ap mark_of (sym (rows_before 16 n counts masks e t near (omega (arith, room, few)) i l));
+        }
+
+    pub marked-last : (mark : ℕ) → mark ≡ mark_of e → n < length marks → Marked (n + 1) (table (set counts n (length e)) (sets masks (n * 16) e)) (set marks n mark)
+    marked-last mark d h =
+        marked_next n mark (set counts n (length e)) (sets masks (n * 16) e) marks
+        (d ∙ ap mark_of (sym (row_last 16 n counts masks e t near (omega (arith, room, few))))) h marked-put
 
 -- an entry is learnt: those that it implies are given up, and it is put last
-module _ (n : ℕ) (counts masks e : List ℕ) (t : TableFits 16 (n + 1) (table counts masks)) (few : length e ≤ 16) (a b m : List ℕ)
-    (p : a ≡ given_up n (λ i. implies e (row_of 16 (table counts masks) i)) counts) (q : b ≡ set a n (length e)) (r : m ≡ sets masks (n * 16) e) where
-  gone : TableFits 16 (n + 1) (table a masks)
-  gone = rw p (table-given_up 16 (n + 1) n (λ i. implies e (row_of 16 (table counts masks) i)) counts masks t (omega arith))
-
-  pub learn-table : TableFits 16 (n + 1) (table b m)
-  learn-table = rw (q, r) (table_appended 16 n a masks e gone few)
-
-  pub learn_marked : (marks k : List ℕ) (mark : ℕ) → Marked n (table counts masks) marks → n < length marks → mark ≡ mark_of e → k ≡ set marks n mark → Marked (n + 1) (table b m) k
-  learn_marked marks k mark g h d f =
-      let near : n < length a = omega (arith, gone.counted) in
-      let room : n * 16 + length e ≤ length masks = omega (arith, gone.long, suc-mul n 16) in
-      let less = table_less 16 (n + 1) n a masks gone (omega arith) in
-      let kept : Marked n (table a masks) marks = rw p (marked_given_up n (λ i. implies e (row_of 16 (table counts masks) i)) counts masks marks g) in
-      let put : Marked n (table (set a n (length e)) (sets masks (n * 16) e)) marks =
-      record {
-        reach = kept.reach;
-        mark = λ i l c. kept.mark i l (λ z. c (get_or-set_other a n i (length e) 0 (λ x. omega arith) ∙ z))
-            ∙ ap mark_of (sym (rows_before 16 n a masks e less near room i l));
-      } in
-      rw (q, r, f) (marked_next n mark (set a n (length e)) (sets masks (n * 16) e) marks (d ∙ ap mark_of (sym (row_last 16 n a masks e less near room))) h put)
-
-  pub learn-rows : 0 < length e → explained (entries_in n (table counts masks)) e ≡ false → entries_in (n + 1) (table b m) ≡ learn e (entries_in n (table counts masks))
-  unfolding learn entries_in has_terms
-  learn-rows h f =
-      let kept : keep has_terms (tab n (row_of 16 (table a masks))) ≡ keep (λ x. not (implies e x)) (keep has_terms (tab n (row_of 16 (table counts masks)))) =
-      rw p (rows-given_up 16 n (λ x. implies e x) counts masks) in
-      rw (q, r, f) (
-      ap (λ l. keep has_terms l) (rows_appended 16 n a masks e (table_less 16 (n + 1) n a masks gone (omega arith)) (omega (arith, gone.counted)) (omega (arith, gone.long, suc-mul n 16)))
-      ∙ keep_append has_terms (tab n (row_of 16 (table a masks))) (e ∷ [])
-      ∙ ap₂ (λ (x y : List (List ℕ)). x ++ y) kept (last e h)
-      )
-    where
-      last : (e : List ℕ) → 0 < length e → keep has_terms (e ∷ []) ≡ e ∷ []
-      last [] h = absurd (omega arith)
-      last (x ∷ l) h = refl
+pub learn-rows : (n : ℕ) (counts masks e a : List ℕ) → TableFits 16 n (table a masks) → n < length a → n * 16 + 16 ≤ length masks → length e ≤ 16
+    → a ≡ given_up n (λ i. implies e (row_of 16 (table counts masks) i)) counts → 0 < length e → explained (entries_in n (table counts masks)) e ≡ false
+    → entries_in (n + 1) (table (set a n (length e)) (sets masks (n * 16) e)) ≡ learn e (entries_in n (table counts masks))
+unfolding learn entries_in has_terms
+learn-rows n counts masks e a t near room few p h f =
+    let kept : filter has_terms (tab n (row_of 16 (table a masks))) ≡ filter (λ x. not (implies e x)) (filter has_terms (tab n (row_of 16 (table counts masks)))) =
+    rw p (rows-given_up 16 n (λ x. implies e x) counts masks) in
+    rw f (
+    ap (λ l. filter has_terms l) (rows_appended 16 n a masks e t near (omega (arith, room, few)))
+    ∙ keep_append has_terms (tab n (row_of 16 (table a masks))) (e ∷ [])
+    ∙ ap₂ (λ (x y : List (List ℕ)). x ++ y) kept (last e h)
+    )
+  where
+    last : (e : List ℕ) → 0 < length e → filter has_terms (e ∷ []) ≡ e ∷ []
+    last [] h = absurd (omega arith)
+    last (x ∷ l) h = refl

@@ -1,154 +1,169 @@
-// Entries as a receipt works on them: row i has its count at i. The rows below `first` have their terms in the state's bytes, where they stay; the
-// terms of those from `first` on, learnt in this receipt, stand in an array, 16 places a row. A row without terms has been given up. The names that
-// make a row true alone are its mark, at i.
-ghost use Rattle.std.specs.Prelude.{◌≡◌, false, ◌&&◌, List, [], ◌∷◌, ◌++◌, ℕ, ◌+◌, ◌*◌, ◌≤◌, ◌<◌, length, get_or, set, take, drop, T};
+// Entries as a receipt works on them, in arrays that a caller lends: row i has its count of terms at i. The rows below `first` have their terms in
+// the state's bytes, where they stay; the terms of those from `first` on, learnt in this receipt, stand in an array, 16 places a row. A row without
+// terms has been given up. The names that make a row true alone are its mark, at i. What stands in the arrays for rows without terms, and behind the
+// last row, is free. The arrays stay flat: a row below `first` has a count and a mark, and no terms among the masks.
+ghost use Rattle.std.specs.Prelude.{◌≡◌, true, false, ◌&&◌, List, [], ◌∷◌, ◌++◌, ℕ, ◌+◌, ◌*◌, ◌≤◌, ◌<◌, length, get_or, set, take, drop, T};
 ghost use Rattle.std.proofs.lemmas.List.Edits.{sets};
 ghost use Rattle.numbers.specs.Numbers.{num, tab};
 ghost use Rattle.predicates.specs.Predicates.{implies, normal};
-ghost use Rattle.predicates.specs.code.Marks.{mark_of};
+ghost use Rattle.predicates.specs.code.Marks.{mark_of, Apart};
 ghost use Rattle.state.specs.Layout.{state_size, entries_most, entry_terms, entry_place, entry_count, entry_at};
 ghost use Rattle.state.specs.Form.{in_form};
 ghost use Rattle.state.specs.code.Tables.{Table, table_from, entry_masks, TableFits, row_of, has_terms, entries_in};
 ghost use Rattle.entries.specs.code.Marks.{Marked, Left, given_up};
-ghost use Rattle.entries.specs.Entries.{explained, learn};
 
-// Copies the 16 places of row i.
-fn get_row(s: &[u8], first: usize, masks: &[u32], i: usize, row: &mut [u32])
-    requires state_size_in_bounds { (state_size ≤ length s.now) × (first ≤ entries_most) × (length row.old ≡ entry_terms) }
-    requires entry_terms_in_bounds { i * entry_terms + entry_terms ≤ length (entry_masks first s.now ++ masks.now) }
-    ensures { row.new ≡ take entry_terms (drop (i * entry_terms) (entry_masks first s.now ++ masks.now)) }
-{
-    if i < first {
-        numbers::get_words(
-            s,
-            state::ENTRIES_AT + i * state::ENTRY_SIZE + 4,
-            row,
-            state::ENTRY_TERMS,
-        );
-        return;
-    }
-    let from = (i - first) * state::ENTRY_TERMS;
-    let to = from + state::ENTRY_TERMS;
-    predicates::sums::copy(row, 0, &masks[from..to]);
+// The first n rows are in use.
+// The first n rows are in use; behind them is room for what is learnt, since there is no heap.
+#[derive(Drop)]
+pub struct Entries<'a> {
+    pub state: &'a [u8],
+    pub first: usize,
+    pub counts: &'a mut [u32],
+    pub masks: &'a mut [u32],
+    pub marks: &'a mut [u32],
+    pub n: usize,
+    pub ghost own: { (state_size ≤ length state.now) × (first ≤ entries_most) },
+    pub ghost fits: { TableFits entry_terms n (table_from first state.now counts.now masks.now) },
+    pub ghost marked: { Marked n (table_from first state.now counts.now masks.now) marks.now },
 }
 
-// Whether row i has terms and implies p; p's mark is given.
-fn row_implies(
-    s: &[u8],
-    first: usize,
-    counts: &[u32],
-    masks: &[u32],
-    marks: &[u32],
-    i: usize,
-    p: &[u32],
-    bound: u32,
-) -> bool
-    requires state_size_in_bounds { (state_size ≤ length s.now) × (first ≤ entries_most) × (i < length marks.now) }
-    requires table_fits { TableFits entry_terms (i + 1) (table_from first s.now counts.now masks.now) }
-    requires bound_value { bound ≡ mark_of p.now }
-    requires i_value { (get_or counts.now i 0 ≡ 0 → ⊥)
-        → get_or marks.now i 0 ≡ mark_of (row_of entry_terms (table_from first s.now counts.now masks.now) i) }
-    ensures { (let e : List ℕ = row_of entry_terms (table_from first s.now counts.now masks.now) i in
-        result ≡ has_terms e && implies e p.now) }
+// Whether no predicate of one of these marks implies one whose mark is `bound`, as far as marks tell.
+fn all_apart(marks: &[u32], bound: u32) -> bool
+    ensures { result ≡ true → (i : ℕ) → i < length marks.now → Apart (get_or marks.now i 0) bound }
 {
-    if !predicates::marks::may_imply(marks[i], bound) {
-        return false;
-    }
-    let count = counts[i] as usize;
-    if count == 0 {
-        return false;
-    }
-    let mut row = [0u32; state::ENTRY_TERMS];
-    get_row(s, first, masks, i, &mut row);
-    predicates::marks::implies_by_mark(&row[..count], p, bound)
+    !predicates::marks::any_may_imply(marks, bound)
 }
 
-// Whether an entry implies p. All of them are held against p, so its mark is made once, and where no mark lets an entry imply p none is read.
-pub fn explained(
-    s: &[u8],
-    first: usize,
-    counts: &[u32],
-    masks: &[u32],
-    marks: &[u32],
-    n: usize,
-    p: &[u32],
-) -> bool
-    requires state_size_in_bounds { (state_size ≤ length s.now) × (first ≤ entries_most) }
-    requires fact { (let t : Table = table_from first s.now counts.now masks.now in TableFits entry_terms n t × Marked n t marks.now) }
-    ensures { (let t : Table = table_from first s.now counts.now masks.now in
-        result ≡ explained (entries_in n t) p.now) }
-{
-    if n == 0 {
-        return false;
-    }
-    let bound = predicates::marks::mark_of(p);
-    if !predicates::marks::any_may_imply(&marks[..n], bound) {
-        return false;
-    }
-    let mut i: usize = 0;
-    while i < n {
-        if row_implies(s, first, counts, masks, marks, i, p, bound) {
-            return true;
+impl Entries<'_> {
+    ghost use Rattle.entries.specs.Entries.{explained, learn};
+    ghost use Rattle.entries.specs.code.Rows.{row_in, known, Room, Kept};
+
+    // The terms of row i: read into `room` where they stand in the bytes.
+    fn row<'b>(&'b self, i: usize, room: &'b mut [u32; state::ENTRY_TERMS]) -> &'b [u32]
+        requires { i < self.now.n }
+        ensures { result.now ≡ row_in self.now i }
+    {
+        let count = self.counts[i] as usize;
+        if i < self.first {
+            numbers::get_words(
+                self.state,
+                state::ENTRIES_AT + i * state::ENTRY_SIZE + 4,
+                room,
+            );
+            return &room[..count];
         }
-        i += 1;
+        let from = (i - self.first) * state::ENTRY_TERMS;
+        &self.masks[from..from + count]
     }
-    false
-}
 
-// Whether e, which has terms, implies the predicate in row i; e's mark is given. No predicate of any terms implies one of none.
-fn implies_row(
-    e: &[u32],
-    mark: u32,
-    s: &[u8],
-    first: usize,
-    counts: &[u32],
-    masks: &[u32],
-    marks: &[u32],
-    i: usize,
-) -> bool
-    requires state_size_in_bounds { (state_size ≤ length s.now) × (first ≤ entries_most) × (i < length marks.now) }
-    requires table_fits { TableFits entry_terms (i + 1) (table_from first s.now counts.now masks.now) }
-    requires mark_value { (mark ≡ mark_of e.now) × (0 < length e.now) }
-    requires i_value { (get_or counts.now i 0 ≡ 0 → ⊥)
-        → get_or marks.now i 0 ≡ mark_of (row_of entry_terms (table_from first s.now counts.now masks.now) i) }
-    ensures { result ≡ implies e.now
-        (row_of entry_terms (table_from first s.now counts.now masks.now) i) }
-{
-    if !predicates::marks::may_imply(mark, marks[i]) {
-        return false;
-    }
-    let count = counts[i] as usize;
-    if count == 0 {
-        return false;
-    }
-    let mut row = [0u32; state::ENTRY_TERMS];
-    get_row(s, first, masks, i, &mut row);
-    predicates::marks::implies_by_mark(e, &row[..count], marks[i])
-}
-
-// Gives up the entries that e, which has terms, implies; e's mark is given.
-fn forget(
-    s: &[u8],
-    first: usize,
-    counts: &mut [u32],
-    masks: &[u32],
-    marks: &[u32],
-    n: usize,
-    e: &[u32],
-    mark: u32,
-)
-    requires state_size_in_bounds { (state_size ≤ length s.now) × (first ≤ entries_most) }
-    requires fact { (let t : Table = table_from first s.now counts.old masks.now in TableFits entry_terms n t × Marked n t marks.now) }
-    requires mark_value { (mark ≡ mark_of e.now) × (0 < length e.now) }
-    ensures { (let t : Table = table_from first s.now counts.old masks.now in
-        counts.new ≡ given_up n (λ i. implies e.now (row_of entry_terms t i)) counts.old) }
-{
-    let mut i: usize = 0;
-    while i < n {
-        if implies_row(e, mark, s, first, counts, masks, marks, i) {
-            counts[i] = 0;
+    // Whether row i has terms and implies p; p's mark is given.
+    fn row_implies(&self, i: usize, p: &[u32], bound: u32) -> bool
+        requires i_in_bounds { i < self.now.n }
+        requires bound_value { bound ≡ mark_of p.now }
+        ensures { result ≡ has_terms (row_in self.now i) && implies (row_in self.now i) p.now }
+    {
+        if !predicates::marks::may_imply(self.marks[i], bound) {
+            return false;
         }
-        i += 1;
+        let mut room = [0u32; state::ENTRY_TERMS];
+        let row = self.row(i, &mut room);
+        !row.is_empty() && predicates::marks::implies_by_mark(row, p, bound)
+    }
+
+    // Whether an entry implies p. All of them are held against p, so its mark is made once, and where no mark lets an entry imply p none is read.
+    pub fn explained(&self, p: &[u32]) -> bool
+        ensures { result ≡ explained (known self.now) p.now }
+    {
+        if self.n == 0 {
+            return false;
+        }
+        let bound = predicates::marks::mark_of(p);
+        if all_apart(&self.marks[..self.n], bound) {
+            return false;
+        }
+        for i in 0..self.n {
+            if self.row_implies(i, p, bound) {
+                return true;
+            }
+        }
+        false
+    }
+
+    // Whether e, which has terms, implies the predicate in row i; e's mark is given. No predicate of any terms implies one of none.
+    // It stays beside `row_implies`: one function with the test as a closure would have to say in its contract what the closure may ask of a row.
+    fn implies_row(&self, e: &[u32], mark: u32, i: usize) -> bool
+        requires i_in_bounds { i < self.now.n }
+        requires mark_value { (mark ≡ mark_of e.now) × (0 < length e.now) }
+        ensures { result ≡ implies e.now (row_in self.now i) }
+    {
+        if !predicates::marks::may_imply(mark, self.marks[i]) {
+            return false;
+        }
+        let mut room = [0u32; state::ENTRY_TERMS];
+        let row = self.row(i, &mut room);
+        !row.is_empty() && predicates::marks::implies_by_mark(e, row, self.marks[i])
+    }
+
+    // Gives up the entries that e, which has terms, implies; e's mark is given.
+    fn forget(&mut self, e: &[u32], mark: u32)
+        requires mark_value { (mark ≡ mark_of e.now) × (0 < length e.now) }
+        ensures counts_after { self.new.counts.now ≡ given_up self.old.n (λ i. implies e.now (row_in self.old i)) self.old.counts.now }
+        ensures kept { Kept self.old self.new }
+        ensures rest { (self.new.n ≡ self.old.n) × (self.new.masks.now ≡ self.old.masks.now) × (self.new.marks.now ≡ self.old.marks.now) }
+    {
+        for i in 0..self.n {
+            if self.implies_row(e, mark, i) {
+                self.counts[i] = 0;
+            }
+        }
+    }
+
+    // Places e, which has terms and which no entry implies: those that it implies go, and it stands last.
+    fn put_last(&mut self, e: &[u32])
+        requires room { Room 1 self.old }
+        requires e_nonzero { (0 < length e.now) × (length e.now ≤ entry_terms) }
+        requires e_value { explained (known self.old) e.now ≡ false }
+        ensures kept { Kept self.old self.new × (self.new.n ≡ self.old.n + 1) }
+        ensures entries_after { known self.new ≡ learn e.now (known self.old) }
+    {
+        let mark = predicates::marks::mark_of(e);
+        self.forget(e, mark);
+        let n = self.n;
+        let from = (n - self.first) * state::ENTRY_TERMS;
+        self.counts[n] = e.len() as u32;
+        predicates::sums::copy(self.masks, from, e);
+        self.marks[n] = mark;
+        self.n = n + 1;
+    }
+
+    // Places an entry of one term: not added where an entry implies it, else those that it implies go, and it stands last. What stands in the arrays
+    // for rows without terms, and behind the last row, is free.
+    pub fn learn_term(&mut self, term: u32)
+        requires { Room 1 self.old }
+        ensures kept { Kept self.old self.new × (self.new.n ≤ self.old.n + 1) }
+        ensures entries_after { known self.new ≡ learn (term ∷ []) (known self.old) }
+    {
+        let e = [term];
+        if !self.explained(&e) {
+            self.put_last(&e);
+        }
+    }
+
+    // Places the sum of q and p: not added where an entry implies it, which is seen before it is put in normal form; else those that it implies go,
+    // and it stands last. What stands in the arrays for rows without terms, and behind the last row, is free.
+    pub fn learn_sum(&mut self, q: &[u32], p: &[u32])
+        requires room { Room 1 self.old }
+        requires p_nonzero { (0 < length p.now) × (length q.now + length p.now ≤ entry_terms) }
+        ensures kept { Kept self.old self.new × (self.new.n ≤ self.old.n + 1) }
+        ensures entries_after { known self.new ≡ learn (normal (q.now ++ p.now)) (known self.old) }
+    {
+        let mut terms = [0u32; state::ENTRY_TERMS];
+        let m = predicates::sums::both(&mut terms, q, p);
+        if self.explained(&terms[..m]) {
+            return;
+        }
+        let count = predicates::normal::normal_form(&mut terms[..m]);
+        self.put_last(&terms[..count]);
     }
 }
 
@@ -158,106 +173,8 @@ pub fn add_row(counts: &mut [u32], masks: &mut [u32], n: usize, width: usize, e:
     ensures counts_after { counts.new ≡ set counts.old n (length e.now) }
     ensures masks_after { masks.new ≡ sets masks.old (n * width) e.now }
 {
-    let count = e.len();
-    let from = n * width;
-    counts[n] = count as u32;
-    let mut j: usize = 0;
-    while j < count {
-        masks[from + j] = e[j];
-        j += 1;
-    }
-}
-
-// Places e, which has terms and which no entry implies: those that it implies go, and it stands last, in row n.
-fn put_last(
-    s: &[u8],
-    first: usize,
-    counts: &mut [u32],
-    masks: &mut [u32],
-    marks: &mut [u32],
-    n: usize,
-    e: &[u32],
-)
-    requires state_size_in_bounds { (state_size ≤ length s.now) × (first ≤ entries_most) × (first ≤ n) }
-    requires table_fits { TableFits entry_terms (n + 1) (table_from first s.now counts.old masks.old) }
-    requires e_nonzero { (0 < length e.now) × (length e.now ≤ entry_terms) × (n < length marks.old) }
-    requires marked { Marked n (table_from first s.now counts.old masks.old) marks.old }
-    requires e_value { explained (entries_in n (table_from first s.now counts.old masks.old)) e.now ≡ false }
-    ensures fact { (let t : Table = table_from first s.now counts.new masks.new in
-        TableFits entry_terms (n + 1) t × Marked (n + 1) t marks.new × Left n counts.old counts.new
-        × (length counts.new ≡ length counts.old) × (length masks.new ≡ length masks.old)
-        × (length marks.new ≡ length marks.old)) }
-    ensures masks_after { entries_in (n + 1) (table_from first s.now counts.new masks.new)
-        ≡ learn e.now (entries_in n (table_from first s.now counts.old masks.old)) }
-{
-    let mark = predicates::marks::mark_of(e);
-    forget(s, first, counts, masks, marks, n, e, mark);
     counts[n] = e.len() as u32;
-    predicates::sums::copy(masks, (n - first) * state::ENTRY_TERMS, e);
-    marks[n] = mark;
-}
-
-// Places an entry of one term: not added where an entry implies it, else those that it implies go, and it stands last. Answers how many rows
-// there are now. What stands in the arrays for rows without terms, and behind the last row, is free.
-pub fn learn_term(
-    s: &[u8],
-    first: usize,
-    counts: &mut [u32],
-    masks: &mut [u32],
-    marks: &mut [u32],
-    n: usize,
-    term: u32,
-) -> usize
-    requires state_size_in_bounds { (state_size ≤ length s.now) × (first ≤ entries_most) × (first ≤ n) }
-    requires table_fits { TableFits entry_terms (n + 1) (table_from first s.now counts.old masks.old) }
-    requires n_in_bounds { (n < length marks.old) × Marked n (table_from first s.now counts.old masks.old) marks.old }
-    ensures fact { (let t : Table = table_from first s.now counts.new masks.new in
-        (n ≤ result) × (result ≤ n + 1) × TableFits entry_terms result t × Marked result t marks.new × Left n counts.old counts.new
-        × (length counts.new ≡ length counts.old) × (length masks.new ≡ length masks.old)
-        × (length marks.new ≡ length marks.old)) }
-    ensures masks_after { entries_in result (table_from first s.now counts.new masks.new)
-        ≡ learn (term ∷ []) (entries_in n (table_from first s.now counts.old masks.old)) }
-{
-    let e = [term];
-    if explained(s, first, counts, masks, marks, n, &e) {
-        return n;
-    }
-    put_last(s, first, counts, masks, marks, n, &e);
-    n + 1
-}
-
-// Places the sum of q and p: not added where an entry implies it, which is seen before it is put in normal form; else those that it implies go, and
-// it stands last. Answers how many rows there are now. What stands in the arrays for rows without terms, and behind the last row, is free.
-pub fn learn_sum(
-    s: &[u8],
-    first: usize,
-    counts: &mut [u32],
-    masks: &mut [u32],
-    marks: &mut [u32],
-    n: usize,
-    q: &[u32],
-    p: &[u32],
-) -> usize
-    requires state_size_in_bounds { (state_size ≤ length s.now) × (first ≤ entries_most) × (first ≤ n) }
-    requires table_fits { TableFits entry_terms (n + 1) (table_from first s.now counts.old masks.old) }
-    requires p_nonzero { (0 < length p.now) × (length q.now + length p.now ≤ entry_terms) × (n < length marks.old) }
-    requires marked { Marked n (table_from first s.now counts.old masks.old) marks.old }
-    ensures fact { (let t : Table = table_from first s.now counts.new masks.new in
-        (n ≤ result) × (result ≤ n + 1) × TableFits entry_terms result t × Marked result t marks.new × Left n counts.old counts.new
-        × (length counts.new ≡ length counts.old) × (length masks.new ≡ length masks.old)
-        × (length marks.new ≡ length marks.old)) }
-    ensures masks_after { entries_in result (table_from first s.now counts.new masks.new)
-        ≡ learn (normal (q.now ++ p.now))
-        (entries_in n (table_from first s.now counts.old masks.old)) }
-{
-    let mut terms = [0u32; state::ENTRY_TERMS];
-    let m = predicates::sums::both(&mut terms, q, p);
-    if explained(s, first, counts, masks, marks, n, &terms[..m]) {
-        return n;
-    }
-    let count = predicates::normal::normal_form(&mut terms, m);
-    put_last(s, first, counts, masks, marks, n, &terms[..count]);
-    n + 1
+    predicates::sums::copy(masks, n * width, e);
 }
 
 // The mark of the entry in place i of a state in form.
@@ -266,12 +183,7 @@ fn mark_at(s: &[u8], i: usize) -> u32
     ensures { result ≡ mark_of (entry_at s.now i) }
 {
     let mut row = [0u32; state::ENTRY_TERMS];
-    numbers::get_words(
-        s,
-        state::ENTRIES_AT + i * state::ENTRY_SIZE + 4,
-        &mut row,
-        state::ENTRY_TERMS,
-    );
+    numbers::get_words(s, state::ENTRIES_AT + i * state::ENTRY_SIZE + 4, &mut row);
     predicates::marks::names_alone(&row)
 }
 
@@ -282,10 +194,8 @@ pub fn mark_rows(s: &[u8], n: usize, counts: &mut [u32], marks: &mut [u32])
     ensures counts_after { counts.new ≡ tab n (λ i. num (entry_place i) 4 s.now) ++ drop n counts.old }
     ensures marks_after { marks.new ≡ tab n (λ i. mark_of (entry_at s.now i)) ++ drop n marks.old }
 {
-    let mut i: usize = 0;
-    while i < n {
+    for i in 0..n {
         counts[i] = numbers::get32(s, state::ENTRIES_AT + i * state::ENTRY_SIZE);
         marks[i] = mark_at(s, i);
-        i += 1;
     }
 }

@@ -1,6 +1,6 @@
 -- The laws of epochs by identifier. `digit-older` carries them: an identifier is among the older ones exactly if its epoch is below the other.
 -- Assumes nothing.
-use Prim.Native.Nat.{ℕ, zero, suc, ◌+◌, ◌/◌, ◌≤◌, ◌<◌, max}
+use Prim.Native.Nat.{ℕ, zero, suc, ◌+◌, ◌-◌, ◌/◌, ◌≤◌, ◌<◌, max}
 use mathlib.Core.Path.{◌≡◌, refl, sym, ap, ap₂, subst, ◌∙◌}
 use mathlib.Core.Logic.{◌⊎◌, inl, inr, ⊎_elim}
 use mathlib.Core.Bool.{Bool, true, false, not, ◌&&◌, cond}
@@ -10,6 +10,7 @@ use native.Mathlib.Decide.{ℕ_discrete}
 use lib.Dec.{T, T_not, eqb, eqb_refl, ltb, ltb→lt, nltb→le}
 use lib.ListN.{length, get_or, set, take, drop, length-set, length-append, take-append-drop}
 use lib.Seq.{slice, sets, length-sets, take-take, set-get_or, sets-eq, get_or-set_same, get_or-set_other, take-suc, length-slice, length-take-le, take_at, drop_at, get_or-drop, get_or-take}
+use Rattle.std.proofs.lemmas.Slice.{between_is}
 use Rattle.numbers.specs.Numbers.{put}
 use Rattle.numbers.proofs.NumberLaws.{put-set, length-tab, get_or-tab, tab_ext}
 use Rattle.names.specs.Sets.{set_union}
@@ -322,6 +323,10 @@ unfolding epochs_in
 known_slice at s h =
     tab_ext 0 epochs_most (λ n. get_or s (at + n) 0) (slice at (at + epochs_most) s) (omega (arith, length-slice at (at + epochs_most) s h))
     (λ n k. sym (get_or-drop at (take (at + epochs_most) s) n 0 ∙ get_or-take (at + epochs_most) s (at + n) 0 (omega (arith, k))))
+
+-- and as they are lent
+pub known_part : (at : ℕ) (s : List ℕ) → at + epochs_most ≤ length s → epochs_in at s ≡ take (at + epochs_most - at) (drop at s)
+known_part at s h = known_slice at s h ∙ sym (between_is s at (at + epochs_most))
 
 -- the epochs as they are stored are those read
 pub known_put : (at : ℕ) (vs s : List ℕ) → length vs ≡ epochs_most → at + epochs_most ≤ length s → epochs_in at (put at vs s) ≡ vs

@@ -7,13 +7,13 @@ use mathlib.Core.List.{List, [], ◌∷◌, ◌++◌, map, append-nil}
 use native.Mathlib.Omega.{arith}
 use native.Mathlib.Nat.{suc-add}
 use lib.Dec.{T, eqb, eqb→eq}
-use lib.ListN.{length, get_or, set, take, drop, replicate, length-map, length-replicate, take-append-drop}
-use lib.Seq.{sets, sets-eq, length-take-le, take_at, drop_at}
+use lib.ListN.{length, get_or, set, take, drop, replicate, length-map}
 use Rattle.names.specs.Sets.{set_union, minus, subset}
 use Rattle.names.specs.code.Parts.{shared}
 use Rattle.names.proofs.SetLaws.{union_left, union-none, subset-empty, empty-subset}
 use Rattle.names.proofs.PartLaws.{minus_in, minus-none}
-use Rattle.predicates.specs.Lists.{all, In, padded}
+use Rattle.std.specs.List.{list_all}
+use Rattle.predicates.specs.Lists.{In, padded}
 use Rattle.predicates.specs.Predicates.{holds, implies, is_true, is_normal, normal}
 use Rattle.predicates.proofs.ListLaws.{both_l, both_r, true_T, T_true, map_out, any_in}
 use Rattle.predicates.proofs.PredicateLaws.{holds_out, true_holds, holds-normal, holds_mono, normal-normal, normal_out, normal_only, normal-some, implies_out, implies_in}
@@ -49,12 +49,12 @@ unfolding withdraw
 withdraw_out r p t h = map_out (λ t. minus t r) p t (normal_out (map (λ t. minus t r) p) t h)
 
 -- a predicate that names none of r stays
-map-none : (r : ℕ) (p : List ℕ) → T (all (λ t. eqb (shared t r) 0) p) → map (λ t. minus t r) p ≡ p
+map-none : (r : ℕ) (p : List ℕ) → T (list_all (λ t. eqb (shared t r) 0) p) → map (λ t. minus t r) p ≡ p
 map-none r [] h = refl
 map-none r (t ∷ p) h =
     rw (minus-none t r (eqb→eq (shared t r) 0 (both_l (eqb (shared t r) 0) _ h)), map-none r p (both_r (eqb (shared t r) 0) _ h))
 
-pub withdraw-none : (r : ℕ) (p : List ℕ) → T (is_normal p) → T (all (λ t. eqb (shared t r) 0) p) → withdraw r p ≡ p
+pub withdraw-none : (r : ℕ) (p : List ℕ) → T (is_normal p) → T (list_all (λ t. eqb (shared t r) 0) p) → withdraw r p ≡ p
 unfolding withdraw
 withdraw-none r p n h = ap normal (map-none r p h) ∙ sym (normal_only p p n (λ s. refl))
 
@@ -78,23 +78,13 @@ withdraw_true r p h =
 
 -- ---- in place
 
-pub withdraw_stays : (n r : ℕ) (l : List ℕ) → n ≤ length l → T (is_normal (take n l)) → all (λ t. eqb (shared t r) 0) (take n l) ≡ true
-    → (n ≡ length (withdraw r (take n l))) × (l ≡ padded n (withdraw r (take n l)) ++ drop n l)
+pub withdraw_stays : (r : ℕ) (l : List ℕ) → T (is_normal l) → list_all (λ t. eqb (shared t r) 0) l ≡ true
+    → (length l ≡ length (withdraw r l)) × (l ≡ padded (length l) (withdraw r l))
 unfolding padded
-withdraw_stays n r l h k e =
-    let w = withdraw-none r (take n l) k (true_T _ e) in
-    let z : n - length (take n l) ≡ 0 = omega (arith, length-take-le n l h) in
-    (sym (length-take-le n l h) ∙ ap length (sym w), rw (w, z, append-nil (take n l)) (sym (take-append-drop n l)))
-
--- what `normal_form` leaves of terms without the names of r
-pub withdraw_calls : (n r : ℕ) (l u : List ℕ) → n ≤ length l → u ≡ map (λ t. minus t r) (take n l) ++ drop n l
-    → (normal (take n u) ≡ withdraw r (take n l)) × (drop n u ≡ drop n l)
-unfolding withdraw
-withdraw_calls n r l u h e =
-    let k : length (map (λ t. minus t r) (take n l)) ≡ n = length-map (take n l) (λ t. minus t r) ∙ length-take-le n l h in (
-      ap (λ (v : List ℕ). normal (take n v)) e ∙ ap normal (take_at (map (λ t. minus t r) (take n l)) (drop n l) n k),
-      ap (λ (v : List ℕ). drop n v) e ∙ drop_at (map (λ t. minus t r) (take n l)) (drop n l) n k,
-    )
+withdraw_stays r l k e =
+    let w = withdraw-none r l k (true_T _ e) in
+    let z : length l - length l ≡ 0 = omega arith in
+    (ap length (sym w), rw (w, z) (sym (append-nil l)))
 
 -- a predicate with the empty term has it alone as its normal form
 normal_true : (q : List ℕ) → holds 0 q ≡ true → normal q ≡ 0 ∷ []
@@ -104,30 +94,16 @@ normal_true q e =
     ap (λ (b : Bool). b || false) (T_true (subset 0 s) (empty-subset s))
     ∙ sym (T_true (holds s q) (holds_mono 0 s q (empty-subset s) (true_T (holds 0 q) e)))))
 
-some_holds : (n : ℕ) (u : List ℕ) → holds 0 (take n u) ≡ true → 0 < n
-unfolding holds
-some_holds zero u e = absurd (true_T false e)
-some_holds (suc n) u e = omega arith
-
--- zeros are its normal form
-pub withdraw_gone : (n r : ℕ) (l u v : List ℕ) → n ≤ length l → u ≡ map (λ t. minus t r) (take n l) ++ drop n l → length u ≡ length l
-    → holds 0 (take n u) ≡ true → v ≡ sets u 0 (replicate n 0)
-    → ((1 ≡ length (withdraw r (take n l))) × (1 ≤ n)) × (v ≡ padded n (withdraw r (take n l)) ++ drop n l)
-unfolding padded
-withdraw_gone n r l u v h e k g f =
-    let calls = withdraw_calls n r l u h e in
-    let gone : withdraw r (take n l) ≡ 0 ∷ [] = sym calls.0 ∙ normal_true (take n u) g in
-    let some = some_holds n u g in
-    let row : List ℕ = replicate n 0 in
-    let long : length row ≡ n = length-replicate n 0 in
-    let fits : 0 + length row ≤ length u = omega arith in
-    let ends : 0 + length row ≡ n = omega arith in
-    let count : n ≡ suc (n - 1) = omega arith in
-    let zeros : row ≡ 0 ∷ replicate (n - 1) 0 = ap (λ (m : ℕ). replicate m 0) count in
-    let one : length (withdraw r (take n l)) ≡ 1 = ap length gone in (
-      (sym one, some),
-      f ∙ sets-eq row u 0 fits ∙ rw (ends, gone, calls.1) (ap (λ (x : List ℕ). x ++ drop n l) zeros),
-    )
+-- zeros are its normal form; u are the terms without the names of r
+pub withdraw_gone : (r : ℕ) (l u v : List ℕ) → u ≡ map (λ t. minus t r) l → holds 0 u ≡ true → v ≡ replicate (length u) 0
+    → ((1 ≡ length (withdraw r l)) × (1 ≤ length l)) × (v ≡ padded (length l) (withdraw r l))
+unfolding padded withdraw
+withdraw_gone r l u v e g f =
+    let gone : withdraw r l ≡ 0 ∷ [] = ap normal (sym e) ∙ normal_true u g in
+    let one : length (withdraw r l) ≡ 1 = ap length gone in
+    let some : 1 ≤ length l = omega (arith, withdraw-length r l) in
+    let long : length u ≡ suc (length l - 1) = ap length e ∙ length-map l (λ t. minus t r) ∙ omega arith in
+    ((sym one, some), f ∙ rw (gone, long))
 
 -- a term more is taken out
 pub taken-turn : (i r : ℕ) (l s : List ℕ) → i < length l → s ≡ map (λ t. minus t r) (take i l) ++ drop i l

@@ -1,9 +1,28 @@
 // The epochs known of each identifier, a byte for each from index `at` on, and the names that a message brings.
 ghost use Rattle.std.specs.Prelude.{◌≡◌, List, ℕ, ◌+◌, ◌≤◌, ◌<◌, leb, length, get_or};
 ghost use Rattle.numbers.specs.Numbers.{put};
-ghost use Rattle.predicates.specs.Lists.{all};
-ghost use Rattle.epochs.specs.Epochs.{epoch_most, epochs_most, epochs_in, older, raised, spoken};
+ghost use Rattle.std.specs.List.{list_all};
+ghost use Rattle.epochs.specs.Epochs.{epoch_most, epochs_most, epochs_in, identifier_of, epoch_of, older, raised, spoken};
 ghost use Rattle.epochs.specs.code.Known.{bit_where, Named};
+
+// A name: an identifier and its epoch.
+#[derive(Clone, Copy)]
+struct Name {
+    identifier: u32,
+    epoch: u32,
+}
+
+// A name is one word in a message.
+impl From<u32> for Name {
+    fn from(word: u32) -> Name
+        ensures { (result.identifier ≡ identifier_of word) × (result.epoch ≡ epoch_of word) }
+    {
+        Name {
+            identifier: word % 32,
+            epoch: word / 32,
+        }
+    }
+}
 
 // The identifiers whose old names a message withdraws, and those that it names under an older epoch, as masks.
 #[derive(Clone, Copy)]
@@ -15,13 +34,11 @@ pub struct Heard {
 // Whether each epoch is one.
 pub fn fits(s: &[u8], at: usize) -> bool
     requires { at + epochs_most ≤ length s.now }
-    ensures { result ≡ all (λ e. leb e epoch_most) (epochs_in at s.now) }
+    ensures { result ≡ list_all (λ e. leb e epoch_most) (epochs_in at s.now) }
 {
     let mut ok = true;
-    let mut i: usize = 0;
-    while i < super::EPOCHS_MOST {
-        ok = ok & (s[at + i] <= super::EPOCH_MOST);
-        i += 1;
+    for e in &s[at..at + super::EPOCHS_MOST] {
+        ok &= *e <= super::EPOCH_MOST;
     }
     ok
 }
@@ -31,10 +48,7 @@ fn bit_where(test: bool, n: u32) -> u32
     requires { n < 32 }
     ensures { result ≡ bit_where test n }
 {
-    if test {
-        return names::single(n);
-    }
-    0
+    if test { names::single(n) } else { 0 }
 }
 
 // The epoch of identifier n.
@@ -42,7 +56,7 @@ pub fn epoch_of(s: &[u8], at: usize, n: u32) -> u32
     requires { (at + epochs_most ≤ length s.now) × (n < epochs_most) }
     ensures { (result ≡ get_or (epochs_in at s.now) n 0) × (result < 256) }
 {
-    numbers::byte(s[at + n as usize])
+    u32::from(s[at + n as usize])
 }
 
 // What a message's names withdraw, and which of them are old. The own identifier's is passed over.
@@ -53,14 +67,12 @@ pub fn hear(s: &[u8], at: usize, own: u32, words: &[u32]) -> Heard
 {
     let mut risen: u32 = 0;
     let mut late: u32 = 0;
-    let mut i: usize = 0;
-    while i < words.len() {
-        let n = words[i] % 32;
-        let e = words[i] / 32;
+    for w in words {
+        let name = Name::from(*w);
+        let n = name.identifier;
         let known = epoch_of(s, at, n);
-        risen = names::union(risen, bit_where((n != own) & (known < e), n));
-        late = names::union(late, bit_where((n != own) & (e < known), n));
-        i += 1;
+        risen = names::union(risen, bit_where((n != own) & (known < name.epoch), n));
+        late = names::union(late, bit_where((n != own) & (name.epoch < known), n));
     }
     Heard { risen, late }
 }
@@ -71,14 +83,12 @@ pub fn raise(s: &mut [u8], at: usize, own: u32, words: &[u32])
     ensures { (let ks : List ℕ = epochs_in at s.old in
         s.new ≡ put at (raised ks (spoken own words.now ks)) s.old) }
 {
-    let mut i: usize = 0;
-    while i < words.len() {
-        let n = words[i] % 32;
-        let e = words[i] / 32;
+    for w in words {
+        let name = Name::from(*w);
+        let n = name.identifier;
         let known = epoch_of(s, at, n);
-        if (n != own) & (known < e) {
-            s[at + n as usize] = e as u8;
+        if (n != own) & (known < name.epoch) {
+            s[at + n as usize] = name.epoch as u8;
         }
-        i += 1;
     }
 }

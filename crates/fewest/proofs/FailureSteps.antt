@@ -17,12 +17,11 @@ use Rattle.state.specs.Model.{Datum, Store, State}
 use Rattle.state.specs.Layout.{state_of}
 use Rattle.state.specs.Form.{in_form, state_ok}
 use Rattle.search.specs.code.Search.{Rows}
-use Rattle.asking.specs.declared.Fewest.TheVariants.{Over, Few}
 use Rattle.asking.specs.Instants.{Allowed}
 use Rattle.claims.specs.code.Tables.{entry_claim, claim_at, Loaded, Bounded}
 use Rattle.search.specs.code.LeftEnds.{Complete, LeastSet}
 use Rattle.asking.specs.Asking.{answer}
-use Rattle.asking.specs.Fewest.{not_contradicted, fewest, Works}
+use Rattle.asking.specs.Fewest.{Over, Few, not_contradicted, fewest, Works}
 use Rattle.fewest.specs.code.Limits.{FirstLimit, Floor}
 use Rattle.asking.specs.code.Claims.{hopeless}
 use Rattle.asking.specs.code.One.{FewestOne}

@@ -2,97 +2,91 @@
 // Every function here is proved, and the crate assumes nothing of its own.
 #![tactic(auto)]
 
-ghost use Rattle.std.specs.Prelude.{◌≡◌, ◌≤◌, T, length};
-ghost use Rattle.state.specs.Layout.{state_of, state_size, entry_count};
-ghost use Rattle.state.specs.Form.{in_form};
-ghost use Rattle.asking.specs.Fewest.{fewest};
+ghost use Rattle.std.specs.Prelude.{◌≡◌, ◌+◌, ◌≤◌, length};
+ghost use Rattle.std.specs.Option.{unwrap_or};
+ghost use Rattle.state.specs.Layout.{state_of, entry_count, held_count};
+ghost use Rattle.asking.specs.Fewest.{fewest, fewest_of};
 ghost use Rattle.fewest.specs.code.Limits.{FirstLimit, Floor};
 
-use asking::Fewest;
+use search::rows::{Row, Span};
+use search::stretches::Table;
+use state::sound::InForm;
 
-// The first limit from 2 on that the n entries do not rule out by themselves; 5 where they rule out all.
-fn first_limit(s: &[u8], n: usize) -> u32
-    requires { (state_size ≤ length s.now) × T (in_form s.now) × (n ≡ entry_count s.now) }
-    ensures { FirstLimit (state_of s.now) result }
+// The first limit from 2 to 4 that the entries do not rule out by themselves, if there is one.
+fn first_limit(s: InForm<'_>) -> Option<u32>
+    ensures { FirstLimit (state_of s.entry.bytes.now) (unwrap_or result 5) }
 {
-    let mut limit: u32 = 2;
-    while limit < 5 {
-        if !asking::ask::hopeless(s, n, limit) {
-            return limit;
+    for limit in 2..5 {
+        if !asking::ask::hopeless(s, limit) {
+            return Some(limit);
         }
-        limit += 1;
     }
-    limit
+    None
 }
 
-// The fewest failures that explain a state in form, where no set of fewer than `from` names does.
-fn fewest_from(s: &[u8], from: u32) -> Fewest
-    requires { (state_size ≤ length s.now) × T (in_form s.now) × (from ≤ 5) × Floor (state_of s.now) from }
-    ensures { result ≡ fewest (state_of s.now) }
+// The fewest failures that explain a state in form, where no set of fewer than `from` names does, with arrays for its claims, of as many rows
+// as there are. What is left in the arrays is free.
+fn fewest_in(
+    s: InForm<'_>,
+    from: u32,
+    n: usize,
+    rows: &mut [Row],
+    order: &mut [u32],
+    ends: &mut [Span],
+) -> Option<u32>
+    requires count { n ≡ entry_count s.bytes.now }
+    requires room { (length rows.old ≡ n + held_count s.bytes.now) × (length order.old ≡ length rows.old) × (length ends.old ≡ length rows.old) }
+    requires floor { (from ≤ 5) × Floor (state_of s.bytes.now) from }
+    ensures { fewest_of result ≡ fewest (state_of s.entry.bytes.now) }
 {
-    let own = numbers::get32(s, state::OWN_AT);
-    let h = numbers::get32(s, state::HELD_AT) as usize;
-    let n = numbers::get32(s, state::KNOWN_AT) as usize;
-    let rows = n + h;
-    let mut counts = [0u32; search::ROWS_MOST];
-    let mut masks = [0u32; search::MASKS_MOST];
-    let mut several = [0u32; search::ROWS_MOST];
-    let mut singles = [0u32; search::ROWS_MOST];
-    let mut order = [0u32; search::ROWS_MOST];
-    claims::load(
-        s,
-        n,
+    claims::load(s, n, rows, order);
+    claims::keys::get_ends(s, n, ends);
+    let free = names::others(state::own(s.bytes));
+    let table = Table {
         rows,
-        &mut counts,
-        &mut masks,
-        &mut several,
-        &mut singles,
-        &mut order,
-    );
-    let mut lefts = [0u64; search::ROWS_MOST];
-    let mut rights = [0u64; search::ROWS_MOST];
-    claims::keys::get_ends(s, n, rows, &mut lefts, &mut rights);
-    let free = names::others(own);
+        ends,
+        order,
+        entries: n,
+    };
     let mut listed = [0u32; search::ROWS_MOST];
-    let mut limit = from;
-    while limit < 5 {
-        let set = search::least::least_within(
-            &lefts,
-            &rights,
-            &counts,
-            &masks,
-            &several,
-            &singles,
-            &order,
-            &mut listed,
-            n,
-            rows,
-            limit,
-            free,
-        );
-        if set < names::NO_SET {
-            return Fewest::Few(names::count(set), set);
+    for limit in from..5 {
+        if let Some(set) = table.least_within(&mut listed, limit, free) {
+            return Some(set);
         }
-        limit += 1;
     }
-    Fewest::Over
+    None
 }
 
-// The fewest failures that explain a state in form.
-pub fn fewest_failures(s: &[u8]) -> Fewest
-    requires { (state_size ≤ length s.now) × T (in_form s.now) }
-    ensures { result ≡ fewest (state_of s.now) }
+// The same, with room for the rows of every state.
+fn fewest_from(s: InForm<'_>, from: u32) -> Option<u32>
+    requires { (from ≤ 5) × Floor (state_of s.bytes.now) from }
+    ensures { fewest_of result ≡ fewest (state_of s.entry.bytes.now) }
+{
+    let n = state::known(s.bytes);
+    let rows = n + state::held(s.bytes);
+    let mut table = [Row::EMPTY; search::ROWS_MOST];
+    let mut order = [0u32; search::ROWS_MOST];
+    let mut ends = [Span { left: 0, right: 0 }; search::ROWS_MOST];
+    fewest_in(
+        s,
+        from,
+        n,
+        &mut table[..rows],
+        &mut order[..rows],
+        &mut ends[..rows],
+    )
+}
+
+// The fewest failures that explain a state in form: their names as a set; none where more than 4 have failed.
+pub fn fewest_failures(s: InForm<'_>) -> Option<u32>
+    ensures { fewest_of result ≡ fewest (state_of s.entry.bytes.now) }
 {
     if asking::ask::agree(s) {
-        return Fewest::Few(0, 0);
+        return Some(0);
     }
-    let one = asking::one::fewest_one(s);
-    if one < names::NO_SET {
-        return Fewest::Few(names::count(one), one);
+    if let Some(one) = asking::one::fewest_one(s) {
+        return Some(one);
     }
-    let from = first_limit(s, numbers::get32(s, state::KNOWN_AT) as usize);
-    if 4 < from {
-        return Fewest::Over;
-    }
+    let from = first_limit(s)?;
     fewest_from(s, from)
 }

@@ -1,32 +1,32 @@
 -- Laws of `specs.Decimal`: copying a text, the digits of a number, and lines put together from their parts.
 -- The idea: `digits` goes by the number of places, and a line is one store behind the other. No contract cites this file. Assumes nothing.
-use Prim.Native.Nat.{ℕ, zero, suc, ◌+◌, ◌-◌, ◌/◌, ◌%◌, ◌^◌, ◌≤◌, ◌<◌}
-use mathlib.Core.Path.{◌≡◌, refl}
-use mathlib.Core.List.{List, [], ◌∷◌, ◌++◌}
+use Prim.Native.Nat.{ℕ, zero, suc, ◌+◌, ◌*◌, ◌-◌, ◌/◌, ◌%◌, ◌^◌, ◌≤◌, ◌<◌}
+use mathlib.Core.Path.{◌≡◌, refl, ap}
+use mathlib.Core.List.{List, [], ◌∷◌, ◌++◌, append_assoc, append-nil}
 use native.Mathlib.Nat.{pow-suc, div-lt_iff_lt-mul}
 use native.Mathlib.Numerals.{add-one}
 use native.Mathlib.Omega.{arith}
 use borrow.Author.Tests.{lt-ltb, le-ltb}
 use lib.Dec.{lit<, ltb}
-use lib.ListN.{length, get_or, drop, set, length-append}
-use lib.Seq.{drop-cons}
+use lib.ListN.{length, get_or, take, set, length-append}
+use lib.Seq.{take-suc, take_all, drop-drop, sets-eq}
+use borrow.Rule.Slice.PartMut.{put_mid}
+use Rattle.std.proofs.lemmas.Grind.{flat_map-append}
 use Rattle.predicates.proofs.ListLaws.{cond_ind}
 use Rattle.numbers.specs.Numbers.{put}
 use Rattle.numbers.proofs.NumberLaws.{put_then}
 use Rattle.fields.specs.Decimal.{digits, decimal, with_one, with_two}
+use Rattle.fields.specs.code.Lines.{spaced, with_numbers}
 
 -- ---- texts
 
--- a turn of the loop that copies one
-pub copy_next : (at i : ℕ) (ts s : List ℕ) → i < length ts →
-    put (at + i) (drop i ts) s ≡ put (at + (i + 1)) (drop (i + 1) ts) (set s (at + i) (get_or ts i 0))
+-- a text in place of as many bytes as it has
+pub copied : (at n : ℕ) (ts s t : List ℕ) → n ≡ length ts → t ≡ ts → at + length ts ≤ length s → put_mid at n s t ≡ put at ts s
 unfolding put
-copy_next at i ts s h =
-    let e : at + (i + 1) ≡ suc (at + i) = omega arith in
-    rw (e, add-one, drop-cons ts i 0 h)
+copied at n ts s t e q h = rw (e, q, sets-eq ts s at h, append_assoc, drop-drop)
 
 -- two texts, the second stored behind the first: their place behind, and both at once
-text_then : (at next end : ℕ) (a b s t u : List ℕ) → next ≡ at + length a → t ≡ put at a s → end ≡ next + length b → u ≡ put next b t →
+pub text_then : (at next end : ℕ) (a b s t u : List ℕ) → next ≡ at + length a → t ≡ put at a s → end ≡ next + length b → u ≡ put next b t →
     (end ≡ at + length (a ++ b)) × (u ≡ put at (a ++ b) s)
 text_then at next end a b s t u e p f q = (rw length-append (omega arith), put_then (length a) at next a b s t u refl e p q)
 
@@ -71,28 +71,28 @@ digits-length (suc k) n =
 
 -- ---- lines
 
--- a word and a number
-pub with_one_lem : (word : List ℕ) (a i j end : ℕ) (s t u v : List ℕ) → i ≡ 0 + length word → t ≡ put 0 word s
-    → j ≡ i + length (decimal a) → u ≡ put i (decimal a) t → end ≡ j + 1 → v ≡ put j (10 ∷ []) u
-    → (end ≡ length (with_one word a)) × (v ≡ put 0 (with_one word a) s)
-unfolding with_one
-with_one_lem word a i j end s t u v e₁ p₁ e₂ p₂ e₃ p₃ =
-    let tail = text_then i j end (decimal a) (10 ∷ []) t u v e₂ p₂ e₃ p₃ in
-    let all = text_then 0 i end word _ s t v e₁ p₁ tail.0 tail.1 in
-    (omega arith, all.1)
+-- a word with numbers: a space and the next one, and the line feed behind them all
+pub line_next : (word ns : List ℕ) (i : ℕ) → i < length ns →
+    word ++ spaced (take (i + 1) ns) ≡ ((word ++ spaced (take i ns)) ++ (32 ∷ [])) ++ decimal (get_or ns i 0)
+line_next word ns i h = rw (add-one, take-suc ns i 0 h, flat_map-append) (simp (append_assoc, append-nil))
 
--- a word and two numbers
-pub with_two_lem : (word : List ℕ) (a b i j k l end : ℕ) (s t u v w x : List ℕ) → i ≡ 0 + length word → t ≡ put 0 word s
-    → j ≡ i + length (decimal a) → u ≡ put i (decimal a) t → k ≡ j + 1 → v ≡ put j (32 ∷ []) u
-    → l ≡ k + length (decimal b) → w ≡ put k (decimal b) v → end ≡ l + 1 → x ≡ put l (10 ∷ []) w
-    → (end ≡ length (with_two word a b)) × (x ≡ put 0 (with_two word a b) s)
-unfolding with_two
-with_two_lem word a b i j k l end s t u v w x e₁ p₁ e₂ p₂ e₃ p₃ e₄ p₄ e₅ p₅ =
-    let last = text_then k l end (decimal b) (10 ∷ []) v w x e₄ p₄ e₅ p₅ in
-    let third = text_then j k end (32 ∷ []) _ u v x e₃ p₃ last.0 last.1 in
-    let second = text_then i j end (decimal a) _ t u x e₂ p₂ third.0 third.1 in
-    let all = text_then 0 i end word _ s t x e₁ p₁ second.0 second.1 in
-    (omega arith, all.1)
+pub line-end : (word ns : List ℕ) (i : ℕ) → length ns ≤ i → (word ++ spaced (take i ns)) ++ (10 ∷ []) ≡ with_numbers word ns
+unfolding with_numbers
+line-end word ns i h = rw (take_all i ns h, append_assoc)
+
+-- a line has as many bytes as its numbers need at most
+pub spaced-length : (ns : List ℕ) → length (spaced ns) ≤ 21 * length ns
+spaced-length [] = omega arith
+spaced-length (n ∷ ns) = rw length-append (omega (arith, digits-length 20 n, spaced-length ns))
+
+-- a line of one number, and of two
+pub with_numbers-one : (word : List ℕ) (a : ℕ) → with_numbers word (a ∷ []) ≡ with_one (word ++ (32 ∷ [])) a
+unfolding with_numbers with_one
+with_numbers-one word a = simp append_assoc
+
+pub with_numbers-two : (word : List ℕ) (a b : ℕ) → with_numbers word (a ∷ (b ∷ [])) ≡ with_two (word ++ (32 ∷ [])) a b
+unfolding with_numbers with_two
+with_numbers-two word a b = simp (append-nil, append_assoc) (ap (λ l. word ++ (32 ∷ l)) (append_assoc (decimal a) (32 ∷ decimal b) (10 ∷ [])))
 
 -- how long they can be
 pub with_one-length : (word : List ℕ) (a : ℕ) → length (with_one word a) ≤ length word + 21

@@ -1,18 +1,20 @@
 -- Laws of `specs.Fields`: a turn of each loop that reads a line, on plain values. `-here` is a loop's early exit, `-next` a turn, `-done` its end.
 -- The idea: each loop answers for the elements from its place on, so a turn takes one element off. No contract cites this file. Assumes nothing.
+use Rattle.std.specs.Prelude.{None, Some}
 use Prim.Native.Nat.{ℕ, suc, ◌+◌, ◌*◌, ◌-◌, ◌^◌, ◌≤◌, ◌<◌}
 use mathlib.Core.Path.{◌≡◌, refl, ap, ◌∙◌}
 use mathlib.Core.Bool.{Bool, true, false, ◌&&◌, cond, and-false}
 use mathlib.Core.List.{List, [], ◌∷◌, map}
 use native.Mathlib.Nat.{le_refl}
-use native.Mathlib.Numerals.{add-one}
+use native.Mathlib.Numerals.{add-one, one-add}
 use native.Mathlib.Omega.{arith}
-use borrow.Author.Tests.{lt-ltb, le-ltb, eq-eqb, ne_eqb, eqb-true, eqb-false, leb-true}
+use borrow.Author.Tests.{lt-ltb, le-ltb, lt-leb, le-leb, eq-eqb, ne_eqb, eqb-true, eqb-false, leb-true, ltb-true, ltb-false}
 use lib.Dec.{T, ltb, leb, eqb, eqb→eq}
 use lib.ListN.{length, get_or, take, drop, set, drop_of_length-le, length-take, length-drop}
 use lib.Seq.{drop-drop}
-use Rattle.predicates.specs.Lists.{all}
-use Rattle.predicates.proofs.ListLaws.{true_T, T_true, both_l, both_r}
+use Rattle.std.specs.List.{list_all, position, position_or_len}
+use Rattle.std.proofs.lemmas.List.Recursion.{is_position_or_len}
+use Rattle.predicates.proofs.ListLaws.{true_T, T_true, both_l, both_r, cond_ind}
 use Rattle.predicates.proofs.LoopLaws.{drop_next}
 use Rattle.numbers.specs.Numbers.{put}
 use Rattle.fields.specs.Fields.{onto, fields, same_bytes, is_digit, value_from, value, is_number}
@@ -20,17 +22,34 @@ use Rattle.fields.specs.code.Scan.{later, space_at, numbers_in}
 
 -- ---- space_at: the first space
 
-pub space_here : (l : List ℕ) (i : ℕ) → i < length l → get_or l i 0 ≡ 32 → space_at (drop i l) ≡ 0
+pub space_first : (l : List ℕ) → space_at l ≡ position_or_len (λ b. eqb b 32) l
 unfolding space_at
-space_here l i h e = rw (drop_next l i h, eq-eqb _ _ e)
+space_first l = is_position_or_len space_at (λ b. eqb b 32) refl (λ b bs. rw one-add) l
 
-pub space_next : (l : List ℕ) (i : ℕ) → i < length l → (get_or l i 0 ≡ 32 → ⊥) → space_at (drop i l) ≡ suc (space_at (drop (i + 1) l))
-unfolding space_at
-space_next l i h e = rw (drop_next l i h, ne_eqb _ _ e)
+pub found : (t : Bool) (k n : ℕ) → cond t (Some k) None ≡ Some n → (t ≡ true) × (k ≡ n)
+found true k n e = (refl, cc)
+found false k n e = absurd (cc)
 
-pub space_done : (l : List ℕ) (i : ℕ) → length l ≤ i → space_at (drop i l) ≡ 0
+pub not-found : (t : Bool) (k : ℕ) → cond t (Some k) None ≡ None → t ≡ false
+not-found true k e = absurd (cc)
+not-found false k e = refl
+
+space-most : (l : List ℕ) → space_at l ≤ length l
 unfolding space_at
-space_done l i h = rw (drop_of_length-le l {i = i} h)
+space-most [] = omega arith
+space-most (b ∷ bs) = cond_ind (λ (n : ℕ). n ≤ suc (length bs)) (eqb b 32) _ _ (λ _. omega arith) (λ _. omega (arith, space-most bs))
+
+module _ (l : List ℕ) where
+  pub space_some : (n : ℕ) → position (λ b. eqb b 32) l ≡ Some n → (n ≡ space_at l) × (n < length l)
+  space_some n e =
+      let both = found (ltb (position_or_len (λ b. eqb b 32) l) (length l)) _ n e in
+      let below = ltb-true _ _ both.0 in
+      (omega (arith, space_first l, both.1), omega (arith, both.1))
+
+  pub space-none : position (λ b. eqb b 32) l ≡ None → space_at l ≡ length l
+  space-none e =
+      let most = ltb-false _ _ (not-found (ltb (position_or_len (λ b. eqb b 32) l) (length l)) _ e) in
+      omega (arith, space_first l, space-most l)
 
 -- ---- fields: a line's fields are the one before the first space and those behind it
 
@@ -76,14 +95,14 @@ module _ (l : List ℕ) (at end n : ℕ) (vs : List ℕ) (inside : at ≤ length
   abbrev field : List ℕ
   field = take (end - at) (drop at l)
 
-  pub numbers_bad : is_number field ≡ false → (all is_number (fields (drop at l)) ≡ false) × (put n (numbers_in (fields (drop at l))) vs ≡ vs)
+  pub numbers_bad : is_number field ≡ false → (list_all is_number (fields (drop at l)) ≡ false) × (put n (numbers_in (fields (drop at l))) vs ≡ vs)
   unfolding numbers_in put
   numbers_bad h =
       let bad : is_number (take (space_at (drop at l)) (drop at l)) ≡ false = rw (size l at end inside e) h in
       (rw (fields_split (drop at l), bad), rw (fields_split (drop at l), bad))
 
   pub numbers-last : is_number field ≡ true → end ≡ length l →
-      (all is_number (fields (drop at l)) ≡ true) × (length (fields (drop at l)) ≡ 1)
+      (list_all is_number (fields (drop at l)) ≡ true) × (length (fields (drop at l)) ≡ 1)
       × (put n (numbers_in (fields (drop at l))) vs ≡ set vs n (value field))
   unfolding numbers_in put
   numbers-last h f =
@@ -91,7 +110,7 @@ module _ (l : List ℕ) (at end n : ℕ) (vs : List ℕ) (inside : at ≤ length
       (rw (one, h), rw one, rw (one, h))
 
   pub numbers_more : is_number field ≡ true → (end ≡ length l → ⊥) →
-      (all is_number (fields (drop at l)) ≡ all is_number (fields (drop (end + 1) l)))
+      (list_all is_number (fields (drop at l)) ≡ list_all is_number (fields (drop (end + 1) l)))
       × (length (fields (drop at l)) ≡ suc (length (fields (drop (end + 1) l))))
       × (put n (numbers_in (fields (drop at l))) vs ≡ put (n + 1) (numbers_in (fields (drop (end + 1) l))) (set vs n (value field)))
   unfolding numbers_in put
@@ -100,12 +119,12 @@ module _ (l : List ℕ) (at end n : ℕ) (vs : List ℕ) (inside : at ≤ length
       (rw (more, h), rw more, rw (more, h, add-one n))
 
 -- where all are numbers, all are read
-pub numbers-all : (fs : List (List ℕ)) → T (all is_number fs) → numbers_in fs ≡ map value fs
+pub numbers-all : (fs : List (List ℕ)) → T (list_all is_number fs) → numbers_in fs ≡ map value fs
 unfolding numbers_in
 numbers-all [] t = refl
 numbers-all (f ∷ fs) t =
-    let good = T_true (is_number f) (both_l (is_number f) (all is_number fs) t) in
-    rw (good, numbers-all fs (both_r (is_number f) (all is_number fs) t))
+    let good = T_true (is_number f) (both_l (is_number f) (list_all is_number fs) t) in
+    rw (good, numbers-all fs (both_r (is_number f) (list_all is_number fs) t))
 
 -- ---- value: what digits write
 
@@ -126,11 +145,15 @@ value-done v l i h = rw (drop_of_length-le l {i = i} h)
 -- ---- is_number
 
 module _ (f : List ℕ) where
-  pub number_size : leb 1 (length f) && leb (length f) 20 ≡ false → is_number f ≡ false
+  pub number-empty : length f ≡ 0 → is_number f ≡ false
   unfolding is_number
-  number_size e = rw e
+  number-empty e = rw e
 
-  pub number_digits : all is_digit f ≡ false → is_number f ≡ false
+  pub number_long : 20 < length f → is_number f ≡ false
+  unfolding is_number
+  number_long h = rw (lt-leb _ _ h, and-false)
+
+  pub number_digits : list_all is_digit f ≡ false → is_number f ≡ false
   unfolding is_number
   number_digits e = rw (e, and-false)
 
@@ -138,16 +161,16 @@ module _ (f : List ℕ) where
   unfolding is_number
   number_large h = rw (le-ltb _ _ h, and-false, and-false)
 
-  pub number_good : leb 1 (length f) && leb (length f) 20 ≡ true → all is_digit f ≡ true → value f < 2 ^ 64 → is_number f ≡ true
+  pub number_good : 1 ≤ length f → length f ≤ 20 → list_all is_digit f ≡ true → value f < 2 ^ 64 → is_number f ≡ true
   unfolding is_number
-  number_good e d h = rw (e, d, lt-ltb _ _ h)
+  number_good e k d h = rw (le-leb _ _ e, le-leb _ _ k, d, lt-ltb _ _ h)
 
   -- a number has a digit
   pub number-some : is_number f ≡ true → 1 ≤ length f
   unfolding is_number
   number-some e =
       let sized : T (leb 1 (length f) && leb (length f) 20) =
-      both_l (leb 1 (length f) && leb (length f) 20) (all is_digit f && ltb (value f) (2 ^ 64)) (true_T _ e) in
+      both_l (leb 1 (length f) && leb (length f) 20) (list_all is_digit f && ltb (value f) (2 ^ 64)) (true_T _ e) in
       leb-true _ _ (T_true _ (both_l (leb 1 (length f)) (leb (length f) 20) sized))
 
 -- and so a part of a line that is a number
@@ -155,26 +178,6 @@ pub field_some : (k : ℕ) (xs : List ℕ) → is_number (take k xs) ≡ true �
 field_some k xs e = omega (arith, number-some (take k xs) e, length-take k xs)
 
 -- ---- same_bytes
-
-pub same_length : (a b : List ℕ) → (length a ≡ length b → ⊥) → same_bytes a b ≡ false
-unfolding same_bytes
-same_length [] [] h = absurd (h refl)
-same_length [] (y ∷ ys) h = refl
-same_length (x ∷ xs) [] h = refl
-same_length (x ∷ xs) (y ∷ ys) h = rw (same_length xs ys (λ e. h (ap suc e)), and-false)
-
-module _ (a b : List ℕ) (i : ℕ) (p : i < length a) (q : i < length b) where
-  pub same_here : (get_or a i 0 ≡ get_or b i 0 → ⊥) → same_bytes (drop i a) (drop i b) ≡ false
-  unfolding same_bytes
-  same_here e = rw (drop_next a i p, drop_next b i q, ne_eqb _ _ e)
-
-  pub same_next : get_or a i 0 ≡ get_or b i 0 → same_bytes (drop i a) (drop i b) ≡ same_bytes (drop (i + 1) a) (drop (i + 1) b)
-  unfolding same_bytes
-  same_next e = rw (drop_next a i p, drop_next b i q, eq-eqb _ _ e)
-
-pub same-done : (a b : List ℕ) (i : ℕ) → length a ≤ i → length b ≤ i → same_bytes (drop i a) (drop i b) ≡ true
-unfolding same_bytes
-same-done a b i p q = rw (drop_of_length-le a {i = i} p, drop_of_length-le b {i = i} q)
 
 -- a passed test is an equation
 pub same_bytes_out : (a b : List ℕ) → T (same_bytes a b) → a ≡ b

@@ -1,7 +1,7 @@
 -- The fields of a line and the numbers that they write (document 01, "A listing, complete"). A line is its bytes without the line feed.
 -- Assumes nothing: these are definitions.
 use Rattle.std.specs.Prelude.{ℕ, ◌+◌, ◌*◌, ◌-◌, ◌^◌, Bool, true, false, ◌&&◌, cond, List, [], ◌∷◌, ltb, leb, eqb, length}
-use Rattle.predicates.specs.Lists.{all}
+use Rattle.std.specs.List.{list_all}
 
 -- ---- fields: "with single spaces"
 
@@ -37,7 +37,7 @@ value field = value_from 0 field
 
 -- a field that is a number of 64 bits
 unfoldable pub is_number : List ℕ → Bool
-is_number field = (leb 1 (length field) && leb (length field) 20) && (all is_digit field && ltb (value field) (2 ^ 64))
+is_number field = (leb 1 (length field) && leb (length field) 20) && (list_all is_digit field && ltb (value field) (2 ^ 64))
 
 -- "words, own and drift 32"
 abbrev pub is_word : ℕ → Bool

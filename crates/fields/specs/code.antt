@@ -1,2 +1,3 @@
 -- The definitions that serve the code alone.
 pub mod Scan
+pub mod Lines

@@ -6,7 +6,7 @@ use mathlib.Core.List.{List, [], ◌∷◌, map}
 use native.Mathlib.Omega.{arith}
 use lib.Dec.{ltb, leb, eqb}
 use lib.ListN.{length, get_or, drop}
-use Rattle.predicates.specs.Lists.{all}
+use Rattle.std.specs.List.{list_all}
 use Rattle.predicates.proofs.ListLaws.{cond_ind}
 use Rattle.fields.specs.Fields.{fields, value, is_number, is_word, same_bytes}
 use Rattle.lines.specs.Lines.{set_command, age_command, get_command, ask_command, fewest_command}
@@ -36,7 +36,7 @@ unfolding later_line age_line get_line ask_line ask_text fewest_line fewest_answ
 later_short word ns s =
     cond_ind Short (same_bytes word age_command) _ _ (λ _. cond_ind Short (eqb (length ns) 1) _ _ (λ _. number-length _) (λ _. bad_short _ s))
     (λ _. cond_ind Short (same_bytes word get_command) _ _
-    (λ _. cond_ind Short (leb 2 (length ns) && all is_word (drop 2 ns)) _ _ (λ _. number-length _) (λ _. bad_short _ s))
+    (λ _. cond_ind Short (leb 2 (length ns) && list_all is_word (drop 2 ns)) _ _ (λ _. number-length _) (λ _. bad_short _ s))
     (λ _. cond_ind Short (same_bytes word ask_command) _ _
     (λ _. cond_ind Short (eqb (length ns) 1) _ _ (λ _. answered_short _ _ (answer-length _)) (λ _. bad_short _ s))
     (λ _. cond_ind Short (same_bytes word fewest_command) _ _
@@ -47,7 +47,7 @@ fields_short : (fs : List (List ℕ)) (begun : Bool) (s : List ℕ) → Short (f
 unfolding fields_line word_line
 fields_short [] begun s = bad_short begun s
 fields_short (word ∷ fs) begun s =
-    cond_ind Short (all is_number fs) _ _
+    cond_ind Short (list_all is_number fs) _ _
     (λ _. cond_ind Short (same_bytes word set_command) _ _ (λ _. set_short (map value fs) begun s)
     (λ _. cond_ind Short begun _ _ (λ _. later_short word (map value fs) s) (λ _. bad_short begun s)))
     (λ _. bad_short begun s)

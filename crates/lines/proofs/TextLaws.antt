@@ -8,8 +8,7 @@ use Rattle.predicates.proofs.ListLaws.{cond_ind}
 use Rattle.fields.proofs.DecimalLaws.{with_one-length, with_two-length}
 use Rattle.asking.specs.declared.Answer.{Answer}
 use Rattle.asking.specs.declared.Answer.TheVariants.{Contradicted, Open, Between}
-use Rattle.asking.specs.declared.Fewest.{Fewest}
-use Rattle.asking.specs.declared.Fewest.TheVariants.{Over, Few}
+use Rattle.asking.specs.Fewest.{Fewest, Over, Few}
 use Rattle.lines.specs.code.Sizes.{answer_most}
 use Rattle.lines.specs.Text.{number_text, answer_text, fewest_text, refused_word, between_word, fewest_word}
 

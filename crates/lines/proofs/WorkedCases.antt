@@ -5,7 +5,7 @@ use mathlib.Core.Path.{◌≡◌}
 use mathlib.Core.Bool.{Bool, ◌&&◌, true, false, not, cond}
 use mathlib.Core.List.{List, []}
 use lib.Dec.{T}
-use Rattle.predicates.specs.Lists.{all}
+use Rattle.std.specs.List.{list_all}
 use Rattle.predicates.proofs.ListLaws.{both_l, both_r, T_true, T_false, all_out}
 use Rattle.numbers.specs.Numbers.{tab}
 use Rattle.state.specs.Refusal.{lent, after}
@@ -43,7 +43,7 @@ same_result_out r begun s text h =
 unfoldable line_passes : Bool → LineCase → Bool
 line_passes begun l = same_result (line_result (ascii l.line) begun []) begun [] (printed_line l.prints)
 
-lines_pass : T (all (line_passes false) early_lines && all (line_passes true) later_lines)
+lines_pass : T (list_all (line_passes false) early_lines && list_all (line_passes true) later_lines)
 unfolding tab lent after set_up_number set_up_state age_number age_state receive_number receive_state ask_number fewest_number digits with_one number_text
     onto fields value_from value is_number bad_line set_line age_line get_line answered_text ask_text ask_line
     fewest_answer fewest_line same_bytes later_line word_line fields_line line_result
@@ -57,8 +57,8 @@ line-comes begun l h = same_result_out (line_result (ascii l.line) begun []) beg
 pub each_line : EachLine
 unfolding EachLine
 each_line =
-    let early = both_l (all (line_passes false) early_lines) _ lines_pass in
-    let later = both_r (all (line_passes false) early_lines) _ lines_pass in
+    let early = both_l (list_all (line_passes false) early_lines) _ lines_pass in
+    let later = both_r (list_all (line_passes false) early_lines) _ lines_pass in
     (λ l i. line-comes false l (all_out (line_passes false) early_lines early l i), λ l i. line-comes true l (all_out (line_passes true) later_lines later l i))
 
 -- ---- the lines that are printed
@@ -66,7 +66,7 @@ each_line =
 unfoldable printed_passes : Printed → Bool
 printed_passes p = same_bytes p.text (printed_line p.line)
 
-printed_pass : T (all printed_passes answers)
+printed_pass : T (list_all printed_passes answers)
 unfolding tab digits with_one with_two number_text answer_text fewest_text same_bytes ascii printed_passes answers
 printed_pass = tt
 

@@ -6,7 +6,7 @@ use Prim.Native.String.{String, len, char_at}
 use Rattle.predicates.specs.Lists.{In}
 use Rattle.numbers.specs.Numbers.{tab}
 use Rattle.asking.specs.declared.Answer.TheVariants.{Contradicted, Open, Between}
-use Rattle.asking.specs.declared.Fewest.TheVariants.{Over, Few}
+use Rattle.asking.specs.Fewest.{Over, Few}
 use Rattle.lines.specs.Text.{bad_text, number_text, answer_text, fewest_text}
 use Rattle.lines.specs.Lines.{line_result}
 

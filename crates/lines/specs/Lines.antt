@@ -1,7 +1,7 @@
 -- A line of the listing (document 01, "A listing, complete"): what it leaves and prints. A line is its bytes without the line feed.
 -- Assumes nothing: these are definitions.
 use Rattle.std.specs.Prelude.{ℕ, Bool, true, ◌&&◌, ◌||◌, cond, List, [], ◌∷◌, map, ltb, leb, eqb, length, get_or, drop, replicate}
-use Rattle.predicates.specs.Lists.{all}
+use Rattle.std.specs.List.{list_all}
 use Rattle.numbers.specs.Numbers.{bytes_of}
 use Rattle.fields.specs.Fields.{fields, value, is_number, is_word, same_bytes}
 use Rattle.engine.specs.Calls.{setup}
@@ -52,7 +52,7 @@ age_line ns s =
 -- "`get` least greatest words"; "`get` may have no words (10)"
 unfoldable pub get_line : List ℕ → List ℕ → LineResult
 get_line ns s =
-    cond (leb 2 (length ns) && all is_word (drop 2 ns))
+    cond (leb 2 (length ns) && list_all is_word (drop 2 ns))
     (record {
       begun = true;
       state = receive_state s (receipt_of (get_or ns 0 0) (get_or ns 1 0) (bytes_of (drop 2 ns)));
@@ -119,7 +119,7 @@ word_line word ns begun s =
 -- the first field is the command word, and the others are numbers
 unfoldable pub fields_line : List (List ℕ) → Bool → List ℕ → LineResult
 fields_line [] begun s = bad_line begun s
-fields_line (word ∷ fs) begun s = cond (all is_number fs) (word_line word (map value fs) begun s) (bad_line begun s)
+fields_line (word ∷ fs) begun s = cond (list_all is_number fs) (word_line word (map value fs) begun s) (bad_line begun s)
 
 -- "A line above 200 bytes or empty is a `bad line`", above 600 now: an empty line's one field is no command word
 unfoldable pub line_result : List ℕ → Bool → List ℕ → LineResult

@@ -4,8 +4,7 @@ use Rattle.std.specs.Prelude.{ℕ, cond, List, [], ◌∷◌, eqb}
 use Rattle.fields.specs.Decimal.{with_one, with_two}
 use Rattle.asking.specs.declared.Answer.{Answer}
 use Rattle.asking.specs.declared.Answer.TheVariants.{Contradicted, Open, Between}
-use Rattle.asking.specs.declared.Fewest.{Fewest}
-use Rattle.asking.specs.declared.Fewest.TheVariants.{Over, Few}
+use Rattle.asking.specs.Fewest.{Fewest, Over, Few}
 
 -- ---- the words, with the space or the line feed behind them
 

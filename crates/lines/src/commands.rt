@@ -1,154 +1,164 @@
-// The five commands over the numbers of their fields. Each writes its line at the front of the output and answers how many bytes it has.
+// The five commands over the numbers of their fields. Each writes its line at the front of the output and answers how many bytes it has; a bad line
+// changes nothing.
 ghost use Rattle.std.specs.Prelude.{◌≡◌, ◌≤◌, length};
-ghost use Rattle.numbers.specs.Numbers.{put};
-ghost use Rattle.lines.specs.Lines.{LineResult, set_line, age_line, get_line, ask_line, fewest_line, later_line, word_line};
+ghost use Rattle.lines.specs.Lines.{LineResult, set_line, age_line, get_line, ask_line, fewest_line, word_line};
+ghost use Rattle.lines.specs.code.Commands.{Names, needs_set};
+ghost use Rattle.lines.specs.code.Outcomes.{Prints};
 ghost use Rattle.lines.specs.code.Sizes.{values_most, answer_most};
 
-use crate::{Answered, VALUES_MOST, text};
+use crate::{BadLine, VALUES_MOST, text};
 use fields::read;
 
 // The message of a `get` line has at most these bytes: four for each field behind the two delays.
 const MESSAGE_MOST: usize = (VALUES_MOST - 2) * 4;
 
+// What a line asks for.
+#[derive(Clone, Copy, Debug, PartialEq, Eq)]
+enum Command {
+    Set,
+    Age,
+    Get,
+    Ask,
+    Fewest,
+}
+
+impl TryFrom<&[u8]> for Command {
+    type Error = BadLine;
+
+    ghost try_from_gives = { Names };
+
+    fn try_from(word: &[u8]) -> Result<Command, BadLine> {
+        if word == b"set".as_slice() {
+            Ok(Command::Set)
+        } else if word == b"age".as_slice() {
+            Ok(Command::Age)
+        } else if word == b"get".as_slice() {
+            Ok(Command::Get)
+        } else if word == b"ask".as_slice() {
+            Ok(Command::Ask)
+        } else if word == b"fewest".as_slice() {
+            Ok(Command::Fewest)
+        } else {
+            Err(BadLine)
+        }
+    }
+}
+
+impl Command {
+    // Whether a `set` has to be taken before.
+    fn needs_set(self) -> bool
+        ensures { result ≡ needs_set self }
+    {
+        self != Command::Set
+    }
+}
+
 // `set` own drift reading epoch.
-fn set_line(values: &[u64], state: &mut [u8], begun: bool, out: &mut [u8]) -> Answered
+fn set_line(
+    values: &[u64],
+    state: &mut [u8],
+    begun: &mut bool,
+    out: &mut [u8],
+) -> Result<usize, BadLine>
     requires { answer_most ≤ length out.old }
-    ensures { (let answer : LineResult = set_line values.now begun state.old in
-        (result.begun ≡ answer.begun) × (result.size ≡ length answer.text) × (state.new ≡ answer.state)
-        × (out.new ≡ put 0 answer.text out.old)) }
+    ensures { (let answer : LineResult = set_line values.now begun.old state.old in
+        (begun.new ≡ answer.begun) × (state.new ≡ answer.state) × Prints answer result out.old out.new) }
 {
-    if values.len() != 4 {
-        let size = text::put_bad(out);
-        return Answered { begun, size };
-    }
-    let own = values[0];
-    let drift = values[1];
-    if !((own < 4_294_967_296) & (drift < 4_294_967_296)) {
-        let size = text::put_bad(out);
-        return Answered { begun, size };
-    }
-    let number = monitor::calls::monitor_set_up(
-        state,
-        own as u32,
-        drift as u32,
-        values[2],
-        values[3],
-    );
-    let size = text::put_number(out, number);
-    Answered {
-        begun: begun | (number == 0),
-        size,
-    }
+    let &[own, drift, reading, epoch] = values else {
+        return Err(BadLine);
+    };
+    let own = u32::try_from(own)?;
+    let drift = u32::try_from(drift)?;
+    let number = monitor::calls::monitor_set_up(state, own, drift, reading, epoch);
+    *begun |= number == 0;
+    Ok(text::put_number(out, number))
 }
 
 // `age` reading.
-fn age_line(values: &[u64], state: &mut [u8], out: &mut [u8]) -> usize
+fn age_line(values: &[u64], state: &mut [u8], out: &mut [u8]) -> Result<usize, BadLine>
     requires { answer_most ≤ length out.old }
     ensures { (let answer : LineResult = age_line values.now state.old in
-        (result ≡ length answer.text) × (state.new ≡ answer.state) × (out.new ≡ put 0 answer.text out.old)) }
+        (state.new ≡ answer.state) × Prints answer result out.old out.new) }
 {
-    if values.len() != 1 {
-        return text::put_bad(out);
-    }
-    let number = monitor::calls::monitor_age(state, values[0]);
-    text::put_number(out, number)
+    let &[reading] = values else {
+        return Err(BadLine);
+    };
+    let number = monitor::calls::monitor_age(state, reading);
+    Ok(text::put_number(out, number))
 }
 
 // `get` least greatest words: the words as bytes are the message.
-fn get_line(values: &[u64], state: &mut [u8], out: &mut [u8]) -> usize
+fn get_line(values: &[u64], state: &mut [u8], out: &mut [u8]) -> Result<usize, BadLine>
     requires { (length values.now ≤ values_most) × (answer_most ≤ length out.old) }
     ensures { (let answer : LineResult = get_line values.now state.old in
-        (result ≡ length answer.text) × (state.new ≡ answer.state) × (out.new ≡ put 0 answer.text out.old)) }
+        (state.new ≡ answer.state) × Prints answer result out.old out.new) }
 {
-    if values.len() < 2 {
-        return text::put_bad(out);
-    }
-    let fits = read::words_fit(&values[2..]);
-    if !fits {
-        return text::put_bad(out);
+    let [least, greatest, words @ ..] = values else {
+        return Err(BadLine);
+    };
+    if !read::words_fit(words) {
+        return Err(BadLine);
     }
     let mut message = [0u8; MESSAGE_MOST];
-    read::message_bytes(&values[2..], &mut message);
-    let size = (values.len() - 2) * 4;
-    let number = monitor::receive::monitor_receive(state, values[0], values[1], &message[..size]);
-    text::put_number(out, number)
+    read::message_bytes(words, &mut message);
+    let size = words.len() * 4;
+    let number = monitor::receive::monitor_receive(state, *least, *greatest, &message[..size]);
+    Ok(text::put_number(out, number))
 }
 
 // `ask` limit.
-fn ask_line(values: &[u64], state: &[u8], out: &mut [u8]) -> usize
+fn ask_line(values: &[u64], state: &[u8], out: &mut [u8]) -> Result<usize, BadLine>
     requires { answer_most ≤ length out.old }
-    ensures { (let answer : LineResult = ask_line values.now state.now in
-        (result ≡ length answer.text) × (out.new ≡ put 0 answer.text out.old)) }
+    ensures { Prints (ask_line values.now state.now) result out.old out.new }
 {
-    if values.len() != 1 {
-        return text::put_bad(out);
-    }
+    let &[limit] = values else {
+        return Err(BadLine);
+    };
     let mut answer = [0u8; monitor::questions::ANSWER_SIZE];
-    let number = monitor::questions::monitor_ask(state, values[0], &mut answer);
+    let number = monitor::questions::monitor_ask(state, limit, &mut answer);
     if number != 0 {
-        return text::put_number(out, number);
+        return Ok(text::put_number(out, number));
     }
-    text::put_answer(out, &answer)
+    Ok(text::put_answer(out, &answer))
 }
 
 // `fewest`.
-fn fewest_line(values: &[u64], state: &[u8], out: &mut [u8]) -> usize
+fn fewest_line(values: &[u64], state: &[u8], out: &mut [u8]) -> Result<usize, BadLine>
     requires { answer_most ≤ length out.old }
-    ensures { (let answer : LineResult = fewest_line values.now state.now in
-        (result ≡ length answer.text) × (out.new ≡ put 0 answer.text out.old)) }
+    ensures { Prints (fewest_line values.now state.now) result out.old out.new }
 {
-    if values.len() != 0 {
-        return text::put_bad(out);
+    if !values.is_empty() {
+        return Err(BadLine);
     }
     let mut answer = [0u8; monitor::questions::FEWEST_SIZE];
     let number = monitor::questions::monitor_fewest(state, &mut answer);
     if number != 0 {
-        return text::put_number(out, number);
+        return Ok(text::put_number(out, number));
     }
-    text::put_fewest(out, &answer)
+    Ok(text::put_fewest(out, &answer))
 }
 
-// A command that needs a taken `set` before it.
-fn later_line(word: &[u8], values: &[u64], state: &mut [u8], out: &mut [u8]) -> usize
-    requires { (length values.now ≤ values_most) × (answer_most ≤ length out.old) }
-    ensures { (let answer : LineResult = later_line word.now values.now state.old in
-        (result ≡ length answer.text) × (state.new ≡ answer.state) × (out.new ≡ put 0 answer.text out.old)) }
-{
-    if read::same(word, b"age") {
-        return age_line(values, state, out);
-    }
-    if read::same(word, b"get") {
-        return get_line(values, state, out);
-    }
-    if read::same(word, b"ask") {
-        return ask_line(values, state, out);
-    }
-    if read::same(word, b"fewest") {
-        return fewest_line(values, state, out);
-    }
-    text::put_bad(out)
-}
-
-// A command word with the numbers of its fields.
+// A command word with the numbers of its fields; each but `set` needs a taken `set` before it.
 pub fn word_line(
     word: &[u8],
     values: &[u64],
     state: &mut [u8],
-    begun: bool,
+    begun: &mut bool,
     out: &mut [u8],
-) -> Answered
+) -> Result<usize, BadLine>
     requires { (length values.now ≤ values_most) × (answer_most ≤ length out.old) }
-    ensures { (let answer : LineResult = word_line word.now values.now begun state.old in
-        (result.begun ≡ answer.begun) × (result.size ≡ length answer.text) × (state.new ≡ answer.state)
-        × (out.new ≡ put 0 answer.text out.old)) }
+    ensures { (let answer : LineResult = word_line word.now values.now begun.old state.old in
+        (begun.new ≡ answer.begun) × (state.new ≡ answer.state) × Prints answer result out.old out.new) }
 {
-    if read::same(word, b"set") {
-        return set_line(values, state, begun, out);
+    let command = Command::try_from(word)?;
+    if command.needs_set() && !*begun {
+        return Err(BadLine);
     }
-    if !begun {
-        let size = text::put_bad(out);
-        return Answered { begun, size };
+    match command {
+        Command::Set => set_line(values, state, begun, out),
+        Command::Age => age_line(values, state, out),
+        Command::Get => get_line(values, state, out),
+        Command::Ask => ask_line(values, state, out),
+        Command::Fewest => fewest_line(values, state, out),
     }
-    let size = later_line(word, values, state, out);
-    Answered { begun, size }
 }

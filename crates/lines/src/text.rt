@@ -17,6 +17,7 @@ pub fn put_bad(out: &mut [u8]) -> usize
 }
 
 // The line for the number of a call: `ok`, or `refused` and the number.
+// The number is the call's, as C has it: 0 for taken.
 pub fn put_number(out: &mut [u8], number: u32) -> usize
     requires { answer_most ≤ length out.old }
     ensures value { result ≡ length (number_text number) }
@@ -25,7 +26,7 @@ pub fn put_number(out: &mut [u8], number: u32) -> usize
     if number == 0 {
         return text::put_text(out, 0, b"ok\n");
     }
-    text::put_one(out, b"refused ", number as u64)
+    text::put_line(out, b"refused", &[u64::from(number)])
 }
 
 // The line for the 24 bytes that asking gives: `contradicted`, `open`, or `between` and both ends.
@@ -34,16 +35,16 @@ pub fn put_answer(out: &mut [u8], answer: &[u8]) -> usize
     ensures value { result ≡ length (answer_text (answer_in answer.now)) }
     ensures out_after { out.new ≡ put 0 (answer_text (answer_in answer.now)) out.old }
 {
-    let kind = numbers::get64(answer, 0);
-    if kind == 0 {
-        return text::put_text(out, 0, b"contradicted\n");
+    // The bytes are those of the C interface, so a number tells the kind.
+    match numbers::get64(answer, 0) {
+        0 => text::put_text(out, 0, b"contradicted\n"),
+        1 => text::put_text(out, 0, b"open\n"),
+        _ => {
+            let left = numbers::get64(answer, 8);
+            let right = numbers::get64(answer, 16);
+            text::put_line(out, b"between", &[left, right])
+        }
     }
-    if kind == 1 {
-        return text::put_text(out, 0, b"open\n");
-    }
-    let left = numbers::get64(answer, 8);
-    let right = numbers::get64(answer, 16);
-    text::put_two(out, b"between ", left, right)
 }
 
 // The line for the 16 bytes that the fewest failures give: `fewest over 4`, or `fewest` with count and mask.
@@ -52,10 +53,12 @@ pub fn put_fewest(out: &mut [u8], answer: &[u8]) -> usize
     ensures value { result ≡ length (fewest_text (fewest_in answer.now)) }
     ensures out_after { out.new ≡ put 0 (fewest_text (fewest_in answer.now)) out.old }
 {
-    let count = numbers::get64(answer, 0);
-    if count == 5 {
-        return text::put_text(out, 0, b"fewest over 4\n");
+    // The bytes are those of the C interface, where a count of 5 stands for more than 4.
+    match numbers::get64(answer, 0) {
+        5 => text::put_text(out, 0, b"fewest over 4\n"),
+        count => {
+            let mask = numbers::get64(answer, 8);
+            text::put_line(out, b"fewest", &[count, mask])
+        }
     }
-    let mask = numbers::get64(answer, 8);
-    text::put_two(out, b"fewest ", count, mask)
 }

@@ -1,7 +1,8 @@
 -- What a run of the listing has done. No contract can say what the system gave or took, so the program counts the bytes that it read, those that it
 -- handed on to be written and those that `write` took, and the counts are tied to the definitions and to the last calls.
 -- Assumes nothing: these are definitions.
-use Rattle.std.specs.Prelude.{ℕ, ◌≤◌, ◌^◌, ◌≡◌, Bool, ◌||◌, not, cond, List, [], T, ltb, length}
+use Rattle.std.specs.Prelude.{ℕ, ◌≤◌, ◌^◌, ◌≡◌, Bool, ◌||◌, not, cond, Option, List, [], T, ltb, length, take}
+use Rattle.std.specs.Io.KnownBytes.{Consumes, Appends, IsAtEnd}
 use Rattle.stream.specs.Listing.{listing_of}
 use Rattle.stream.specs.Kept.{Kept, nothing_kept, kept_after, text_after}
 use Rattle.listing.specs.declared.count.Tally.{Tally}
@@ -25,6 +26,28 @@ pub record Ran (read handed : ℕ) (ended : Bool) : Type 0 where
   pub input : List ℕ
   pub came : read ≡ length input
   pub prints : handed ≡ length (cond ended (listing_of input) (text_after nothing_kept input))
+
+-- ---- the bytes, where a reader's and a writer's are known
+
+-- the run so far: the bytes that were read are taken from the reader's, which end where the input has ended, and of what they print as much as was
+-- written is behind the writer's
+pub record Passed (reader reader' writer writer' : Option (List ℕ)) (t : Tally) (k : Kept) : Type 0 where
+  pub input : List ℕ
+  pub came : t.read ≡ length input
+  pub keeps : k ≡ kept_after nothing_kept input
+  pub prints : t.handed ≡ length (text_after nothing_kept input)
+  pub taken : Consumes reader reader' input
+  pub ended : T (is_end t.input.got) → IsAtEnd reader'
+  pub told : Appends writer writer' (take t.written (text_after nothing_kept input))
+
+-- the same at the end of a run: where the input has ended, the whole listing was handed on
+pub record Listed (reader reader' writer writer' : Option (List ℕ)) (t : Tally) : Type 0 where
+  pub input : List ℕ
+  pub came : t.read ≡ length input
+  pub prints : t.handed ≡ length (cond (is_end t.input.got) (listing_of input) (text_after nothing_kept input))
+  pub taken : Consumes reader reader' input
+  pub ended : T (is_end t.input.got) → IsAtEnd reader'
+  pub told : Appends writer writer' (take t.written (cond (is_end t.input.got) (listing_of input) (text_after nothing_kept input)))
 
 -- ---- the last calls
 

@@ -1,6 +1,8 @@
--- What the program makes of the calls of the system: `read` and `write` return how many bytes they moved, or a negative number where they failed, and
--- an error number says why. Assumes nothing: these are definitions.
-use Rattle.std.specs.Prelude.{ℕ, ◌-◌, ◌^◌, Bool, true, false, ◌&&◌, ◌||◌, None, Some, eqb, ltb, ℤ, pos, negsuc}
+-- What the program makes of the calls of the system: `read` and `write` return how many bytes they moved, or an error where they failed, whose number
+-- says why. Assumes nothing: these are definitions.
+use Rattle.std.specs.Prelude.{ℕ, ◌-◌, ◌^◌, ◌<◌, Bool, true, false, ◌&&◌, ◌||◌, List, length, take, T, eqb, ltb, ℤ, pos, negsuc}
+use Rattle.std.specs.Prelude.{Option, None, Some, Result, Ok, Err}
+use Rattle.std.specs.Io.KnownBytes.{Consumes, IsAtEnd}
 use Rattle.std.specs.IoError.{raw_os_error, error_kind}
 use Rattle.std.specs.declared.io.Error.{Error}
 use Rattle.std.specs.declared.io.ErrorKind.{ErrorKind}
@@ -10,19 +12,19 @@ use Rattle.listing.specs.declared.system.Call.{Call}
 -- ---- what was returned
 
 -- so many bytes were moved
-abbrev pub moved_by : ℤ → ℕ
-moved_by (pos n) = n
-moved_by (negsuc n) = 0
+abbrev pub moved_by : Result ℕ ℤ → ℕ
+moved_by (Ok n) = n
+moved_by (Err e) = 0
 
 -- by `read`: the input has ended
-abbrev pub is_end : ℤ → Bool
-is_end (pos n) = eqb n 0
-is_end (negsuc n) = false
+abbrev pub is_end : Result ℕ ℤ → Bool
+is_end (Ok n) = eqb n 0
+is_end (Err e) = false
 
 -- the call failed
-abbrev pub is_failure : ℤ → Bool
-is_failure (pos n) = false
-is_failure (negsuc n) = true
+abbrev pub is_failure : Result ℕ ℤ → Bool
+is_failure (Ok n) = false
+is_failure (Err e) = true
 
 -- the error numbers of a call that may go well the next time: a signal came (EINTR, 4), or no byte can be moved yet (EAGAIN, 11)
 abbrev pub is_passing : ℤ → Bool
@@ -39,9 +41,15 @@ number_of_kind _ = pos 0
 abbrev pub error_number : Error → ℤ
 error_number e = elim (raw_os_error e) [ None ↦ number_of_kind (error_kind e) | Some n ↦ n ]
 
--- a call that returned this, with this error number, may go well the next time
-abbrev pub tries_again : ℤ → ℤ → Bool
-tries_again got error = is_failure got && is_passing error
+-- what a call returned, with the number of its error
+abbrev pub returned : Result ℕ Error → Result ℕ ℤ
+returned (Ok n) = Ok n
+returned (Err e) = Err (error_number e)
+
+-- a call that returned this may go well the next time
+abbrev pub tries_again : Result ℕ ℤ → Bool
+tries_again (Ok n) = false
+tries_again (Err e) = is_passing e
 
 -- ---- one call after the other
 
@@ -51,8 +59,15 @@ tries_most = 2 ^ 64 - 1
 
 -- a call is made again
 unfoldable pub is_repeated : Call → Bool
-is_repeated c = ltb c.tries tries_most && tries_again c.got c.error
+is_repeated c = ltb c.tries tries_most && tries_again c.got
 
 -- the bytes that are left are tried: the call moved some, or is made again
 unfoldable pub goes_on : Call → Bool
-goes_on c = ltb c.tries tries_most && (ltb 0 (moved_by c.got) || tries_again c.got c.error)
+goes_on c = ltb c.tries tries_most && (ltb 0 (moved_by c.got) || tries_again c.got)
+
+-- ---- the bytes that a call moves, where they are known
+
+-- a read put the bytes that it moved at the start of buf. They are taken from the reader's known bytes, which end where the read found the end
+pub record Takes (old new : Option (List ℕ)) (c : Call) (buf : List ℕ) : Type 0 where
+  pub taken : Consumes old new (take (moved_by c.got) buf)
+  pub ended : T (is_end c.got) → 0 < length buf → IsAtEnd new

@@ -1,6 +1,7 @@
 // What a run has done, in counts that only this module can make and look into, so that nobody else counts a byte that no call has moved.
-ghost use Rattle.std.specs.Prelude.{◌≡◌, ◌+◌, ◌^◌, ◌<◌, length};
-ghost use Rattle.listing.specs.System.{moved_by, is_end};
+ghost use Rattle.std.specs.Prelude.{◌≡◌, ◌+◌, ◌-◌, ◌^◌, ◌<◌, length, take};
+ghost use Rattle.std.specs.Io.KnownBytes.{Appends};
+ghost use Rattle.listing.specs.System.{moved_by, is_end, Takes};
 ghost use Rattle.listing.specs.Run.{is_lost, stopped};
 ghost use Rattle.listing.specs.code.Turns.{nothing_done, Hears, HandsOn};
 
@@ -18,87 +19,75 @@ pub struct Tally {
     output: Call,
 }
 
-// Before the first call.
-#[tactic(auto, unfolding(crate::specs::code::Turns::nothing_done))]
-pub fn begin() -> Tally
-    ensures { result ≡ nothing_done }
-{
-    Tally {
-        read: 0,
-        handed: 0,
-        written: 0,
-        input: system::no_call(),
-        output: system::no_call(),
+impl Tally {
+    // Before the first call.
+    #[tactic(auto, unfolding(crate::specs::code::Turns::nothing_done))]
+    pub fn new() -> Tally
+        ensures { result ≡ nothing_done }
+    {
+        Tally {
+            read: 0,
+            handed: 0,
+            written: 0,
+            input: Call::none(),
+            output: Call::none(),
+        }
     }
-}
 
-// How many bytes were read.
-pub fn read(tally: Tally) -> u64
-    ensures { result ≡ tally.read }
-{
-    tally.read
-}
-
-// How many bytes the last read brought.
-pub fn came(tally: Tally) -> usize
-    ensures { result ≡ moved_by tally.input.got }
-{
-    let last = tally.input;
-    system::moved(last)
-}
-
-// Whether the last read has found the end of the input.
-pub fn is_end(tally: Tally) -> bool
-    ensures { result ≡ is_end tally.input.got }
-{
-    let last = tally.input;
-    system::is_end(last)
-}
-
-// Whether output is lost: more was handed on than could be written.
-pub fn is_lost(tally: Tally) -> bool
-    ensures { result ≡ is_lost tally }
-{
-    tally.written < tally.handed
-}
-
-// Whether a run goes no further: the input has ended or cannot be read, or output is lost.
-pub fn stops(tally: Tally) -> bool
-    ensures { result ≡ stopped tally }
-{
-    let last = tally.input;
-    system::is_end(last) | (system::is_failure(last) | is_lost(tally))
-}
-
-// Reads once, and counts what came.
-pub fn receive<R: Read>(reader: &mut R, tally: Tally, input: &mut [u8]) -> Tally
-    requires { tally.read + length input.old < 2 ^ 64 }
-    ensures { Hears (length input.new) tally result }
-{
-    let call = system::receive(reader, input);
-    let output = tally.output;
-    Tally {
-        read: tally.read + system::moved(call) as u64,
-        handed: tally.handed,
-        written: tally.written,
-        input: call,
-        output,
+    // How many bytes were read.
+    pub fn read(&self) -> u64
+        ensures { result ≡ self.now.read }
+    {
+        self.read
     }
-}
 
-// Hands a text on to be written, and counts it and what was written of it.
-pub fn hand_on<W: Write>(writer: &mut W, tally: Tally, text: &[u8]) -> Tally
-    requires { (tally.written ≡ tally.handed) × (tally.handed + length text.now < 2 ^ 64) }
-    ensures { HandsOn (length text.now) tally result }
-{
-    let sent = system::send(writer, text);
-    let input = tally.input;
-    let output = sent.last;
-    Tally {
-        read: tally.read,
-        handed: tally.handed + text.len() as u64,
-        written: tally.written + sent.written as u64,
-        input,
-        output,
+    // How many bytes the last read brought.
+    pub fn came(&self) -> usize
+        ensures { result ≡ moved_by self.now.input.got }
+    {
+        self.input.moved()
+    }
+
+    // Whether the last read has found the end of the input.
+    pub fn is_end(&self) -> bool
+        ensures { result ≡ is_end self.now.input.got }
+    {
+        self.input.is_end()
+    }
+
+    // Whether output is lost: more was handed on than could be written.
+    pub fn is_lost(&self) -> bool
+        ensures { result ≡ is_lost self.now }
+    {
+        self.written < self.handed
+    }
+
+    // Whether a run goes no further: the input has ended or cannot be read, or output is lost.
+    pub fn stops(&self) -> bool
+        ensures { result ≡ stopped self.now }
+    {
+        self.input.is_end() | (self.input.is_failure() | self.is_lost())
+    }
+
+    // Reads once, and counts what came.
+    pub fn receive<R: Read>(&mut self, reader: &mut R, input: &mut [u8])
+        requires { self.old.read + length input.old < 2 ^ 64 }
+        ensures hears { Hears (length input.new) self.old self.new }
+        ensures bytes { Takes (R.remaining reader.old) (R.remaining reader.new) self.new.input input.new }
+    {
+        self.input = system::receive(reader, input);
+        self.read += self.input.moved() as u64;
+    }
+
+    // Hands a text on to be written, and counts it and what was written of it.
+    pub fn hand_on<W: Write>(&mut self, writer: &mut W, text: &[u8])
+        requires { (self.old.written ≡ self.old.handed) × (self.old.handed + length text.now < 2 ^ 64) }
+        ensures hands_on { HandsOn (length text.now) self.old self.new }
+        ensures bytes { Appends (W.contents writer.old) (W.contents writer.new) (take (self.new.written - self.old.written) text.now) }
+    {
+        let sent = system::send(writer, text);
+        self.handed += text.len() as u64;
+        self.written += sent.written as u64;
+        self.output = sent.last;
     }
 }

@@ -1,18 +1,20 @@
 // The listing (document 01, "A listing, complete"): a line of standard input is a command, and each is answered by a line. Input of any length is
 // read in pieces; what a piece prints is written before the next one is read, so that a person who types sees each answer.
-// No contract can say what is read or written. So the module `system` alone reads and writes, `count` counts what the system returned, and the
+// No contract can say what the system gives or takes. So the module `system` alone reads and writes, `count` counts what was returned, and the
 // contracts tie these counts to the definitions and to the last calls: a read that failed taken for the input's end, output that is lost and not
 // told, a piece that is dropped or taken twice, a text that is not sent or sent twice, a start with something kept, an end before the input's end and
-// a last line that is passed over each make a count wrong.
+// a last line that is passed over each make a count wrong. All but `main` takes any reader and writer, and where their bytes are known, as those of a
+// slice and a `Vec` are, the contracts say which bytes are read and written: `answer_all` writes the listing of all that it reads.
 #![tactic(auto)]
 
-ghost use Rattle.std.specs.Prelude.{◌≡◌, ◌||◌, List, ℕ, ◌+◌, ◌*◌, ◌≤◌, ◌<◌, T, leb, length, take};
+ghost use Rattle.std.specs.Prelude.{◌≡◌, ◌||◌, List, ℕ, ◌+◌, ◌-◌, ◌*◌, ◌≤◌, ◌<◌, T, not, leb, length, take, IfSome};
+ghost use Rattle.std.specs.Io.KnownBytes.{Appends};
 ghost use Rattle.numbers.specs.Numbers.{put};
 ghost use Rattle.lines.specs.code.Sizes.{answer_most};
+ghost use Rattle.stream.specs.Listing.{listing_of};
 ghost use Rattle.stream.specs.Kept.{text_after};
-ghost use Rattle.stream.specs.code.Sessions.{Standing, kept_by};
-ghost use Rattle.listing.specs.System.{moved_by, is_end};
-ghost use Rattle.listing.specs.Run.{read_most, stopped, Went, Ran, CallsTell, complaint_of};
+ghost use Rattle.listing.specs.System.{moved_by, is_end, Takes};
+ghost use Rattle.listing.specs.Run.{read_most, is_lost, stopped, Went, Ran, Passed, Listed, CallsTell, complaint_of};
 ghost use Rattle.listing.specs.code.Turns.{piece_most, is_going, Turned};
 
 use crate::count::Tally;
@@ -33,50 +35,50 @@ const OUT_SIZE: usize = ANSWER_MOST * PIECE_MOST;
 const READ_MOST: u64 = 72_057_594_037_927_936;
 
 // How far a run has come: what it keeps, and what it has done.
-#[derive(Clone, Copy)]
+#[derive(Drop)]
 struct Progress {
     session: Session,
     tally: Tally,
 }
 
-// Reads once, and answers what came: the piece stands at the front of `input` then, and what it prints at the front of `out`.
-fn turn<R: Read, W: Write>(
-    reader: &mut R,
-    writer: &mut W,
-    from: Progress,
-    input: &mut [u8],
-    out: &mut [u8],
-) -> Progress
-    requires standing { Standing from.session × (length input.old ≡ piece_most) × (answer_most * piece_most ≤ length out.old) }
-    requires read_lt_read_most { (from.tally.read < read_most) × (from.tally.handed ≤ answer_most * from.tally.read)
-        × (from.tally.written ≡ from.tally.handed) }
-    ensures standing_2 { Standing result.session }
-    ensures fact { (let piece : List ℕ = take (moved_by result.tally.input.got) input.new in
-        Turned piece (kept_by from.session) (kept_by result.session) from.tally result.tally
-        × (out.new ≡ put 0 (text_after (kept_by from.session) piece) out.old)) }
-{
-    let heard = count::receive(reader, from.tally, input);
-    let n = count::came(heard);
-    let session = from.session;
-    let fed = stream::take_piece(session, &input[..n], out);
-    let filled = fed.filled;
-    let tally = count::hand_on(writer, heard, &out[..filled]);
-    let next = fed.session;
-    Progress {
-        session: next,
-        tally,
+impl Progress {
+    // Reads once, and answers what came: the piece stands at the front of `input` then, and what it prints at the front of `out`.
+    fn turn<R: Read, W: Write>(
+        &mut self,
+        reader: &mut R,
+        writer: &mut W,
+        input: &mut [u8],
+        out: &mut [u8],
+    )
+        requires room { (length input.old ≡ piece_most) × (answer_most * piece_most ≤ length out.old) }
+        requires goes { (self.old.tally.read < read_most) × (self.old.tally.handed ≤ answer_most * self.old.tally.read)
+            × (self.old.tally.written ≡ self.old.tally.handed) }
+        ensures turned { (let piece : List ℕ = take (moved_by self.new.tally.input.got) input.new in
+            Turned piece self.old.session self.new.session self.old.tally self.new.tally
+            × (out.new ≡ put 0 (text_after self.old.session piece) out.old)) }
+        ensures heard { Takes (R.remaining reader.old) (R.remaining reader.new) self.new.tally.input input.new }
+        ensures told { (let piece : List ℕ = take (moved_by self.new.tally.input.got) input.new in
+            (self.old.tally.written ≤ self.new.tally.written)
+            × Appends (W.contents writer.old) (W.contents writer.new)
+            (take (self.new.tally.written - self.old.tally.written) (text_after self.old.session piece))) }
+    {
+        self.tally.receive(reader, input);
+        let n = self.tally.came();
+        let filled = self.session.take_piece(&input[..n], out);
+        self.tally.hand_on(writer, &out[..filled]);
+    }
+
+    // Whether a run goes on.
+    #[tactic(auto, unfolding(crate::specs::code::Turns::is_going))]
+    fn is_going(&self) -> bool
+        ensures { result ≡ is_going self.now.tally }
+    {
+        (self.tally.read() < READ_MOST) & !self.tally.stops()
     }
 }
 
-// Whether a run goes on.
-#[tactic(auto, unfolding(crate::specs::code::Turns::is_going))]
-fn is_going(tally: Tally) -> bool
-    ensures { result ≡ is_going tally }
-{
-    (count::read(tally) < READ_MOST) & !count::stops(tally)
-}
-
 // Reads and answers until the run stops.
+// No range is gone over: what was read decides.
 fn take_all<R: Read, W: Write>(
     reader: &mut R,
     writer: &mut W,
@@ -84,16 +86,19 @@ fn take_all<R: Read, W: Write>(
     out: &mut [u8],
 ) -> Progress
     requires { (length input.old ≡ piece_most) × (answer_most * piece_most ≤ length out.old) }
-    ensures standing { Standing result.session × (result.tally.read < read_most + piece_most) }
-    ensures went { Went result.tally.read result.tally.handed (kept_by result.session) }
+    ensures bounded { result.tally.read < read_most + piece_most }
+    ensures went { Went result.tally.read result.tally.handed result.session }
     ensures calls_tell { CallsTell result.tally × (T (is_end result.tally.input.got) → result.tally.written ≡ result.tally.handed) }
-    ensures t { T (stopped result.tally || leb read_most result.tally.read) }
+    ensures stopped { T (stopped result.tally || leb read_most result.tally.read) }
+    ensures bytes { Passed (R.remaining reader.old) (R.remaining reader.new) (W.contents writer.old) (W.contents writer.new)
+        result.tally result.session }
 {
-    let session = stream::begin();
-    let tally = count::begin();
-    let mut progress = Progress { session, tally };
-    while is_going(progress.tally) {
-        progress = turn(reader, writer, progress, input, out);
+    let mut progress = Progress {
+        session: Session::new(),
+        tally: Tally::new(),
+    };
+    while progress.is_going() {
+        progress.turn(reader, writer, input, out);
     }
     progress
 }
@@ -109,17 +114,18 @@ fn room() -> [u8; OUT_SIZE]
 fn answer_all<R: Read, W: Write>(reader: &mut R, writer: &mut W) -> Tally
     ensures ran { Ran result.read result.handed (is_end result.input.got) }
     ensures calls_tell { CallsTell result × T (stopped result || leb read_most result.read) }
+    ensures bytes { Listed (R.remaining reader.old) (R.remaining reader.new) (W.contents writer.old) (W.contents writer.new) result }
+    ensures listing { T (is_end result.input.got) → T (not (is_lost result))
+        → IfSome (R.remaining reader.old) (λ input. Appends (W.contents writer.old) (W.contents writer.new) (listing_of input)) }
 {
     let mut input = [0u8; PIECE_MOST];
     let mut out = room();
-    let progress = take_all(reader, writer, &mut input, &mut out);
-    let tally = progress.tally;
-    if !count::is_end(tally) {
-        return tally;
+    let Progress { session, mut tally } = take_all(reader, writer, &mut input, &mut out);
+    if tally.is_end() {
+        let filled = session.last_line(&mut out);
+        tally.hand_on(writer, &out[..filled]);
     }
-    let session = progress.session;
-    let filled = stream::last_line(session, &mut out);
-    count::hand_on(writer, tally, &out[..filled])
+    tally
 }
 
 // What a run that loses something says: of two sentences the one for output, or else the one for input.
@@ -127,13 +133,13 @@ fn answer_all<R: Read, W: Write>(reader: &mut R, writer: &mut W) -> Tally
 fn complaint<'a>(tally: Tally, unwritten: &'a [u8], unread: &'a [u8]) -> &'a [u8]
     ensures { result.now ≡ complaint_of tally unwritten.now unread.now }
 {
-    if count::is_lost(tally) {
-        return unwritten;
+    if tally.is_lost() {
+        unwritten
+    } else if tally.is_end() {
+        b""
+    } else {
+        unread
     }
-    if !count::is_end(tally) {
-        return unread;
-    }
-    &unread[..0]
 }
 
 fn main(rt: HostRuntime) {

@@ -1,98 +1,105 @@
-// Reading and writing. `next_read` alone reads, `next_write` alone writes, and each hands on what the system returned as a call, which only this
-// module can make and look into. What follows from a call is decided by functions whose contracts give the answer by a definition.
-ghost use Rattle.std.specs.Prelude.{◌≡◌, not, ◌≤◌, ◌<◌, T, ltb, length, drop};
-ghost use Rattle.listing.specs.System.{moved_by, is_end, is_failure, number_of_kind, error_number, tries_again, tries_most, is_repeated, goes_on};
+// Reading and writing. `receive` alone reads, `send` alone writes, and each hands on what the system returned as a call, which only this module can
+// make and look into. What follows from a call is decided by methods whose contracts give the answer by a definition.
+ghost use Rattle.std.specs.Prelude.{◌≡◌, not, ◌≤◌, ◌<◌, T, ltb, length, take};
+ghost use Rattle.std.specs.Io.KnownBytes.{Appends};
+ghost use Rattle.listing.specs.System.{moved_by, is_end, is_failure, number_of_kind, error_number, returned, tries_again, tries_most, is_repeated};
+ghost use Rattle.listing.specs.System.{goes_on, Takes};
 ghost use Rattle.listing.specs.code.Calls.{no_call, call_after};
 
 use std::io::{Error, ErrorKind, Read, Write};
-use std::thread;
+use std::{io, thread};
 
 // The error numbers of a call that may go well the next time: a signal came, or no byte can be moved yet.
 const EINTR: i32 = 4;
 
 const EAGAIN: i32 = 11;
 
-// A call of the system: what it returned, the error number then, and how many calls for the same bytes have moved nothing by now.
+// A call of the system: how many bytes it moved, or the error number with which it failed, and how many calls for the same bytes have moved nothing
+// by now.
 #[derive(Clone, Copy)]
 pub struct Call {
-    got: isize,
-    error: i32,
+    got: Result<usize, i32>,
     tries: u64,
 }
 
-// Before the first call: as if one had gone well.
-#[tactic(auto, unfolding(crate::specs::code::Calls::no_call))]
-pub fn no_call() -> Call
-    ensures { result ≡ no_call }
-{
-    Call {
-        got: 1,
-        error: 0,
-        tries: 0,
+impl Call {
+    // Before the first call: as if one had gone well.
+    #[tactic(auto, unfolding(crate::specs::code::Calls::no_call))]
+    pub fn none() -> Call
+        ensures { result ≡ no_call }
+    {
+        Call {
+            got: Ok(1),
+            tries: 0,
+        }
     }
-}
 
-// How many bytes a call moved.
-pub fn moved(call: Call) -> usize
-    ensures { result ≡ moved_by call.got }
-{
-    if call.got > 0 { call.got as usize } else { 0 }
-}
+    // How many bytes a call moved.
+    pub fn moved(self) -> usize
+        ensures { result ≡ moved_by self.got }
+    {
+        self.got.unwrap_or(0)
+    }
 
-// Whether a read has found the end of the input.
-pub fn is_end(call: Call) -> bool
-    ensures { result ≡ is_end call.got }
-{
-    call.got == 0
-}
+    // Whether a read has found the end of the input.
+    pub fn is_end(self) -> bool
+        ensures { result ≡ is_end self.got }
+    {
+        matches!(self.got, Ok(0))
+    }
 
-// Whether a call failed.
-pub fn is_failure(call: Call) -> bool
-    ensures { result ≡ is_failure call.got }
-{
-    call.got < 0
-}
+    // Whether a call failed.
+    pub fn is_failure(self) -> bool
+        ensures { result ≡ is_failure self.got }
+    {
+        self.got.is_err()
+    }
 
-// Whether a call may go well the next time: a signal came, or no byte can be moved yet.
-fn tries_again(call: Call) -> bool
-    ensures { result ≡ tries_again call.got call.error }
-{
-    is_failure(call) & ((call.error == EINTR) | (call.error == EAGAIN))
-}
+    // Whether a call may go well the next time: a signal came, or no byte can be moved yet.
+    fn tries_again(self) -> bool
+        ensures { result ≡ tries_again self.got }
+    {
+        match self.got {
+            Ok(_) => false,
+            Err(error) => (error == EINTR) | (error == EAGAIN),
+        }
+    }
 
-// Whether a call is made again.
-#[tactic(auto, unfolding(crate::specs::System::is_repeated))]
-fn is_repeated(call: Call) -> bool
-    ensures { result ≡ is_repeated call }
-{
-    (call.tries < u64::MAX) & tries_again(call)
-}
+    // Whether a call is made again.
+    #[tactic(auto, unfolding(crate::specs::System::is_repeated))]
+    fn is_repeated(self) -> bool
+        ensures { result ≡ is_repeated self }
+    {
+        (self.tries < u64::MAX) & self.tries_again()
+    }
 
-// Whether the bytes that are left are tried: the call moved some, or is made again.
-#[tactic(auto, unfolding(crate::specs::System::goes_on))]
-fn goes_on(call: Call) -> bool
-    ensures { result ≡ goes_on call }
-{
-    (call.tries < u64::MAX) & ((moved(call) > 0) | tries_again(call))
-}
+    // Whether the bytes that are left are tried: the call moved some, or is made again.
+    #[tactic(auto, unfolding(crate::specs::System::goes_on))]
+    fn goes_on(self) -> bool
+        ensures { result ≡ goes_on self }
+    {
+        (self.tries < u64::MAX) & ((self.moved() > 0) | self.tries_again())
+    }
 
-// The call that follows another one: a try more where it moved nothing.
-#[tactic(auto, unfolding(crate::specs::code::Calls::call_after))]
-fn call_after(last: Call, got: isize, error: i32) -> Call
-    requires { last.tries < tries_most }
-    ensures { result ≡ call_after last got error }
-{
-    if got > 0 {
-        return Call {
-            got,
-            error,
-            tries: last.tries,
+    // Where a call failed, others run before the next one.
+    fn give_way(self) {
+        if self.is_failure() {
+            thread::yield_now();
+        }
+    }
+
+    // The call that follows another one and returned this: a try more where it moved nothing.
+    #[tactic(auto, unfolding(crate::specs::code::Calls::call_after))]
+    fn followed_by(self, got: io::Result<usize>) -> Call
+        requires { self.tries < tries_most }
+        ensures { result ≡ call_after self (returned got) }
+    {
+        let got = got.map_err(error_number);
+        let tries = match got {
+            Ok(n) if n > 0 => self.tries,
+            _ => self.tries + 1,
         };
-    }
-    Call {
-        got,
-        error,
-        tries: last.tries + 1,
+        Call { got, tries }
     }
 }
 
@@ -106,7 +113,7 @@ fn error_number(error: Error) -> i32
     }
 }
 
-// The number that a kind of error stands for where the program asks for it, and else 0.
+// The number that a kind of error stands for where the program asks for it, and else 0. These are numbers of the C interface.
 fn number_of_kind(kind: ErrorKind) -> i32
     ensures { result ≡ number_of_kind kind }
 {
@@ -117,53 +124,19 @@ fn number_of_kind(kind: ErrorKind) -> i32
     }
 }
 
-// Reads once. Where the last call failed, others run first.
-#[tactic(auto, unfolding(crate::specs::code::Calls::call_after))]
-fn next_read<R: Read>(reader: &mut R, input: &mut [u8], last: Call) -> Call
-    requires { last.tries < tries_most }
-    ensures { (moved_by result.got ≤ length input.old) × (result ≡ call_after last result.got result.error) }
-{
-    if is_failure(last) {
-        thread::yield_now();
-    }
-    match reader.read(input) {
-        Ok(n) => call_after(last, n as isize, 0),
-        Err(error) => call_after(last, -1, error_number(error)),
-    }
-}
-
-// Reads, and again where nothing can be read yet.
+// Reads, and again where nothing can be read yet: what the system answers ends the loop, and nothing is counted.
 pub fn receive<R: Read>(reader: &mut R, input: &mut [u8]) -> Call
-    ensures { (moved_by result.got ≤ length input.new) × T (not (is_repeated result)) }
+    ensures call { (moved_by result.got ≤ length input.new) × T (not (is_repeated result)) }
+    ensures bytes { Takes (R.remaining reader.old) (R.remaining reader.new) result input.new }
 {
-    let mut last = next_read(reader, input, no_call());
-    while is_repeated(last) {
-        last = next_read(reader, input, last);
+    let mut last = Call::none();
+    loop {
+        last.give_way();
+        last = last.followed_by(reader.read(input));
+        if !last.is_repeated() {
+            return last;
+        }
     }
-    last
-}
-
-// Writes once. Where the last call failed, others run first.
-#[tactic(auto, unfolding(crate::specs::code::Calls::call_after))]
-fn next_write<W: Write>(writer: &mut W, text: &[u8], last: Call) -> Call
-    requires { last.tries < tries_most }
-    ensures { (moved_by result.got ≤ length text.now) × (result ≡ call_after last result.got result.error) }
-{
-    if is_failure(last) {
-        thread::yield_now();
-    }
-    match writer.write(text) {
-        Ok(n) => call_after(last, n as isize, 0),
-        Err(error) => call_after(last, -1, error_number(error)),
-    }
-}
-
-// What is left of a text from a place on.
-fn rest(text: &[u8], at: usize) -> &[u8]
-    requires { at ≤ length text.now }
-    ensures { result.now ≡ drop at text.now }
-{
-    &text[at..]
 }
 
 // How many bytes of a text were written, and the last call.
@@ -173,16 +146,18 @@ pub struct Sent {
     pub last: Call,
 }
 
-// Writes a text, in as many calls as it takes.
+// Writes a text, in as many calls as it takes: how far each comes is the system's to say.
 pub fn send<W: Write>(writer: &mut W, text: &[u8]) -> Sent
-    ensures written_in_bounds { result.written ≤ length text.now }
-    ensures text_value { ltb result.written (length text.now) ≡ not (goes_on result.last) }
+    ensures written { result.written ≤ length text.now }
+    ensures bytes { Appends (W.contents writer.old) (W.contents writer.new) (take result.written text.now) }
+    ensures whole { ltb result.written (length text.now) ≡ not (goes_on result.last) }
 {
     let mut at: usize = 0;
-    let mut last = no_call();
-    while at < text.len() && goes_on(last) {
-        last = next_write(writer, rest(text, at), last);
-        at += moved(last);
+    let mut last = Call::none();
+    while at < text.len() && last.goes_on() {
+        last.give_way();
+        last = last.followed_by(writer.write(&text[at..]));
+        at += last.moved();
     }
     Sent { written: at, last }
 }

@@ -14,9 +14,9 @@ use Rattle.predicates.proofs.LoopLaws.{drop_next}
 use Rattle.message.specs.Words.{payload_size, ends_limit, terms_most, kind_of, payload, word, of_kind, masks, check}
 use Rattle.message.specs.Read.{is_ends, width, span_kinds, middle, kinds_fit, check_fits, pair, span, read_from, read_plain, term_words}
 use Rattle.message.specs.Write.{end_words, front, body, message_words, rewritten_plain_as, rewritten_plain}
-use Rattle.message.specs.declared.Interval.TheVariants.{Span, Bad}
-use Rattle.message.specs.declared.Reading.{Reading}
-use Rattle.message.specs.declared.Reading.TheVariants.{Message, Refused}
+use Rattle.message.specs.Read.{Span, Bad}
+use Rattle.message.specs.Read.{Reading}
+use Rattle.message.specs.Read.{Message, Refused}
 use Rattle.message.proofs.ReadLaws.{Taken, NoTerms, from_in, from_out, read_in, read_out, kind_at, start_bounds, terms-middle-from, terms-middle, length-middle}
 
 -- each term is a mask of 29 bits

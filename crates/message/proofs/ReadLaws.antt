@@ -5,16 +5,25 @@
 use Rattle.std.proofs.Common.{◌≡◌, ℕ, zero, suc, ◌+◌, ◌-◌, ◌*◌, ◌/◌, ◌<◌, ◌≤◌, Bool, true, false, cond, not, ◌||◌, T, eqb, ltb, leb, List, [], ◌∷◌, ◌++◌, length, get_or, take, drop, sym, refl, ap, ◌∙◌, subst, append-nil, arith, eqb→eq, ltb→lt, leb→le, take-append-drop, get_or-drop, get_or-take, le-ltb, eq-eqb, ne_eqb, le-leb}
 use lib.Dec.{eqb-suc-zero}
 use lib.Seq.{slice, slice_empty, length-slice}
-use Rattle.predicates.specs.Lists.{all, keep}
+use mathlib.Core.Logic.{◌⊎◌, inl, inr}
+use lib.Dec.{nltb→le}
+use lib.ListN.{get_or-eq_default}
+use Rattle.std.specs.Prelude.{Result, Ok, Err, IfOk}
+use Rattle.refusals.specs.Refusals.{number_of}
+use Rattle.std.specs.List.{list_all, filter}
+use Rattle.refusals.specs.declared.Refusal.{Refusal}
+use Rattle.refusals.specs.declared.Refusal.TheVariants.{Form}
 use Rattle.predicates.specs.Predicates.{is_normal}
-use Rattle.predicates.proofs.ListLaws.{both_l, both_r, T_true, true_T, cond_ind}
+use Rattle.predicates.proofs.ListLaws.{both_l, both_r, T_true, true_T, cond_ind, split}
 use Rattle.message.specs.Words.{ends_limit, terms_most, plain_words_least, plain_words_most, kind_of, payload, word, of_kind, masks}
 use Rattle.message.specs.Read.{opens, sender_of, term_count, head_word_fits, is_ends, width, start, span_kinds, middle, kinds_fit, check_fits, pair}
 use Rattle.message.specs.Read.{span, with_span, shape_refusal, contents, refused_or, read_from, read_plain, term_words}
-use Rattle.message.specs.declared.Interval.{Interval}
-use Rattle.message.specs.declared.Interval.TheVariants.{Span, Bad}
-use Rattle.message.specs.declared.Reading.{Reading}
-use Rattle.message.specs.declared.Reading.TheVariants.{Message, Refused}
+use Rattle.message.specs.Read.{Interval}
+use Rattle.message.specs.Read.{Span, Bad}
+use Rattle.message.specs.Read.{Reading}
+use Rattle.message.specs.Read.{Message, Refused}
+use Rattle.message.specs.code.Told.{form_of, reading_of}
+use Rattle.message.specs.declared.Message.{Message as Parts}
 
 -- the facts of a message that is taken, whose interval begins at place `at`
 pub record Taken (at : ℕ) (ends : Bool) (ws : List ℕ) (s l r n : ℕ) : Type 0 where
@@ -58,10 +67,10 @@ kind_at k a b i ws t p q h =
     get_or-drop a (take b ws) (i - a) 0 ∙ rw (get_or-take b ws (a + (i - a)) 0 (omega arith)) (ap (λ (j : ℕ). get_or ws j 0) (omega arith)) in
     ap (λ (w : ℕ). kind_of w) (sym e) ∙ at (slice a b ws) (i - a) t (omega (arith, length-slice a b ws h))
   where
-    at : (l : List ℕ) (j : ℕ) → T (all (λ w. eqb (kind_of w) k) l) → j < length l → kind_of (get_or l j 0) ≡ k
+    at : (l : List ℕ) (j : ℕ) → T (list_all (λ w. eqb (kind_of w) k) l) → j < length l → kind_of (get_or l j 0) ≡ k
     at [] j t h = absurd (omega arith)
-    at (w ∷ l) zero t h = eqb→eq (kind_of w) k (both_l (eqb (kind_of w) k) (all (λ w. eqb (kind_of w) k) l) t)
-    at (w ∷ l) (suc j) t h = at l j (both_r (eqb (kind_of w) k) (all (λ w. eqb (kind_of w) k) l) t) (omega arith)
+    at (w ∷ l) zero t h = eqb→eq (kind_of w) k (both_l (eqb (kind_of w) k) (list_all (λ w. eqb (kind_of w) k) l) t)
+    at (w ∷ l) (suc j) t h = at l j (both_r (eqb (kind_of w) k) (list_all (λ w. eqb (kind_of w) k) l) t) (omega arith)
 
 pub start_bounds : (at : ℕ) (ends : Bool) → (at + 3 ≤ start at ends) × (start at ends ≤ at + 4)
 unfolding width
@@ -108,6 +117,10 @@ shape_out at ws e =
     let d = fitted (kinds_fit at ends ws) 14 0 (omega arith) c.1 in
     record { head = a.0; form = b.0; size = eqb→eq (length ws) (start at ends + term_count w + 1) c.0; kinds = d.0 }
 
+pub shaped_count : {at : ℕ} {ws : List ℕ} → Shaped at ws → length (middle at (is_ends at ws) ws) ≡ term_count (get_or ws 0 0)
+unfolding middle
+shaped_count {at} {ws} t = length-slice (start at (is_ends at ws)) (length ws - 1) ws (omega arith) ∙ omega (arith, t)
+
 pub shape_in : {at : ℕ} {ws : List ℕ} → Shaped at ws → shape_refusal at ws ≡ 0
 unfolding shape_refusal
 shape_in {at} {ws} t =
@@ -117,6 +130,37 @@ shape_in {at} {ws} t =
       eq-eqb (length ws) (start at (is_ends at ws) + term_count (get_or ws 0 0) + 1) t.size,
       T_true (kinds_fit at (is_ends at ws) ws) t.kinds,
     )
+
+-- what the code is told of the form
+pub record Opened (at : ℕ) (ends : Bool) (ws : List ℕ) : Type 0 where
+  pub opened : opens at ws ≡ true
+  pub told : ends ≡ is_ends at ws
+  pub in_words : at < length ws
+
+pub form_out : (at : ℕ) (ends : Bool) (ws : List ℕ) → form_of at ws ≡ Ok ends → Opened at ends ws
+unfolding opens is_ends
+form_out at ends ws e = by (opens at ws) refl e
+  where
+    -- behind the last word a word of kind 0 is read, which opens no form
+    in_words : opens at ws ≡ true → at < length ws
+    in_words o = some (split (ltb at (length ws)))
+      where
+        some : T (ltb at (length ws)) ⊎ T (not (ltb at (length ws))) → at < length ws
+        some (inl t) = ltb→lt at (length ws) t
+        some (inr t) =
+            let none : get_or ws at 0 ≡ 0 = get_or-eq_default ws 0 (nltb→le at (length ws) t) in
+            absurd (let z : false ≡ true = rw none at o in cc)
+
+    by : (b : Bool) → opens at ws ≡ b → cond b (Ok (is_ends at ws)) (Err Form) ≡ Ok ends → Opened at ends ws
+    by true o e = record { opened = o; told = cc; in_words = in_words o }
+    by false o e = cc
+
+pub form_none : (at : ℕ) (ws : List ℕ) (refusal : Refusal) → form_of at ws ≡ Err refusal → (opens at ws ≡ false) × (refusal ≡ Form)
+form_none at ws refusal e = by (opens at ws) refl e
+  where
+    by : (b : Bool) → opens at ws ≡ b → cond b (Ok (is_ends at ws)) (Err Form) ≡ Err refusal → (opens at ws ≡ false) × (refusal ≡ Form)
+    by true o e = cc
+    by false o e = (o, cc)
 
 -- ---- from the reading to its facts
 
@@ -235,7 +279,7 @@ drop-cut (suc a) (suc b) (x ∷ l) h = drop-cut a b l (omega arith)
 
 -- the words of kind k
 abbrev pub kept : ℕ → List ℕ → List ℕ
-kept k ws = keep (λ w. eqb (kind_of w) k) ws
+kept k ws = filter (λ w. eqb (kind_of w) k) ws
 
 module _ (k : ℕ) where
   pub kept_same : (l m : List ℕ) → T (of_kind k l) → kept k (l ++ m) ≡ l ++ kept k m
@@ -299,13 +343,6 @@ module _ {at : ℕ} {ends : Bool} {ws : List ℕ} {s l r n : ℕ} (t : Taken at 
       kept-head 6 ws refl (omega arith) ∙ near ∙ kept-span 6 at ends ws (λ j a b. ne_eqb j 6 (λ e. omega arith)) (search both_l depth 9)
       ∙ rw (drop-cut (start at ends) (length ws - 1) ws (omega arith), kept_same 6 (middle at ends ws) _ between, last, append-nil)
 
-  -- the same, counted from the end
-  pub middle-slice : middle at ends ws ≡ slice (length ws - 1 - n) (length ws - 1) ws
-  unfolding middle
-  middle-slice =
-      let from : length ws - 1 - n ≡ start at ends = omega arith in
-      rw from
-
   pub length-middle : length (middle at ends ws) ≡ n
   unfolding middle
   length-middle = length-slice (start at ends) (length ws - 1) ws (omega arith) ∙ omega arith
@@ -314,7 +351,17 @@ module _ {at : ℕ} {ends : Bool} {ws : List ℕ} {s l r n : ℕ} (t : Taken at 
 pub terms-middle : {ends : Bool} {ws : List ℕ} {s l r n : ℕ} → Taken 1 ends ws s l r n → term_words (Message s l r n) ws ≡ middle 1 ends ws
 terms-middle {ends} {ws} t = terms-middle-from t (omega arith) (ap (λ (l : List ℕ). kept 6 l) (slice_empty 1 ws))
 
+-- what the code hands back of a message: its term words, and no epoch words
+pub parts_read : (ws : List ℕ) (got : Result Parts Refusal) → reading_of got ≡ read_plain ws
+    → IfOk got (λ m. (m.terms.now ≡ middle 1 (is_ends 1 ws) ws) × (m.names.now ≡ []))
+    → IfOk got (λ m. (m.terms.now ≡ term_words (read_plain ws) ws) × (m.names.now ≡ []))
+parts_read ws (Ok m) e h = (h.0 ∙ rw (← e) (sym (terms-middle (read_out ws (sym e)))), h.1)
+parts_read ws (Err refusal) e h = tt
+
 -- ---- a refusal has a number above 0
+
+pub number_above : (refusal : Refusal) → 0 < number_of refusal
+number_above refusal = grind arith
 
 unfoldable pub Above : Reading → Type 0
 Above (Refused number) = 0 < number

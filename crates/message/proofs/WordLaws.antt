@@ -1,6 +1,6 @@
 -- Laws of a message's words, on plain values: parts of a message, its terms, one turn of each loop, and what the writers leave.
 -- No contract cites this file. Assumes nothing.
-use Rattle.std.proofs.Common.{◌≡◌, ℕ, zero, suc, ◌+◌, ◌-◌, ◌*◌, ◌/◌, ◌%◌, ◌^◌, ◌<◌, ◌≤◌, Bool, not, ◌&&◌, T, eqb, ltb, List, [], ◌∷◌, map, length, get_or, take, drop, set, sym, refl, ap, ◌∙◌, ap₂, add-zero, add_assoc, arith, eqb→eq, ltb→lt, lt→ltb, length-append, length-drop, drop_of_length-le, take_all, eq-eqb}
+use Rattle.std.proofs.Common.{◌≡◌, ℕ, zero, suc, ◌+◌, ◌-◌, ◌*◌, ◌/◌, ◌%◌, ◌^◌, ◌<◌, ◌≤◌, Bool, not, ◌&&◌, T, eqb, ltb, List, [], ◌∷◌, map, length, get_or, take, drop, set, sym, refl, ap, ◌∙◌, ap₂, add-zero, zero-add, add_assoc, arith, eqb→eq, ltb→lt, lt→ltb, length-append, length-drop, take_all, eq-eqb}
 use native.Mathlib.Nat.{mod-add-mod, sub-zero, suc-sub-suc}
 use lib.Bits.{bit_and, and_shr, and_mod, and_self}
 use lib.Pow.{mod-mod-pow}
@@ -8,14 +8,15 @@ use lib.ListN.{length-map}
 use lib.Seq.{slice, take-nil}
 use Rattle.names.specs.Sets.{subset}
 use Rattle.names.proofs.SetLaws.{test_ext}
-use Rattle.predicates.specs.Lists.{all}
+use mathlib.Core.Bool.{true, and-true, and_assoc}
+use Rattle.std.specs.List.{list_all, fold}
 use Rattle.predicates.specs.Predicates.{precedes, is_normal}
 use Rattle.predicates.proofs.ListLaws.{both_l, both_r, true_T}
 use Rattle.predicates.proofs.LoopLaws.{drop_next}
 use Rattle.numbers.specs.Numbers.{put}
 use Rattle.numbers.proofs.NumberLaws.{put_then, take_put}
 use Rattle.message.specs.Words.{kind_of, payload, word, of_kind, masks, word_sum, check}
-use Rattle.message.specs.Read.{start, middle, kinds_fit}
+use Rattle.message.specs.Read.{middle, kinds_fit}
 use Rattle.message.specs.Write.{end_words, front, body, message_words}
 
 -- ---- a part of a slice
@@ -34,6 +35,15 @@ part_rest f ws = take_all (length ws - f) (drop f ws) (omega (arith, length-drop
 -- a test of the code's part
 pub part_kind : (k f t : ℕ) (ws : List ℕ) {r : Bool} → r ≡ of_kind k (take (t - f) (drop f ws)) → r ≡ of_kind k (slice f t ws)
 part_kind k f t ws e = e ∙ ap (λ (l : List ℕ). of_kind k l) (part_slice f t ws)
+
+-- a test carried along, without an early exit
+pub fold_kind : (k : ℕ) (ws : List ℕ) → fold (λ ok w. ok && eqb (kind_of w) k) true ws ≡ of_kind k ws
+unfolding of_kind
+fold_kind k ws = by ws true
+  where
+    by : (ws : List ℕ) (ok : Bool) → fold (λ ok w. ok && eqb (kind_of w) k) ok ws ≡ (ok && list_all (λ w. eqb (kind_of w) k) ws)
+    by [] ok = sym (and-true ok)
+    by (w ∷ ws) ok = by ws (ok && eqb (kind_of w) k) ∙ and_assoc ok (eqb (kind_of w) k) (list_all (λ w. eqb (kind_of w) k) ws)
 
 -- ---- terms: words of one kind stand in the order of their payloads
 
@@ -56,7 +66,7 @@ module _ (a b : ℕ) (e : kind_of a ≡ kind_of b) where
   precedes-payload : precedes (payload a) (payload b) ≡ precedes a b
   precedes-payload = ap₂ (λ (x y : Bool). x && not y) payload_less payload-subset
 
-precedes_payloads : (k w : ℕ) (ws : List ℕ) → kind_of w ≡ k → T (of_kind k ws) → all (λ u. precedes (payload w) u) (masks ws) ≡ all (λ u. precedes w u) ws
+precedes_payloads : (k w : ℕ) (ws : List ℕ) → kind_of w ≡ k → T (of_kind k ws) → list_all (λ u. precedes (payload w) u) (masks ws) ≡ list_all (λ u. precedes w u) ws
 unfolding of_kind masks
 precedes_payloads k w [] e t = refl
 precedes_payloads k w (u ∷ ws) e t =
@@ -73,28 +83,25 @@ normal-words k (w ∷ ws) t =
     ap₂ (λ (x y : Bool). x && y) (precedes_payloads k w ws here rest) (normal-words k ws rest)
 
 -- the code tests the words between the interval and the last one, kinds included
-pub normal-middle : (at : ℕ) (ends : Bool) (ws : List ℕ) (from : ℕ) → from ≡ start at ends → T (kinds_fit at ends ws) →
-    is_normal (take (length ws - 1 - from) (drop from ws)) ≡ is_normal (masks (middle at ends ws))
-unfolding kinds_fit middle
-normal-middle at ends ws from e t =
-    let six : T (of_kind 6 (slice (start at ends) (length ws - 1) ws)) = search (both_l, both_r) depth 9 in
-    rw (e, part_slice (start at ends) (length ws - 1) ws) (sym (normal-words 6 (slice (start at ends) (length ws - 1) ws) six))
+pub normal-middle : (at : ℕ) (ends : Bool) (ws : List ℕ) → T (kinds_fit at ends ws) → is_normal (masks (middle at ends ws)) ≡ is_normal (middle at ends ws)
+unfolding kinds_fit
+normal-middle at ends ws t = normal-words 6 (middle at ends ws) (search (both_l, both_r) depth 9)
 
 -- ---- the sum, wrapping
 
--- a turn of the loop: r is the sum so far with one word more
-pub sum_next : (acc i r t : ℕ) (ws : List ℕ) → i < length ws → r ≡ (acc + get_or ws i 0) % 2 ^ 32
-    → (acc + word_sum (drop i ws)) % 2 ^ 32 ≡ t → (r + word_sum (drop (i + 1) ws)) % 2 ^ 32 ≡ t
+fold_from : (ws : List ℕ) (a : ℕ) → fold (λ sum w. (sum + w) % 2 ^ 32) a ws % 2 ^ 32 ≡ (a + word_sum ws) % 2 ^ 32
 unfolding word_sum
-sum_next acc i r t ws h e p =
-    rw (e, mod-add-mod (acc + get_or ws i 0) (2 ^ 32) (word_sum (drop (i + 1) ws)), add_assoc acc (get_or ws i 0) (word_sum (drop (i + 1) ws))) (rw (drop_next ws i h) at p)
+fold_from [] a = rw add-zero
+fold_from (w ∷ ws) a =
+    fold_from ws ((a + w) % 2 ^ 32) ∙ mod-add-mod (a + w) (2 ^ 32) (word_sum ws) ∙ rw (add_assoc a w (word_sum ws))
 
--- at its end: what wrapping lost lies above the low 29 bits
-pub sum_done : (acc i : ℕ) (ws : List ℕ) → length ws ≤ i → (acc + word_sum (drop i ws)) % 2 ^ 32 ≡ word_sum ws % 2 ^ 32 → acc % 2 ^ 29 ≡ check ws
-unfolding word_sum check
-sum_done acc i ws h e =
-    let f : acc % 2 ^ 32 ≡ word_sum ws % 2 ^ 32 = rw (drop_of_length-le ws {i = i} h, add-zero) at e in
-    sym (mod-mod-pow acc 3 29) ∙ ap (λ (x : ℕ). x % 2 ^ 29) f ∙ mod-mod-pow (word_sum ws) 3 29
+-- what wrapping lost lies above the low 29 bits
+pub fold_sum : (ws : List ℕ) → fold (λ sum w. (sum + w) % 2 ^ 32) 0 ws % 2 ^ 29 ≡ check ws
+unfolding check
+fold_sum ws =
+    let sum = fold (λ sum w. (sum + w) % 2 ^ 32) 0 ws in
+    let e : sum % 2 ^ 32 ≡ word_sum ws % 2 ^ 32 = fold_from ws 0 ∙ rw zero-add in
+    sym (mod-mod-pow sum 3 29) ∙ ap (λ (x : ℕ). x % 2 ^ 29) e ∙ mod-mod-pow (word_sum ws) 3 29
 
 -- ---- writing
 

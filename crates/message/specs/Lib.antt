@@ -1,3 +1,4 @@
 pub mod Words
 pub mod Read
 pub mod Write
+pub mod code

@@ -3,13 +3,19 @@
 use Rattle.std.specs.Prelude.{ℕ, ◌+◌, ◌-◌, ◌*◌, ◌/◌, ◌%◌, Bool, cond, not, ◌&&◌, ◌||◌}
 use Rattle.std.specs.Prelude.{List, [], length, take, drop, ◌==◌, nat_eq, nat_le, nat_lt, slice_index, slice_index_or}
 use Rattle.std.proofs.Math.Seq.{slice}
-use Rattle.predicates.specs.Lists.{keep}
+use Rattle.std.specs.List.{filter}
 use Rattle.predicates.specs.Predicates.{is_normal}
 use Rattle.message.specs.Words.{payload_size, ends_limit, terms_most, plain_words_least, plain_words_most, kind_of, payload, of_kind, masks, check}
-use Rattle.message.specs.declared.Interval.{Interval}
-use Rattle.message.specs.declared.Interval.TheVariants.{Span, Bad}
-use Rattle.message.specs.declared.Reading.{Reading}
-use Rattle.message.specs.declared.Reading.TheVariants.{Message, Refused}
+
+-- an interval of instants, left at most right, both from 0 to 2^58 - 1; or none
+pub data Interval : Type 0 where
+  Span : ℕ → ℕ → Interval
+  Bad : Interval
+
+-- a message that is taken: sender, left, right and term count; or the number of its refusal
+pub data Reading : Type 0 where
+  Message : ℕ → ℕ → ℕ → ℕ → Reading
+  Refused : ℕ → Reading
 
 -- ---- the head: "sender in bits 0–4, term count (0 to 8) in bits 5–9, bits 10–28 zero"
 
@@ -118,7 +124,7 @@ read_plain ws = cond (nat_lt (length ws) plain_words_least || nat_lt plain_words
 -- "hands back the term words": the words of kind 6 of a message that is taken
 unfoldable pub term_words : Reading → List ℕ → List ℕ
 term_words (Refused number) ws = []
-term_words (Message sender left right count) ws = keep (λ w. nat_eq (kind_of w) 6) ws
+term_words (Message sender left right count) ws = filter (λ w. nat_eq (kind_of w) 6) ws
 
 -- "A refusal is its number alone. 0 means taken."
 unfoldable pub reading_number : Reading → ℕ

@@ -1,7 +1,7 @@
 -- The words of a radio message (document 01, "The radio message"): 32 bits, "the top 3 are its kind and the low 29 its payload".
 -- Assumes nothing: these are definitions.
 use Rattle.std.specs.Prelude.{ℕ, ◌+◌, ◌*◌, ◌/◌, ◌%◌, ◌^◌, Bool, List, [], ◌∷◌, map, nat_eq}
-use Rattle.predicates.specs.Lists.{all}
+use Rattle.std.specs.List.{list_all}
 
 -- "the low 29 its payload": payloads are below this, and a word's kind counts in it
 abbrev pub payload_size : ℕ
@@ -43,7 +43,7 @@ word kind x = kind * payload_size + x
 
 -- each word is of this kind
 unfoldable pub of_kind : ℕ → List ℕ → Bool
-of_kind kind ws = all (λ w. nat_eq (kind_of w) kind) ws
+of_kind kind ws = list_all (λ w. nat_eq (kind_of w) kind) ws
 
 -- the terms that term words carry
 unfoldable pub masks : List ℕ → List ℕ

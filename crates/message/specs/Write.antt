@@ -2,8 +2,8 @@
 use Rattle.std.specs.Prelude.{ℕ, ◌+◌, ◌*◌, ◌/◌, ◌%◌, List, [], ◌∷◌, ◌++◌, map, length}
 use Rattle.message.specs.Words.{payload_size, word, masks, check}
 use Rattle.message.specs.Read.{read_plain, term_words}
-use Rattle.message.specs.declared.Reading.{Reading}
-use Rattle.message.specs.declared.Reading.TheVariants.{Message, Refused}
+use Rattle.message.specs.Read.{Reading}
+use Rattle.message.specs.Read.{Message, Refused}
 
 -- "two words of kind 2 (left end, high 29 bits then low) and two of kind 3 (right end)"
 unfoldable pub end_words : ℕ → ℕ → List ℕ

@@ -2,6 +2,9 @@
 // Every function here is proved, and the crate assumes nothing of its own.
 #![tactic(auto)]
 
+ghost use Rattle.std.specs.Prelude.{◌≡◌};
+ghost use Rattle.message.specs.Read.{sender_of, term_count, head_word_fits};
+
 pub mod read;
 pub mod write;
 
@@ -21,16 +24,44 @@ pub const PAYLOAD_SIZE: u32 = 536_870_912;
 // The first end that two words cannot hold.
 pub const ENDS_LIMIT: u64 = 288_230_376_151_711_744;
 
-// An interval of instants, left at most right, both from 0 to 2^58 - 1; or none.
+// The first word of a message: the sender in bits 0 to 4, the term count in bits 5 to 9.
 #[derive(Clone, Copy)]
-pub enum Interval {
-    Span(u64, u64),
-    Bad,
+pub struct Head {
+    pub word: u32,
 }
 
-// A message that is taken: sender, left, right and term count; or the number of its refusal.
+impl Head {
+    // Who sent the message.
+    pub fn sender(self) -> u32
+        ensures { result ≡ sender_of self.word }
+    {
+        self.word % 32
+    }
+
+    // How many terms the message has.
+    pub fn term_count(self) -> usize
+        ensures { result ≡ term_count self.word }
+    {
+        (self.word / 32 % 32) as usize
+    }
+
+    // Whether the word is of kind 1, and no part of it is too great.
+    #[tactic(auto, unfolding(crate::specs::Read::head_word_fits))]
+    pub fn fits(self) -> bool
+        ensures { result ≡ head_word_fits self.word }
+    {
+        (read::kind(self.word) == 1)
+            & ((self.sender() <= 28)
+                & ((self.term_count() <= TERMS_MOST) & (read::payload(self.word) / 1024 == 0)))
+    }
+}
+
+// A message that is taken. Its term words (kind 6) and its epoch words (kind 0, none in a plain message) are parts of the caller's slice.
 #[derive(Clone, Copy)]
-pub enum Reading {
-    Message(u32, u64, u64, u32),
-    Refused(u32),
+pub struct Message<'a> {
+    pub sender: u32,
+    pub left: u64,
+    pub right: u64,
+    pub terms: &'a [u32],
+    pub names: &'a [u32],
 }

@@ -1,19 +1,25 @@
 // Reading: a function for each test of document 01, in its order 10, 12, 11, 13 to 17.
-ghost use Rattle.std.specs.Prelude.{◌≡◌, ◌+◌, ◌<◌, ◌≤◌, length, slice_index};
-ghost use Rattle.message.specs.Words.{payload_size, ends_limit, kind_of, payload as the_payload, of_kind, check};
-ghost use Rattle.message.specs.Read.{head_word_fits, width, start, span_kinds, kinds_fit, check_fits, pair};
-ghost use Rattle.message.specs.Read.{span, shape_refusal, contents, read_plain, term_words, reading_number};
+ghost use Rattle.std.specs.Prelude.{◌≡◌, ◌+◌, ◌<◌, ◌≤◌, [], length, slice_index, IfOk};
+ghost use Rattle.refusals.specs.Refusals.{number};
+ghost use Rattle.message.specs.Words.{payload_size, ends_limit, kind_of, payload, of_kind, check};
+ghost use Rattle.message.specs.Read.{width, start, span_kinds, kinds_fit, check_fits, pair, span, is_ends, middle};
+ghost use Rattle.message.specs.Read.{opens, shape_refusal, contents, read_plain, term_words};
+ghost use Rattle.message.specs.code.Told.{interval_of, form_of, reading_of};
 
-use super::{ENDS_LIMIT, Interval, PAYLOAD_SIZE, Reading, TERMS_MOST, WORDS_LEAST, WORDS_MOST};
+use super::{ENDS_LIMIT, Head, Message, PAYLOAD_SIZE, WORDS_LEAST, WORDS_MOST};
+use refusals::Refusal;
 
+// A word's kind: its top 3 bits.
+// A kind stays a number: it is three bits of a word, and only compared.
 pub fn kind(w: u32) -> u32
     ensures { (result ≡ kind_of w) × (result < 8) }
 {
     w / PAYLOAD_SIZE
 }
 
-fn payload(w: u32) -> u32
-    ensures { (result ≡ the_payload w) × (result < payload_size) }
+// Its payload: the low 29 bits.
+pub fn payload(w: u32) -> u32
+    ensures { (result ≡ payload w) × (result < payload_size) }
 {
     w % PAYLOAD_SIZE
 }
@@ -22,44 +28,23 @@ fn payload(w: u32) -> u32
 fn of_kind(words: &[u32], k: u32) -> bool
     ensures { result ≡ of_kind k words.now }
 {
-    let mut ok = true;
-    let mut i: usize = 0;
-    while i < words.len() {
-        ok = ok & (kind(words[i]) == k);
-        i += 1;
-    }
-    ok
+    words.iter().fold(true, |ok, w| ok & (kind(*w) == k))
 }
 
 // The check word's payload: the sum of the words, wrapping, modulo 2^29.
 pub(crate) fn check_of(words: &[u32]) -> u32
     ensures { (result ≡ check words.now) × (result < payload_size) }
 {
-    let mut sum: u32 = 0;
-    let mut from: usize = 0;
-    while from < words.len() {
-        sum = std::num::wrapping_add_u32(sum, words[from]);
-        from += 1;
-    }
-    sum % PAYLOAD_SIZE
-}
-
-fn head_word_fits(head: u32) -> bool
-    ensures { result ≡ head_word_fits head }
-{
-    (kind(head) == 1)
-        & ((head % 32 <= 28)
-            & ((head / 32 % 32 <= TERMS_MOST as u32) & (payload(head) / 1024 == 0)))
+    words.iter().fold(0u32, |sum, w| sum.wrapping_add(*w)) % PAYLOAD_SIZE
 }
 
 // How many words the interval has.
+// `ends` is as in the definitions: ends form, or else centre form.
+#[tactic(auto, unfolding(crate::specs::Read::width))]
 fn width(ends: bool) -> usize
     ensures { (result ≡ width ends) × (3 ≤ result) × (result ≤ 4) }
 {
-    if ends {
-        return 4;
-    }
-    3
+    if ends { 4 } else { 3 }
 }
 
 // Whether the words of the interval, which begins at place `at`, are of their kinds.
@@ -84,6 +69,8 @@ fn kinds_fit(words: &[u32], at: usize, ends: bool) -> bool
     span_kinds(words, at, ends) & (of_kind(&words[from..last], 6) & of_kind(&words[last..], 7))
 }
 
+// Whether the last word is the check word of all before it.
+#[tactic(auto, unfolding(crate::specs::Read::check_fits))]
 fn check_fits(words: &[u32]) -> bool
     requires { 1 ≤ length words.now }
     ensures { result ≡ check_fits words.now }
@@ -93,129 +80,124 @@ fn check_fits(words: &[u32]) -> bool
 }
 
 // The number in the words at i and i + 1.
+#[tactic(auto, unfolding(crate::specs::Read::pair))]
 fn pair(words: &[u32], i: usize) -> u64
     requires { i + 1 < length words.now }
     ensures { (result ≡ pair words.now i) × (result < ends_limit) }
 {
-    (payload(words[i]) as u64) * (PAYLOAD_SIZE as u64) + (payload(words[i + 1]) as u64)
+    u64::from(payload(words[i])) * u64::from(PAYLOAD_SIZE) + u64::from(payload(words[i + 1]))
+}
+
+// An interval of instants, left at most right, both from 0 to 2^58 - 1.
+#[derive(Clone, Copy)]
+struct Ends {
+    left: u64,
+    right: u64,
 }
 
 // The interval that begins at place `at`.
-fn span(words: &[u32], at: usize, ends: bool) -> Interval
+#[tactic(auto, unfolding(crate::specs::Read::span))]
+fn span(words: &[u32], at: usize, ends: bool) -> Option<Ends>
     requires { at + 4 ≤ length words.now }
-    ensures { result ≡ span at ends words.now }
+    ensures { interval_of result ≡ span at ends words.now }
 {
     let a = pair(words, at);
     if ends {
         let b = pair(words, at + 2);
         if a <= b {
-            return Interval::Span(a, b);
+            return Some(Ends { left: a, right: b });
         }
-        return Interval::Bad;
+        return None;
     }
-    let half = payload(words[at + 2]) as u64;
+    let half = u64::from(payload(words[at + 2]));
     if half <= a {
         if a + half < ENDS_LIMIT {
-            return Interval::Span(a - half, a + half);
+            return Some(Ends {
+                left: a - half,
+                right: a + half,
+            });
         }
     }
-    Interval::Bad
+    None
 }
 
-// The kind of the word at place `at`; 0 behind the last word.
-fn kind_at(words: &[u32], at: usize) -> u32
-    ensures { (result ≡ kind_of (slice_index words.now at)) × (0 < result → at < length words.now) }
+// Whether the word at place `at` opens ends form, or centre form; it may open neither.
+#[tactic(auto, unfolding(crate::specs::Read::opens, crate::specs::Read::is_ends))]
+fn form(words: &[u32], at: usize) -> Result<bool, Refusal>
+    ensures { result ≡ form_of at words.now }
 {
-    if at < words.len() {
-        return kind(words[at]);
+    match words.get(at).map(|w| kind(*w)) {
+        Some(2) => Ok(true),
+        Some(4) => Ok(false),
+        _ => Err(Refusal::Form),
     }
-    0
 }
 
-// The refusal of 12, 11, 13 and 14, or 0: what can be told without the payloads. The interval begins at place `at`.
-pub fn shape(words: &[u32], at: usize) -> u32
+// The refusals 12, 11, 13 and 14: what can be told without the payloads. The interval begins at place `at`.
+pub fn shape(words: &[u32], at: usize) -> Result<(), Refusal>
     requires { (1 ≤ length words.now) × (at ≤ length words.now) }
-    ensures { result ≡ shape_refusal at words.now }
+    ensures { number result ≡ shape_refusal at words.now }
 {
-    let first = words[0];
-    let head = head_word_fits(first);
-    let opening = kind_at(words, at);
-    let form = (opening == 2) | (opening == 4);
-    if !head {
-        return 12;
+    let head = Head { word: words[0] };
+    if !head.fits() {
+        return Err(Refusal::Head);
     }
-    if !form {
-        return 11;
-    }
-    let ends = opening == 2;
-    if words.len() - 1 - at != width(ends) + (first / 32 % 32) as usize {
-        return 13;
+    let ends = form(words, at)?;
+    if words.len() - 1 - at != width(ends) + head.term_count() {
+        return Err(Refusal::Length);
     }
     if !kinds_fit(words, at, ends) {
-        return 14;
+        return Err(Refusal::Kind);
     }
-    0
+    Ok(())
+}
+
+// The term words of a message of that shape: those between the interval and the last word.
+pub fn terms(words: &[u32], at: usize) -> &[u32]
+    requires { shape_refusal at words.now ≡ 0 }
+    ensures { result.now ≡ middle at (is_ends at words.now) words.now }
+{
+    let end = words.len() - 1;
+    let from = end - Head { word: words[0] }.term_count();
+    &words[from..end]
 }
 
 // What a message of that shape says, or its refusal by 15, 16 or 17.
-pub fn contents(words: &[u32], at: usize) -> Reading
+pub fn contents(words: &[u32], at: usize) -> Result<Message<'_>, Refusal>
     requires { shape_refusal at words.now ≡ 0 }
-    ensures { result ≡ contents at words.now }
+    ensures value { reading_of result ≡ contents at words.now }
+    ensures parts { IfOk result (λ m. (m.terms.now ≡ middle at (is_ends at words.now) words.now) × (m.names.now ≡ [])) }
 {
-    let head = words[0];
-    let ends = kind(words[at]) == 2;
-    let last = words.len() - 1;
     if !check_fits(words) {
-        return Reading::Refused(15);
+        return Err(Refusal::Check);
     }
-    let interval = span(words, at, ends);
-    let Interval::Span(left, right) = interval else {
-        return Reading::Refused(16);
+    let ends = kind(words[at]) == 2;
+    let Some(interval) = span(words, at, ends) else {
+        return Err(Refusal::Interval);
     };
-    let from = at + width(ends);
-    if !predicates::is_normal(&words[from..last]) {
-        return Reading::Refused(17);
+    let terms = terms(words, at);
+    if !predicates::is_normal(terms) {
+        return Err(Refusal::Terms);
     }
-    Reading::Message(head % 32, left, right, head / 32 % 32)
+    let head = Head { word: words[0] };
+    Ok(Message {
+        sender: head.sender(),
+        left: interval.left,
+        right: interval.right,
+        terms,
+        names: &words[..0],
+    })
 }
 
 // The message in the words, or its first refusal.
-pub fn read(words: &[u32]) -> Reading
-    ensures { result ≡ read_plain words.now }
+pub fn read(words: &[u32]) -> Result<Message<'_>, Refusal>
+    ensures value { reading_of result ≡ read_plain words.now }
+    ensures parts { IfOk result (λ m. (m.terms.now ≡ term_words (read_plain words.now) words.now) × (m.names.now ≡ [])) }
 {
     let n = words.len();
-    if n < WORDS_LEAST {
-        return Reading::Refused(10);
+    if (n < WORDS_LEAST) | (WORDS_MOST < n) {
+        return Err(Refusal::WordCount);
     }
-    if WORDS_MOST < n {
-        return Reading::Refused(10);
-    }
-    let number = shape(words, 1);
-    if number != 0 {
-        return Reading::Refused(number);
-    }
+    shape(words, 1)?;
     contents(words, 1)
-}
-
-// The number of a refusal, 0 for a message that is taken.
-pub fn refusal(got: Reading) -> u32
-    ensures { result ≡ reading_number got }
-{
-    match got {
-        Reading::Refused(number) => number,
-        Reading::Message(_, _, _, _) => 0,
-    }
-}
-
-// The term words of a message that was read: exactly its words of kind 6, as a part of the caller's slice.
-pub fn term_words(words: &[u32], got: Reading) -> &[u32]
-    requires { got ≡ read_plain words.now }
-    ensures { result.now ≡ term_words got words.now }
-{
-    let Reading::Message(_, _, _, count) = got else {
-        return &words[..0];
-    };
-    let from = words.len() - 1 - count as usize;
-    let end = words.len() - 1;
-    &words[from..end]
 }

@@ -1,12 +1,16 @@
 // Writing in ends form.
-ghost use Rattle.std.specs.Prelude.{◌≡◌, ◌+◌, ◌/◌, ◌%◌, ◌<◌, ◌≤◌, [], ◌∷◌, map, length};
+ghost use Rattle.std.specs.Prelude.{◌≡◌, ◌+◌, ◌/◌, ◌%◌, ◌<◌, ◌≤◌, [], ◌∷◌, map, length, IfOk};
 ghost use Rattle.numbers.specs.Numbers.{put};
 ghost use Rattle.message.specs.Words.{payload_size, ends_limit, terms_most, plain_words_most, word, masks};
-ghost use Rattle.message.specs.Read.{read_plain};
+ghost use Rattle.message.specs.Read.{read_plain, term_words};
 ghost use Rattle.message.specs.Write.{end_words, message_words, rewritten_plain};
+ghost use Rattle.message.specs.code.Told.{reading_of};
 
-use super::{PAYLOAD_SIZE, Reading};
+use super::{Message, PAYLOAD_SIZE};
+use refusals::Refusal;
 
+// Writes the word of a kind with a payload.
+#[tactic(auto, unfolding(numbers::specs::Numbers::put))]
 fn put_word(out: &mut [u32], at: usize, kind: u32, x: u32)
     requires { (at < length out.old) × (kind < 8) × (x < payload_size) }
     ensures { out.new ≡ put at (word kind x ∷ []) out.old }
@@ -37,42 +41,38 @@ fn put_terms(out: &mut [u32], at: usize, terms: &[u32])
     requires { at + length terms.now ≤ length out.old }
     ensures { out.new ≡ put at (map (λ t. word 6 t) (masks terms.now)) out.old }
 {
-    let mut i: usize = 0;
-    while i < terms.len() {
-        out[at + i] = 6 * PAYLOAD_SIZE + terms[i] % PAYLOAD_SIZE;
-        i += 1;
+    for (i, term) in terms.iter().enumerate() {
+        out[at + i] = 6 * PAYLOAD_SIZE + super::read::payload(*term);
     }
 }
 
-// Writes a message in ends form, `more` right behind its head; its terms are the low 29 bits of `terms`, masks or term words.
-pub fn write(out: &mut [u32], sender: u32, more: &[u32], left: u64, right: u64, terms: &[u32])
-    requires sender_bound { (sender < 32) × (left < ends_limit) × (right < ends_limit) × (length terms.now ≤ terms_most) }
-    requires terms_in_bounds { length more.now + length terms.now + 6 ≤ length out.old }
-    ensures { out.new ≡
-        put 0 (message_words sender more.now left right (masks terms.now)) out.old }
+// Writes a message in ends form, its names right behind its head; its terms are the low 29 bits of `terms`, masks or term words.
+pub fn write(out: &mut [u32], message: &Message<'_>)
+    requires sender_bound { (message.now.sender < 32) × (message.now.left < ends_limit) × (message.now.right < ends_limit)
+        × (length message.now.terms.now ≤ terms_most) }
+    requires terms_in_bounds { length message.now.names.now + length message.now.terms.now + 6 ≤ length out.old }
+    ensures { out.new ≡ put 0
+        (message_words message.now.sender message.now.names.now message.now.left message.now.right (masks message.now.terms.now)) out.old }
 {
-    let count = terms.len();
-    let at = more.len() + 1;
-    put_word(out, 0, 1, sender + 32 * count as u32);
-    predicates::sums::copy(out, 1, more);
-    put_ends(out, at, left, right);
-    put_terms(out, at + 4, terms);
+    let count = message.terms.len();
+    let at = message.names.len() + 1;
+    put_word(out, 0, 1, message.sender + 32 * count as u32);
+    predicates::sums::copy(out, 1, message.names);
+    put_ends(out, at, message.left, message.right);
+    put_terms(out, at + 4, message.terms);
     let last = at + 4 + count;
     let sum = super::read::check_of(&out[..last]);
     put_word(out, last, 7, sum);
 }
 
 // Reads a message and, where it is taken, writes it in ends form; a refused one writes nothing.
-pub fn rewrite(words: &[u32], out: &mut [u32]) -> Reading
+pub fn rewrite<'a>(words: &'a [u32], out: &mut [u32]) -> Result<Message<'a>, Refusal>
     requires { plain_words_most ≤ length out.old }
-    ensures value { result ≡ read_plain words.now }
+    ensures value { reading_of result ≡ read_plain words.now }
+    ensures parts { IfOk result (λ m. (m.terms.now ≡ term_words (read_plain words.now) words.now) × (m.names.now ≡ [])) }
     ensures out_after { out.new ≡ put 0 (rewritten_plain words.now) out.old }
 {
-    let got = super::read::read(words);
-    let Reading::Message(sender, left, right, _) = got else {
-        return got;
-    };
-    let terms = super::read::term_words(words, got);
-    write(out, sender, &words[1..1], left, right, terms);
-    got
+    let message = super::read::read(words)?;
+    write(out, &message);
+    Ok(message)
 }

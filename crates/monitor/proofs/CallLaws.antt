@@ -5,28 +5,27 @@
 use Prim.Native.Nat.{ℕ, zero, suc, ◌+◌, ◌*◌, ◌%◌, ◌^◌, ◌≤◌, ◌<◌}
 use mathlib.Core.Path.{◌≡◌, refl, sym, ap, ◌∙◌}
 use mathlib.Core.Bool.{not}
-use mathlib.Core.List.{List, [], ◌∷◌, ◌++◌}
+use mathlib.Core.List.{List, [], ◌∷◌}
 use native.Mathlib.Omega.{arith}
 use borrow.Author.Tests.{le-ltb, eq-eqb, leb-false, ltb-false}
 use lib.Dec.{T, leb, ltb, ltb→lt}
 use lib.ListN.{length, get_or, take}
-use lib.Seq.{take-append-le}
-use Rattle.numbers.specs.Numbers.{num, bytes, tab, Words, words_of, bytes_of, put}
-use Rattle.numbers.proofs.NumberLaws.{length-tab, length-bytes_of, words-bytes, take_put}
-use Rattle.predicates.specs.Lists.{all}
+use Rattle.numbers.specs.Numbers.{num, bytes, Words, words_of, bytes_of, put}
+use Rattle.numbers.proofs.NumberLaws.{length-bytes_of, words-bytes, take_put}
+use Rattle.std.specs.List.{list_all}
 use Rattle.predicates.specs.Predicates.{is_normal}
 use Rattle.predicates.proofs.ListLaws.{both_l, both_r, T_false}
 use Rattle.message.specs.Words.{payload, masks, ends_limit}
 use Rattle.message.specs.Read.{term_words}
 use Rattle.message.specs.Write.{message_words}
-use Rattle.message.specs.declared.Reading.TheVariants.{Message}
+use Rattle.message.specs.Read.{Message}
 use Rattle.message.proofs.MessageLaws.{Masks, length-message-more}
 use Rattle.epochs.specs.Epochs.{epoch_most, epochs_most, epochs_in}
 use Rattle.radio.specs.Names.{wanted, names_fit, names_of}
 use Rattle.radio.specs.Read.{epoch_words}
 use Rattle.radio.proofs.NameLaws.{fit_few, wanted_lt}
 use Rattle.radio.proofs.MessageLaws.{names_known, words-message, read-write, terms-write, epochs-write}
-use Rattle.state.specs.Layout.{datum_place, masks_at, row_at, datum_at, held_count, own_at, epochs_at, left_millionths_in, row_in, datum_terms}
+use Rattle.state.specs.Layout.{datum_place, row_at, datum_at, held_count, own_at, epochs_at, left_millionths_in, row_in, datum_terms}
 use Rattle.state.specs.Form.{term_fits, terms_fit, in_form}
 use Rattle.state.proofs.StateLaws.{form-datum, datum_at_ok, length-datum_at, epochs_fit_lem}
 use Rattle.state.specs.Refusal.{after}
@@ -40,17 +39,17 @@ use Rattle.ends.specs.declared.Ends.{Ends}
 use Rattle.ends.specs.Ends.{down, up, count_of, Split, BothSplit}
 use Rattle.ends.proofs.EndLaws.{count-whole}
 use Rattle.state.specs.Model.{name_most}
-use Rattle.state.specs.code.Tables.{ends_at}
+use Rattle.state.specs.code.Tables.{terms_of, ends_at, datum_row}
 use Rattle.state.proofs.FormLaws.{ends_split}
 
 -- ---- terms of a state
 
 -- each has 29 bits
-fit_masks : (own : ℕ) (ts : List ℕ) → T (all (term_fits own) ts) → Masks ts
+fit_masks : (own : ℕ) (ts : List ℕ) → T (list_all (term_fits own) ts) → Masks ts
 unfolding term_fits
 fit_masks own [] t i = omega arith
 fit_masks own (x ∷ ts) t zero = ltb→lt x no_set (search (both_l, both_r) depth 9)
-fit_masks own (x ∷ ts) t (suc i) = fit_masks own ts (both_r (term_fits own x) (all (term_fits own) ts) t) i
+fit_masks own (x ∷ ts) t (suc i) = fit_masks own ts (both_r (term_fits own x) (list_all (term_fits own) ts) t) i
 
 -- so the terms that they carry as words are themselves
 masks-same : (ts : List ℕ) → Masks ts → masks ts ≡ ts
@@ -96,6 +95,19 @@ module _ (s : List ℕ) (t : T (in_form s)) (position : ℕ) (h : position < hel
 -- ---- what writing reads, and what it leaves
 
 module _ (s : List ℕ) (position : ℕ) where
+  -- the row that is read of it
+  pub row_ends : (datum_row s position).ends ≡ ends_at s position
+  unfolding datum_row
+  row_ends = refl
+
+  pub row_count : (datum_row s position).count ≡ num (datum_place position + row_in) 4 s
+  unfolding datum_row
+  row_count = refl
+
+  pub row_terms : terms_of (datum_row s position) ≡ (datum_at s position).terms
+  unfolding datum_row datum_at row_at
+  row_terms = refl
+
   pub length-written_bytes : length (written_bytes s position) ≡ length (written_words s position) * 4
   unfolding written_bytes
   length-written_bytes = length-bytes_of (written_words s position)
@@ -147,15 +159,6 @@ module _ (s : List ℕ) (position : ℕ) (f : Held s position) where
 
   pub ends_lt : (left right : ℕ) → left ≡ down (datum_at s position).left → right ≡ up (datum_at s position).right → (left < ends_limit) × (right < ends_limit)
   ends_lt left right a b = (omega (arith, f.ends, f.below), omega (arith, f.below))
-
-  -- the masks in use, of the eight that were read
-  pub terms-taken : (n : ℕ) (words rest : List ℕ) → n ≡ num (datum_place position + row_in) 4 s
-      → words ≡ tab 8 (λ i. num (datum_place position + row_in + 4 + i * 4) 4 s) ++ rest → take n words ≡ (datum_at s position).terms
-  unfolding datum_at row_at masks_at
-  terms-taken n words rest e p =
-      let g : ℕ → ℕ = λ i. num (datum_place position + row_in + 4 + i * 4) 4 s in
-      let fits : n ≤ length (tab 8 g) = omega (arith, length-tab 8 g, f.few, f.count) in
-      rw (p, take-append-le n (tab 8 g) rest fits, e)
 
   -- the words that are written
   pub words-written : (own left right : ℕ) (names terms : List ℕ) → own ≡ num own_at 4 s → left ≡ down (datum_at s position).left

@@ -18,7 +18,7 @@ use Rattle.message.specs.Write.{message_words}
 use Rattle.radio.specs.Names.{wanted, names_fit}
 use Rattle.radio.specs.Read.{opening, read_words, epoch_words}
 use Rattle.radio.specs.Write.{rewritten}
-use Rattle.message.specs.declared.Reading.TheVariants.{Message, Refused}
+use Rattle.message.specs.Read.{Message, Refused}
 use Rattle.message.proofs.MessageLaws.{Masks}
 use Rattle.radio.proofs.MessageLaws.{words-message, read-write, terms-write, epochs-write}
 use Rattle.radio.proofs.MessageLaws.{rewrite-ends, rewrite-form, rewrite-reads, rewrite-terms, rewrite-epochs, words-rewritten}

@@ -15,8 +15,8 @@ use Rattle.predicates.proofs.ListLaws.{neither, cond_ind}
 use Rattle.message.specs.Words.{masks}
 use Rattle.message.specs.Read.{term_words}
 use Rattle.radio.specs.Read.{read_words, epoch_words}
-use Rattle.message.specs.declared.Reading.{Reading}
-use Rattle.message.specs.declared.Reading.TheVariants.{Message, Refused}
+use Rattle.message.specs.Read.{Reading}
+use Rattle.message.specs.Read.{Message, Refused}
 use Rattle.radio.proofs.ReadLaws.{read_out}
 use Rattle.radio.proofs.HeardNames.{heard-names}
 use Rattle.state.specs.Model.{State}
@@ -30,6 +30,7 @@ use Rattle.state.specs.Refusal.{after}
 use Rattle.state.proofs.LentLaws.{refuse-none}
 use Rattle.engine.proofs.CallLaws.{set_up_ok, age_ok, Heard, receive_ok}
 use Rattle.receipts.proofs.ReceiptCalls.{masks-small}
+use Rattle.std.specs.Prelude.{Option}
 use Rattle.clocks.specs.declared.Readings.{Readings}
 use Rattle.clocks.specs.Clocks.{readings_fail}
 use Rattle.state.specs.Refusal.{lent}
@@ -80,7 +81,7 @@ module _ (s : List ℕ) (reading : ℕ) where
 -- ---- receiving
 
 -- a taken reading, with delays and readings that fit, tells what receiving asks
-pub heard_in : {sender left right n : ℕ} (least greatest : ℕ) (readings : Readings) (m : List ℕ) → least ≤ greatest → T (not (readings_fail readings))
+pub heard_in : {sender left right n : ℕ} (least greatest : ℕ) (readings : Option Readings) (m : List ℕ) → least ≤ greatest → T (not (readings_fail readings))
     → read_bytes m ≡ Message sender left right n
     → Heard (delivery least greatest readings sender (epoch_words (Message sender left right n) (words_of m)) left right
     (masks (term_words (Message sender left right n) (words_of m))))
@@ -102,7 +103,7 @@ pub brought_readings : (g : Receipt) (d : Delivery) → delivered g ≡ brings d
 unfolding delivered delivered_as
 brought_readings g d e = go (read_bytes g.message) e
   where
-    readings_in : Delivered → Readings
+    readings_in : Delivered → Option Readings
     readings_in (refused number) = g.readings
     readings_in (brings b) = b.readings
 

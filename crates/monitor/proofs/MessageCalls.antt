@@ -2,29 +2,34 @@
 -- No contract cites this file. Assumes nothing.
 use Prim.Native.Nat.{ℕ, ◌+◌, ◌*◌, ◌/◌, ◌%◌, ◌≤◌, ◌<◌}
 use mathlib.Core.Path.{◌≡◌, refl, sym, ap, ◌∙◌}
-use mathlib.Core.Bool.{Bool, true, false, ◌||◌, cond}
-use mathlib.Core.List.{List, [], ◌++◌}
-use native.Mathlib.Nat.{zero-add}
+use mathlib.Core.Bool.{Bool, true, false, not, ◌||◌, cond}
+use mathlib.Core.List.{List, []}
 use native.Mathlib.Omega.{arith}
-use borrow.Author.Tests.{lt-ltb, le-ltb, eq-eqb, ne_eqb, eqb-true, ltb-true, ltb-false}
-use lib.Dec.{ltb, eqb}
-use lib.ListN.{length, take}
-use lib.Seq.{take_at}
-use Rattle.numbers.specs.Numbers.{tab, num, words_of, bytes_of, put}
-use Rattle.numbers.proofs.NumberLaws.{length-tab, length-bytes_of, take_put}
+use borrow.Author.Tests.{lt-ltb, le-ltb, eqb-true, ltb-true, ltb-false}
+use lib.Dec.{T, ltb, eqb}
+use lib.ListN.{length, get_or, take, drop}
+use Rattle.predicates.proofs.LoopLaws.{drop_next}
+use Rattle.refusals.specs.declared.Refusal.{Refusal}
+use Rattle.refusals.specs.Refusals.{number_of}
+use Rattle.numbers.specs.Numbers.{num, bytes, words_of, bytes_of, put}
+use Rattle.numbers.proofs.NumberLaws.{length-tab, length-bytes, length-bytes_of, take_put, put-append}
 use Rattle.message.specs.Words.{ends_limit}
 use Rattle.message.specs.Read.{term_words}
 use Rattle.radio.specs.Read.{words_most, bytes_most, read_words, epoch_words}
 use Rattle.radio.specs.Write.{rewritten, rewritten_as}
-use Rattle.message.specs.declared.Reading.{Reading}
-use Rattle.message.specs.declared.Reading.TheVariants.{Message, Refused}
+use Rattle.message.specs.Read.{Reading}
+use Rattle.message.specs.Read.{Message, Refused}
 use Rattle.epochs.specs.code.Known.{Named}
 use Rattle.radio.proofs.ReadLaws.{read_out, terms-middle, length-middle, epochs-few, refused-above}
 use Rattle.radio.proofs.MessageLaws.{rewrite-length}
 use Rattle.radio.proofs.HeardNames.{heard-names}
 use Rattle.engine.specs.Refusals.{delay_most}
-use Rattle.state.specs.Refusal.{after}
-use Rattle.state.proofs.LentLaws.{after-refused}
+use Rattle.message.proofs.ReadLaws.{number_above}
+use Rattle.state.specs.Layout.{state_size, joined}
+use Rattle.state.specs.Form.{in_form}
+use Rattle.state.specs.Refusal.{lent, after}
+use Rattle.state.proofs.LentLaws.{after-refused, lent_stays, lent-taken}
+use Rattle.monitor.specs.Ask.{wide}
 use Rattle.monitor.specs.Messages.{read_bytes, rewritten_bytes}
 use Rattle.monitor.specs.code.Words.{words_in}
 use Rattle.state.specs.Model.{name_most}
@@ -68,26 +73,47 @@ refused_stays m bytes s number e =
 -- ---- the words in bytes
 
 module _ (m : List ℕ) where
-  pub words_in-rest : (length m % 4 ≡ 0 → ⊥) → words_in m ≡ []
+  pub words_in-none : (not (eqb (length m % 4) 0) || ltb bytes_most (length m)) ≡ true → words_in m ≡ []
   unfolding words_in
-  words_in-rest h = rw (ne_eqb _ _ h)
+  words_in-none e = go (eqb (length m % 4) 0) (ltb bytes_most (length m)) e
+    where
+      go : (a b : Bool) → not a || b ≡ true → cond a (cond b [] (words_of m)) [] ≡ []
+      go true true e = refl
+      go true false e = cc
+      go false b e = refl
 
-  pub words_in_many : length m % 4 ≡ 0 → bytes_most < length m → words_in m ≡ []
+  pub words_in-all : (not (eqb (length m % 4) 0) || ltb bytes_most (length m)) ≡ false
+      → (words_in m ≡ words_of m) × (length m % 4 ≡ 0) × (length m ≤ bytes_most)
   unfolding words_in
-  words_in_many h k = rw (eq-eqb _ _ h, lt-ltb _ _ k)
+  words_in-all e = go (eqb (length m % 4) 0) (ltb bytes_most (length m)) refl refl e
+    where
+      go : (a b : Bool) → eqb (length m % 4) 0 ≡ a → ltb bytes_most (length m) ≡ b → not a || b ≡ false
+          → (cond a (cond b [] (words_of m)) [] ≡ words_of m) × (length m % 4 ≡ 0) × (length m ≤ bytes_most)
+      go true true p q e = cc
+      go true false p q e = (refl, eqb-true (length m % 4) 0 p, ltb-false bytes_most (length m) q)
+      go false b p q e = cc
 
-  pub words_in-all : length m % 4 ≡ 0 → length m ≤ bytes_most → words_in m ≡ tab (length m / 4) (λ i. num (0 + i * 4) 4 m)
-  unfolding words_in words_of
-  words_in-all h k = rw (eq-eqb _ _ h, le-ltb _ _ k) (simp zero-add)
+  -- what is read of these words is the reading of the bytes
+  pub got_read : (words : List ℕ) → words ≡ words_in m → (got : Reading) → got ≡ read_words words → got ≡ read_bytes m
+  got_read words e got p = p ∙ ap (λ (x : List ℕ). read_words x) e ∙ read_words_in m
 
--- ---- what the calls before the reading leave
+-- ---- numbers of 8 bytes, one behind the other
 
-module _ (m words rest : List ℕ) (n : ℕ) (e : words ≡ words_in m ++ rest) (f : n ≡ length (words_in m)) where
-  pub words-taken : take n words ≡ words_in m
-  words-taken = ap (λ (x : List ℕ). take n x) e ∙ take_at (words_in m) rest n (sym f)
+pub numbers_next : (i : ℕ) (ns s : List ℕ) → i < length ns
+    → put (i * 8) (wide (drop i ns)) s ≡ put ((i + 1) * 8) (wide (drop (i + 1) ns)) (put (i * 8) (bytes 8 (get_or ns i 0)) s)
+unfolding wide joined
+numbers_next i ns s h =
+    let e : (i + 1) * 8 ≡ i * 8 + 8 = omega arith in
+    rw (drop_next ns i h, e) (put-append 8 (i * 8) (bytes 8 (get_or ns i 0)) (joined (bytes 8) (drop (i + 1) ns)) s (length-bytes 8 (get_or ns i 0)))
 
-  pub got_read : (got : Reading) → got ≡ read_words (take n words) → got ≡ read_bytes m
-  got_read got p = p ∙ ap (λ (x : List ℕ). read_words x) words-taken ∙ read_words_in m
+-- ---- what the first tests of a call on a lent state tell
+
+pub lent_refused : (s out bytes : List ℕ) (refusal : Refusal) (next : ℕ) → number_of refusal ≡ lent s 0
+    → (number_of refusal ≡ lent s next) × (out ≡ after (lent s next) bytes out)
+lent_refused s out bytes refusal next e = lent_stays s out bytes (number_of refusal) next e (λ z. omega (arith, number_above refusal))
+
+pub lent_fine : (s : List ℕ) → 0 ≡ lent s 0 → (state_size ≤ length s) × T (in_form s)
+lent_fine s e = lent-taken s 0 e refl
 
 -- ---- what rewriting leaves: `words` were taken from m, and `written` holds at its front what was written of them
 

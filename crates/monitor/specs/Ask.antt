@@ -6,10 +6,8 @@ use Rattle.state.specs.Layout.{state_of, joined}
 use Rattle.state.specs.Refusal.{refuse, lent, after}
 use Rattle.asking.specs.declared.Answer.{Answer}
 use Rattle.asking.specs.declared.Answer.TheVariants.{Contradicted, Open, Between}
-use Rattle.asking.specs.declared.Fewest.{Fewest}
-use Rattle.asking.specs.declared.Fewest.TheVariants.{Over, Few}
 use Rattle.asking.specs.Asking.{answer, answer_numbers}
-use Rattle.asking.specs.Fewest.{fewest, fewest_numbers}
+use Rattle.asking.specs.Fewest.{Fewest, Over, Few, fewest, fewest_numbers}
 
 -- the greatest limit: "The asker gives a limit, 0 to 4."
 abbrev pub limit_most : ℕ

@@ -5,8 +5,8 @@ use Rattle.numbers.specs.Numbers.{bytes, words_of, bytes_of}
 use Rattle.radio.specs.Read.{read_words}
 use Rattle.radio.specs.Write.{rewritten_as}
 use Rattle.state.specs.Refusal.{after}
-use Rattle.message.specs.declared.Reading.{Reading}
-use Rattle.message.specs.declared.Reading.TheVariants.{Message, Refused}
+use Rattle.message.specs.Read.{Reading}
+use Rattle.message.specs.Read.{Message, Refused}
 
 -- "four bytes make a word, little-endian, and a byte length that is not a multiple of 4 is number 10"
 unfoldable pub read_bytes : List ℕ → Reading

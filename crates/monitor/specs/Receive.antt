@@ -1,14 +1,13 @@
 -- Receiving, over bytes (document 01, "Receiving" and "Who can cause which refusal"; document 02, W-201 and W-204): what C gives a
 -- receipt, what its message delivers, the number that the call returns and the lent state afterwards. Assumes nothing: these are definitions.
-use Rattle.std.specs.Prelude.{ℕ, List}
+use Rattle.std.specs.Prelude.{ℕ, List, Option, None}
 use Rattle.numbers.specs.Numbers.{words_of}
 use Rattle.message.specs.Words.{masks}
 use Rattle.message.specs.Read.{term_words}
 use Rattle.radio.specs.Read.{epoch_words}
-use Rattle.message.specs.declared.Reading.{Reading}
-use Rattle.message.specs.declared.Reading.TheVariants.{Message, Refused}
+use Rattle.message.specs.Read.{Reading}
+use Rattle.message.specs.Read.{Message, Refused}
 use Rattle.clocks.specs.declared.Readings.{Readings}
-use Rattle.clocks.specs.declared.Readings.TheVariants.{Without}
 use Rattle.clocks.specs.Clocks.{readings_fail}
 use Rattle.state.specs.Model.{State}
 use Rattle.state.specs.Layout.{state_bytes, state_of}
@@ -22,15 +21,15 @@ use Rattle.monitor.specs.Messages.{read_bytes}
 pub record Receipt : Type 0 where
   pub least : ℕ
   pub greatest : ℕ
-  pub readings : Readings
+  pub readings : Option Readings
   pub message : List ℕ
 
-abbrev pub receipt_with : ℕ → ℕ → Readings → List ℕ → Receipt
+abbrev pub receipt_with : ℕ → ℕ → Option Readings → List ℕ → Receipt
 receipt_with least greatest readings message = record { least = least; greatest = greatest; readings = readings; message = message }
 
 -- without readings
 abbrev pub receipt_of : ℕ → ℕ → List ℕ → Receipt
-receipt_of least greatest message = receipt_with least greatest Without message
+receipt_of least greatest message = receipt_with least greatest None message
 
 -- what a message delivers: the number of its refusal, or what the engine receives
 pub data Delivered : Type 0 where

@@ -4,7 +4,7 @@
 #![tactic(auto)]
 
 ghost use Rattle.std.specs.Prelude.{◌≡◌};
-ghost use Rattle.clocks.specs.declared.Readings.TheVariants.{With};
+ghost use Rattle.clocks.specs.Clocks.{with_drift};
 ghost use Rattle.clocks.specs.declared.Triple.{Triple};
 ghost use Rattle.engine.specs.Calls.{setup};
 ghost use Rattle.monitor.specs.Ask.{ask_number, ask_output, fewest_number, fewest_output};
@@ -65,9 +65,9 @@ pub extern "C" fn monitor_receive_with_readings(
     message: &[u8],
 ) -> u32
     ensures result_value { (let t : Triple = record { there = sender_reading; here = own_reading; half = half_width } in
-        result ≡ receive_number state.old (receipt_with least greatest (With t sender_drift) message.now)) }
+        result ≡ receive_number state.old (receipt_with least greatest (with_drift t sender_drift) message.now)) }
     ensures state_after { (let t : Triple = record { there = sender_reading; here = own_reading; half = half_width } in
-        state.new ≡ receive_state state.old (receipt_with least greatest (With t sender_drift) message.now)) }
+        state.new ≡ receive_state state.old (receipt_with least greatest (with_drift t sender_drift) message.now)) }
 {
     monitor::receive::monitor_receive_with_readings(
         state,

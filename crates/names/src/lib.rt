@@ -11,6 +11,7 @@ ghost use Rattle.names.specs.code.Parts.{shared, others, least_name};
 pub const NO_SET: u32 = 536_870_912;
 
 // Whether each name of t is in s.
+#[tactic(auto, unfolding(crate::specs::Sets::subset))]
 pub fn subset(t: u32, s: u32) -> bool
     ensures { result ≡ subset t s }
 {
@@ -18,6 +19,7 @@ pub fn subset(t: u32, s: u32) -> bool
 }
 
 // The names of s and those of t.
+#[tactic(auto, unfolding(crate::specs::Sets::set_union))]
 pub fn union(s: u32, t: u32) -> u32
     ensures { result ≡ set_union s t }
 {
@@ -25,6 +27,7 @@ pub fn union(s: u32, t: u32) -> u32
 }
 
 // The names of s that are in t.
+#[tactic(auto, unfolding(crate::specs::code::Parts::shared))]
 pub fn shared(s: u32, t: u32) -> u32
     ensures { result ≡ shared s t }
 {
@@ -32,6 +35,7 @@ pub fn shared(s: u32, t: u32) -> u32
 }
 
 // The names of s that are not in t.
+#[tactic(auto, unfolding(crate::specs::Sets::minus))]
 pub fn minus(s: u32, t: u32) -> u32
     ensures { result ≡ minus s t }
 {
@@ -39,6 +43,7 @@ pub fn minus(s: u32, t: u32) -> u32
 }
 
 // The least name of s as a set of its own.
+#[tactic(auto, unfolding(crate::specs::code::Parts::least_name))]
 pub fn least_name(s: u32) -> u32
     requires { 0 < s }
     ensures { result ≡ least_name s }
@@ -69,6 +74,7 @@ pub fn single(n: u32) -> u32
 }
 
 // All names but n.
+#[tactic(auto, unfolding(crate::specs::code::Parts::others))]
 pub fn others(n: u32) -> u32
     requires { n < 32 }
     ensures { result ≡ others n }
@@ -77,6 +83,7 @@ pub fn others(n: u32) -> u32
 }
 
 // Whether s holds the name n: the own-name test.
+#[tactic(auto, unfolding(crate::specs::Sets::has))]
 pub fn has(n: u32, s: u32) -> bool
     requires { n < 32 }
     ensures { result ≡ has n s }

@@ -6,12 +6,14 @@ use Prim.Native.Nat.{ℕ, zero, suc, ◌+◌, ◌*◌, ◌-◌, ◌/◌, ◌%◌
 use mathlib.Core.Path.{◌≡◌, refl, sym, ap, ◌∙◌}
 use mathlib.Core.List.{List, [], ◌∷◌, ◌++◌, map, map-append, append_assoc, append-nil}
 use mathlib.Core.Logic.{◌⊎◌, ⊎_elim}
-use native.Mathlib.Nat.{zero-add, add-zero, add-suc, suc-add, suc-mul, mul_assoc, pow-zero, pow-suc, pow-succ', mod-add-div, div-lt_iff_lt-mul, eq-or-lt_of_le, le_of_suc-le-suc}
+use native.Mathlib.Nat.{zero-add, add-zero, add-suc, suc-add, suc-mul, mul_assoc, div-div-eq-div-mul, pow-zero, pow-suc, pow-succ', mod-add-div, div-lt_iff_lt-mul, eq-or-lt_of_le, le_of_suc-le-suc}
 use native.Mathlib.Numerals.{add-one}
 use native.Mathlib.Omega.{arith}
+use borrow.Rule.Slice.PartMut.{put_mid}
 use lib.Dec.{lit<}
 use lib.ListN.{length, get_or, take, drop, set, length-append, get_or-append}
-use lib.Seq.{sets, sets-eq, set-set, set_comm, take_at, take_all, take-add, take-suc, drop-cons, length-take-le, length-sets, get_or_at, get_or-take, get_or-set_other, set-get_or, ext_get_or}
+use lib.Seq.{sets, sets-eq, take-suc-set, drop-drop, set-set, set_comm, take_at, take_all, take-add, take-suc, drop-cons, length-take-le, length-sets, get_or_at, get_or-take, get_or-set_other, set-get_or, ext_get_or}
+use Rattle.std.specs.Int.{byte_at, bytes_low_first}
 use Rattle.numbers.specs.Numbers.{num, bytes, put, tab, Bytes, Words, words_of, bytes_of}
 
 -- ---- counting
@@ -82,6 +84,19 @@ bytes-num zero at s b h = refl
 bytes-num (suc n) at s b h =
     let inside : at < length s = omega arith in
     rw (bytes-num_cons n at s b, drop-cons s at 0 inside, bytes-num n (suc at) s b (omega arith))
+
+-- ---- the library's bytes of a number
+
+byte_is : (i x : ℕ) → byte_at i x ≡ x / 256 ^ i % 256
+byte_is zero x = rw pow-zero (omega arith)
+byte_is (suc i) x = refl
+
+pub bytes-le : (n i x : ℕ) → bytes_low_first i n x ≡ bytes n (x / 256 ^ i)
+unfolding bytes
+bytes-le zero i x = refl
+bytes-le (suc n) i x =
+    let next : x / 256 ^ suc i ≡ x / 256 ^ i / 256 = rw pow-suc (sym (div-div-eq-div-mul x (256 ^ i) 256)) in
+    rw (byte_is i x, bytes-le n (suc i) x, next)
 
 -- ---- put: a list stored in another
 
@@ -159,14 +174,20 @@ put_front n vs s e h =
 pub take_put : (n : ℕ) (vs s : List ℕ) → length vs ≡ n → n ≤ length s → take n (put 0 vs s) ≡ vs
 take_put n vs s e h = rw (put_front n vs s e h) (take_at vs (drop n s) n e)
 
+-- what is stored in k places that are lent for it
+pub put-lent : (at k : ℕ) (s ys vs : List ℕ) → at + length vs ≤ length s → k ≡ length vs → ys ≡ vs → put_mid at k s ys ≡ put at vs s
+unfolding put
+put-lent at k s ys vs h m e =
+    let same : drop k (drop at s) ≡ drop (at + length vs) s = rw m (drop-drop (length vs) at s) in
+    rw (e, same, ← append_assoc (take at s) vs (drop (at + length vs) s)) (sym (sets-eq vs s at h))
+
 -- a turn of the loop that stores a number
-pub put_next : (at n i x : ℕ) (s : List ℕ) → i < n →
-    put (at + i) (bytes (n - i) x) s ≡ put (at + (i + 1)) (bytes (n - (i + 1)) (x / 256)) (set s (at + i) (x % 256))
-unfolding put bytes
-put_next at n i x s p =
+pub bytes_next : (n i x : ℕ) (p vs : List ℕ) → i < n → i < length p → take i p ++ bytes (n - i) x ≡ vs
+    → take (i + 1) (set p i (x % 256)) ++ bytes (n - (i + 1)) (x / 256) ≡ vs
+unfolding bytes
+bytes_next n i x p vs h g q =
     let e : n - i ≡ suc (n - (i + 1)) = omega arith in
-    let f : at + (i + 1) ≡ suc (at + i) = omega arith in
-    rw (e, f)
+    rw (add-one, take-suc-set p i (x % 256) g, append_assoc (take i p) (x % 256 ∷ []) (bytes (n - suc i) (x / 256))) (rw (e, add-one) at q)
 
 -- ---- tab: a list by its elements
 
@@ -196,11 +217,10 @@ take-tab d n k f h =
     sym (tab_ext d k f (take k (tab n f)) (length-take-le k (tab n f) (rw length-tab h))
     (λ i p. sym (get_or-take k (tab n f) i d p ∙ get_or-tab n i f d (omega arith))))
 
--- a turn of the loop that stores a table
-pub tab_next : (f : ℕ → ℕ) (at i k v : ℕ) (s t : List ℕ) →
-    k ≡ at + i → v ≡ f i → t ≡ put at (tab i f) s → set t k v ≡ put at (tab (i + 1) f) s
-unfolding tab put
-tab_next f at i k v s t e q h = rw (add-one, put-append i at (tab i f) (f i ∷ []) s (length-tab i f), ← h, e, q)
+-- a turn of the loop that fills a table
+pub tab_next : (f : ℕ → ℕ) (i v : ℕ) (t : List ℕ) → i < length t → v ≡ f i → take i t ≡ tab i f → take (i + 1) (set t i v) ≡ tab (i + 1) f
+unfolding tab
+tab_next f i v t h e q = rw (add-one, take-suc-set t i v h, e, q)
 
 -- ---- words_of and bytes_of: words in bytes
 

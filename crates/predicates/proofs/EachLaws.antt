@@ -5,7 +5,8 @@ use mathlib.Core.Logic.{◌↔◌, inl, inr, ⊎_elim}
 use mathlib.Core.Bool.{Bool, not, cond}
 use mathlib.Core.List.{List, [], ◌∷◌, ◌++◌, map}
 use lib.Dec.{T}
-use Rattle.predicates.specs.Lists.{any, keep, In}
+use Rattle.std.specs.List.{list_any, filter}
+use Rattle.predicates.specs.Lists.{In}
 use Rattle.predicates.proofs.ListLaws.{split, cond_ind, in_l, in_r, in_cases, any_out, keep_in, keep_out}
 
 module _ {A : Type 0} (F : A → Type 0) where
@@ -28,7 +29,7 @@ module _ {A : Type 0} (F : A → Type 0) where
   )
 
   -- elements go that have F anyway
-  pub each_dropped : (r : A → Bool) (l : List A) → ((a : A) → T (r a) → F a) → Each (keep (λ a. not (r a)) l) ↔ Each l
+  pub each_dropped : (r : A → Bool) (l : List A) → ((a : A) → T (r a) → F a) → Each (filter (λ a. not (r a)) l) ↔ Each l
   each_dropped r l f = (
     λ h a m. ⊎_elim (f a) (λ t. h a (keep_in (λ b. not (r b)) l a m t)) (split (r a)),
     λ h a m. h a (keep_out (λ b. not (r b)) l a m).0,
@@ -36,10 +37,10 @@ module _ {A : Type 0} (F : A → Type 0) where
 
   -- x is added, unless some element says as much as x; then those go that say no more than x
   pub each_added : (r : A → A → Bool) → ((a b : A) → T (r a b) → F a → F b) → (x : A) (l : List A)
-      → Each (cond (any (λ a. r a x) l) l (keep (λ a. not (r x a)) l ++ (x ∷ []))) ↔ (F x × Each l)
+      → Each (cond (list_any (λ a. r a x) l) l (filter (λ a. not (r x a)) l ++ (x ∷ []))) ↔ (F x × Each l)
   each_added r f x l =
-      let rest = keep (λ a. not (r x a)) l in
-      cond_ind (λ m. Each m ↔ (F x × Each l)) (any (λ a. r a x) l) l (rest ++ (x ∷ []))
+      let rest = filter (λ a. not (r x a)) l in
+      cond_ind (λ m. Each m ↔ (F x × Each l)) (list_any (λ a. r a x) l) l (rest ++ (x ∷ []))
       (λ t. let a = any_out (λ a. r a x) l t in (λ h. (f a.0 x a.2 (h a.0 a.1), h), λ h. h.1))
       (λ _. (
         λ h. let k = (each_last rest x).0 h in (k.0, (each_dropped (r x) l (λ a t. f x a t k.0)).0 k.1),

@@ -12,28 +12,29 @@ use native.Mathlib.Omega.{arith}
 use lib.Dec.{T, not_T}
 use lib.ListN.{length, get_or, take, replicate}
 use lib.Seq.{take-suc}
-use Rattle.predicates.specs.Lists.{all, all_below, keep, In}
+use Rattle.std.specs.List.{list_all, filter}
+use Rattle.predicates.specs.Lists.{all_below, In}
 use Rattle.predicates.proofs.ListLaws.{both, both_l, both_r, T_false, keep_append}
 
 -- ---- tests of all elements
 
 module _ {A : Type 0} where
-  pub all_mono : (f g : A → Bool) (l : List A) → ((x : A) → T (f x) → T (g x)) → T (all f l) → T (all g l)
+  pub all_mono : (f g : A → Bool) (l : List A) → ((x : A) → T (f x) → T (g x)) → T (list_all f l) → T (list_all g l)
   all_mono f g [] h t = tt
-  all_mono f g (x ∷ l) h t = both (g x) (all g l) (h x (both_l (f x) (all f l) t)) (all_mono f g l h (both_r (f x) (all f l) t))
+  all_mono f g (x ∷ l) h t = both (g x) (list_all g l) (h x (both_l (f x) (list_all f l) t)) (all_mono f g l h (both_r (f x) (list_all f l) t))
 
-  pub all_append : (f : A → Bool) (l m : List A) → T (all f l) → T (all f m) → T (all f (l ++ m))
+  pub all_append : (f : A → Bool) (l m : List A) → T (list_all f l) → T (list_all f m) → T (list_all f (l ++ m))
   all_append f [] m t u = u
-  all_append f (x ∷ l) m t u = both (f x) (all f (l ++ m)) (both_l (f x) (all f l) t) (all_append f l m (both_r (f x) (all f l) t) u)
+  all_append f (x ∷ l) m t u = both (f x) (list_all f (l ++ m)) (both_l (f x) (list_all f l) t) (all_append f l m (both_r (f x) (list_all f l) t) u)
 
-  pub all_replicate : (f : A → Bool) (n : ℕ) (x : A) → T (f x) → T (all f (replicate n x))
+  pub all_replicate : (f : A → Bool) (n : ℕ) (x : A) → T (f x) → T (list_all f (replicate n x))
   all_replicate f zero x t = tt
-  all_replicate f (suc n) x t = both (f x) (all f (replicate n x)) t (all_replicate f n x t)
+  all_replicate f (suc n) x t = both (f x) (list_all f (replicate n x)) t (all_replicate f n x t)
 
-  pub all_get_or : (f : A → Bool) (l : List A) (i : ℕ) (d : A) → T (all f l) → i < length l → T (f (get_or l i d))
+  pub all_get_or : (f : A → Bool) (l : List A) (i : ℕ) (d : A) → T (list_all f l) → i < length l → T (f (get_or l i d))
   all_get_or f [] i d t h = absurd (omega arith)
-  all_get_or f (x ∷ l) zero d t h = both_l (f x) (all f l) t
-  all_get_or f (x ∷ l) (suc i) d t h = all_get_or f l i d (both_r (f x) (all f l) t) (omega arith)
+  all_get_or f (x ∷ l) zero d t h = both_l (f x) (list_all f l) t
+  all_get_or f (x ∷ l) (suc i) d t h = all_get_or f l i d (both_r (f x) (list_all f l) t) (omega arith)
 
 -- ---- tests below a number
 
@@ -94,13 +95,13 @@ in_at (x ∷ l) d a (inr m) = let r = in_at l d a m in (suc r.0, omega (arith, r
 
 -- what of the first elements passes a test, one element further
 module _ (f : ℕ → Bool) (order : List ℕ) (i : ℕ) (h : i < length order) where
-  kept-last : keep f (take (i + 1) order) ≡ keep f (take i order) ++ keep f (get_or order i 0 ∷ [])
+  kept-last : filter f (take (i + 1) order) ≡ filter f (take i order) ++ filter f (get_or order i 0 ∷ [])
   kept-last =
       let more : take (i + 1) order ≡ take i order ++ (get_or order i 0 ∷ []) = rw add-one (take-suc order i 0 h) in
-      ap (keep f) more ∙ keep_append f (take i order) (get_or order i 0 ∷ [])
+      ap (filter f) more ∙ keep_append f (take i order) (get_or order i 0 ∷ [])
 
-  pub kept-take : f (get_or order i 0) ≡ true → keep f (take (i + 1) order) ≡ keep f (take i order) ++ (get_or order i 0 ∷ [])
+  pub kept-take : f (get_or order i 0) ≡ true → filter f (take (i + 1) order) ≡ filter f (take i order) ++ (get_or order i 0 ∷ [])
   kept-take e = rw e at kept-last
 
-  pub kept_pass : f (get_or order i 0) ≡ false → keep f (take (i + 1) order) ≡ keep f (take i order)
-  kept_pass e = (rw e at kept-last) ∙ append-nil (keep f (take i order))
+  pub kept_pass : f (get_or order i 0) ≡ false → filter f (take (i + 1) order) ≡ filter f (take i order)
+  kept_pass e = (rw e at kept-last) ∙ append-nil (filter f (take i order))

@@ -9,7 +9,8 @@ use native.Mathlib.Nat.{le_refl}
 use native.Mathlib.Omega.{arith}
 use lib.Dec.{T}
 use lib.ListN.{length}
-use Rattle.predicates.specs.Lists.{any, all, keep, In}
+use Rattle.std.specs.List.{list_any, list_all, filter}
+use Rattle.predicates.specs.Lists.{In}
 
 -- ---- Boolean tests
 
@@ -88,79 +89,79 @@ module _ {A : Type 0} where
       go (inl k) = inl (inr k)
       go (inr k) = inr k
 
-  pub any_in : (f : A → Bool) (l : List A) (a : A) → In a l → T (f a) → T (any f l)
+  pub any_in : (f : A → Bool) (l : List A) (a : A) → In a l → T (f a) → T (list_any f l)
   any_in f [] a h t = h
-  any_in f (x ∷ l) a (inl e) t = or_l (f x) (any f l) (subst (λ y. T (f y)) e t)
-  any_in f (x ∷ l) a (inr h) t = or_r (f x) (any f l) (any_in f l a h t)
+  any_in f (x ∷ l) a (inl e) t = or_l (f x) (list_any f l) (subst (λ y. T (f y)) e t)
+  any_in f (x ∷ l) a (inr h) t = or_r (f x) (list_any f l) (any_in f l a h t)
 
-  pub any_out : (f : A → Bool) (l : List A) → T (any f l) → (a : A) × In a l × T (f a)
+  pub any_out : (f : A → Bool) (l : List A) → T (list_any f l) → (a : A) × In a l × T (f a)
   any_out f [] t = absurd t
-  any_out f (x ∷ l) t = go (any_out f l) (or_cases (f x) (any f l) t)
+  any_out f (x ∷ l) t = go (any_out f l) (or_cases (f x) (list_any f l) t)
     where
-      go : (T (any f l) → (a : A) × In a l × T (f a)) → T (f x) ⊎ T (any f l) → (a : A) × In a (x ∷ l) × T (f a)
+      go : (T (list_any f l) → (a : A) × In a l × T (f a)) → T (f x) ⊎ T (list_any f l) → (a : A) × In a (x ∷ l) × T (f a)
       go rest (inl h) = (x, inl refl, h)
       go rest (inr h) = let r = rest h in (r.0, inr r.1, r.2)
 
-  pub all_out : (f : A → Bool) (l : List A) → T (all f l) → (a : A) → In a l → T (f a)
+  pub all_out : (f : A → Bool) (l : List A) → T (list_all f l) → (a : A) → In a l → T (f a)
   all_out f [] t a h = absurd h
-  all_out f (x ∷ l) t a (inl e) = subst (λ y. T (f y)) (sym e) (both_l (f x) (all f l) t)
-  all_out f (x ∷ l) t a (inr h) = all_out f l (both_r (f x) (all f l) t) a h
+  all_out f (x ∷ l) t a (inl e) = subst (λ y. T (f y)) (sym e) (both_l (f x) (list_all f l) t)
+  all_out f (x ∷ l) t a (inr h) = all_out f l (both_r (f x) (list_all f l) t) a h
 
-  pub all_in : (f : A → Bool) (l : List A) → ((a : A) → In a l → T (f a)) → T (all f l)
+  pub all_in : (f : A → Bool) (l : List A) → ((a : A) → In a l → T (f a)) → T (list_all f l)
   all_in f [] h = tt
-  all_in f (x ∷ l) h = both (f x) (all f l) (h x (inl refl)) (all_in f l (λ a k. h a (inr k)))
+  all_in f (x ∷ l) h = both (f x) (list_all f l) (h x (inl refl)) (all_in f l (λ a k. h a (inr k)))
 
-  pub keep_in : (f : A → Bool) (l : List A) (a : A) → In a l → T (f a) → In a (keep f l)
+  pub keep_in : (f : A → Bool) (l : List A) (a : A) → In a l → T (f a) → In a (filter f l)
   keep_in f [] a h t = h
   keep_in f (x ∷ l) a (inl e) t =
-      cond_ind (λ m. In a m) (f x) (x ∷ keep f l) (keep f l) (λ _. inl e) (λ n. absurd (no_T (f x) n (subst (λ y. T (f y)) e t)))
+      cond_ind (λ m. In a m) (f x) (x ∷ filter f l) (filter f l) (λ _. inl e) (λ n. absurd (no_T (f x) n (subst (λ y. T (f y)) e t)))
     where
       no_T : (b : Bool) → T (not b) → T b → ⊥
       no_T true p q = p
       no_T false p q = q
   keep_in f (x ∷ l) a (inr h) t =
-      let r = keep_in f l a h t in cond_ind (λ m. In a m) (f x) (x ∷ keep f l) (keep f l) (λ _. inr r) (λ _. r)
+      let r = keep_in f l a h t in cond_ind (λ m. In a m) (f x) (x ∷ filter f l) (filter f l) (λ _. inr r) (λ _. r)
 
-  pub keep_out : (f : A → Bool) (l : List A) (a : A) → In a (keep f l) → In a l × T (f a)
+  pub keep_out : (f : A → Bool) (l : List A) (a : A) → In a (filter f l) → In a l × T (f a)
   keep_out f [] a = λ h. absurd h
   keep_out f (x ∷ l) a =
       let rest = keep_out f l a in
-      cond_ind (λ m. In a m → In a (x ∷ l) × T (f a)) (f x) (x ∷ keep f l) (keep f l) (λ t h. first rest t h) (λ t h. later rest h)
+      cond_ind (λ m. In a m → In a (x ∷ l) × T (f a)) (f x) (x ∷ filter f l) (filter f l) (λ t h. first rest t h) (λ t h. later rest h)
     where
-      later : (In a (keep f l) → In a l × T (f a)) → In a (keep f l) → In a (x ∷ l) × T (f a)
+      later : (In a (filter f l) → In a l × T (f a)) → In a (filter f l) → In a (x ∷ l) × T (f a)
       later rest h = let r = rest h in (inr r.0, r.1)
 
-      first : (In a (keep f l) → In a l × T (f a)) → T (f x) → In a (x ∷ keep f l) → In a (x ∷ l) × T (f a)
+      first : (In a (filter f l) → In a l × T (f a)) → T (f x) → In a (x ∷ filter f l) → In a (x ∷ l) × T (f a)
       first rest t (inl e) = (inl e, subst (λ y. T (f y)) (sym e) t)
       first rest t (inr h) = later rest h
 
-  pub keep_passed : (f : A → Bool) (x : A) (l : List A) → T (f x) → keep f (x ∷ l) ≡ x ∷ keep f l
-  keep_passed f x l t = ap (λ (b : Bool). cond b (x ∷ keep f l) (keep f l)) (T_true (f x) t)
+  pub keep_passed : (f : A → Bool) (x : A) (l : List A) → T (f x) → filter f (x ∷ l) ≡ x ∷ filter f l
+  keep_passed f x l t = ap (λ (b : Bool). cond b (x ∷ filter f l) (filter f l)) (T_true (f x) t)
 
-  pub keep_failed : (f : A → Bool) (x : A) (l : List A) → T (not (f x)) → keep f (x ∷ l) ≡ keep f l
-  keep_failed f x l t = ap (λ (b : Bool). cond b (x ∷ keep f l) (keep f l)) (T_false (f x) t)
+  pub keep_failed : (f : A → Bool) (x : A) (l : List A) → T (not (f x)) → filter f (x ∷ l) ≡ filter f l
+  keep_failed f x l t = ap (λ (b : Bool). cond b (x ∷ filter f l) (filter f l)) (T_false (f x) t)
 
-  pub keep_all : (f : A → Bool) (l : List A) → T (all f l) → keep f l ≡ l
+  pub keep_all : (f : A → Bool) (l : List A) → T (list_all f l) → filter f l ≡ l
   keep_all f [] t = refl
   keep_all f (x ∷ l) t =
-      keep_passed f x l (both_l (f x) (all f l) t) ∙ ap (λ (m : List A). x ∷ m) (keep_all f l (both_r (f x) (all f l) t))
+      keep_passed f x l (both_l (f x) (list_all f l) t) ∙ ap (λ (m : List A). x ∷ m) (keep_all f l (both_r (f x) (list_all f l) t))
 
-  pub keep-none : (f : A → Bool) (l : List A) → T (all (λ x. not (f x)) l) → keep f l ≡ []
+  pub keep-none : (f : A → Bool) (l : List A) → T (list_all (λ x. not (f x)) l) → filter f l ≡ []
   keep-none f [] t = refl
   keep-none f (x ∷ l) t =
-      let rest = all (λ y. not (f y)) l in keep_failed f x l (both_l (not (f x)) rest t) ∙ keep-none f l (both_r (not (f x)) rest t)
+      let rest = list_all (λ y. not (f y)) l in keep_failed f x l (both_l (not (f x)) rest t) ∙ keep-none f l (both_r (not (f x)) rest t)
 
-  pub keep-none_out : (f : A → Bool) (l : List A) → keep f l ≡ [] → (a : A) → In a l → T (f a) → ⊥
+  pub keep-none_out : (f : A → Bool) (l : List A) → filter f l ≡ [] → (a : A) → In a l → T (f a) → ⊥
   keep-none_out f l e a h t = subst (λ (m : List A). In a m) e (keep_in f l a h t)
 
-  pub all_keep : (f g : A → Bool) (l : List A) → T (all f l) → T (all f (keep g l))
-  all_keep f g l h = all_in f (keep g l) (λ a m. all_out f l h a (keep_out g l a m).0)
+  pub all_keep : (f g : A → Bool) (l : List A) → T (list_all f l) → T (list_all f (filter g l))
+  all_keep f g l h = all_in f (filter g l) (λ a m. all_out f l h a (keep_out g l a m).0)
 
-  pub length-keep : (f : A → Bool) (l : List A) → length (keep f l) ≤ length l
+  pub length-keep : (f : A → Bool) (l : List A) → length (filter f l) ≤ length l
   length-keep f [] = le_refl 0
   length-keep f (x ∷ l) =
       let h = length-keep f l in
-      cond_ind (λ m. length m ≤ suc (length l)) (f x) (x ∷ keep f l) (keep f l) (λ _. omega arith) (λ _. omega arith)
+      cond_ind (λ m. length m ≤ suc (length l)) (f x) (x ∷ filter f l) (filter f l) (λ _. omega arith) (λ _. omega arith)
 
 -- ---- the same elements in another order
 
@@ -188,35 +189,35 @@ module _ {A B : Type 0} (f : A → B) where
 -- ---- two lists one after the other
 
 module _ {A : Type 0} where
-  pub keep_append : (f : A → Bool) (xs ys : List A) → keep f (xs ++ ys) ≡ keep f xs ++ keep f ys
+  pub keep_append : (f : A → Bool) (xs ys : List A) → filter f (xs ++ ys) ≡ filter f xs ++ filter f ys
   keep_append f [] ys = refl
   keep_append f (x ∷ xs) ys = go (f x) (keep_append f xs ys)
     where
-      go : (b : Bool) → keep f (xs ++ ys) ≡ keep f xs ++ keep f ys → cond b (x ∷ keep f (xs ++ ys)) (keep f (xs ++ ys)) ≡ cond b (x ∷ keep f xs) (keep f xs) ++ keep f ys
+      go : (b : Bool) → filter f (xs ++ ys) ≡ filter f xs ++ filter f ys → cond b (x ∷ filter f (xs ++ ys)) (filter f (xs ++ ys)) ≡ cond b (x ∷ filter f xs) (filter f xs) ++ filter f ys
       go true e = ap (λ (l : List A). x ∷ l) e
       go false e = e
 
   -- x between ls and rs does not pass
-  pub keep-without : (f : A → Bool) (ls : List A) (x : A) (rs : List A) → T (not (f x)) → keep f (ls ++ (x ∷ rs)) ≡ keep f (ls ++ rs)
+  pub keep-without : (f : A → Bool) (ls : List A) (x : A) (rs : List A) → T (not (f x)) → filter f (ls ++ (x ∷ rs)) ≡ filter f (ls ++ rs)
   keep-without f ls x rs t =
-      keep_append f ls (x ∷ rs) ∙ ap (λ (l : List A). keep f ls ++ l) (keep_failed f x rs t) ∙ sym (keep_append f ls rs)
+      keep_append f ls (x ∷ rs) ∙ ap (λ (l : List A). filter f ls ++ l) (keep_failed f x rs t) ∙ sym (keep_append f ls rs)
 
   -- x is the first of l that passes, and the others that do are rest
   abbrev pub FirstKept : (A → Bool) → List A → A → List A → Type 0
-  FirstKept f l x rest = (ls : List A) × (rs : List A) × (l ≡ ls ++ (x ∷ rs)) × (keep f ls ≡ []) × (keep f rs ≡ rest)
+  FirstKept f l x rest = (ls : List A) × (rs : List A) × (l ≡ ls ++ (x ∷ rs)) × (filter f ls ≡ []) × (filter f rs ≡ rest)
 
-  pub first-kept : (f : A → Bool) (l : List A) (x : A) (rest : List A) → keep f l ≡ x ∷ rest → FirstKept f l x rest
+  pub first-kept : (f : A → Bool) (l : List A) (x : A) (rest : List A) → filter f l ≡ x ∷ rest → FirstKept f l x rest
   first-kept f [] x rest e = absurd (nil≢cons e)
   first-kept f (y ∷ l) x rest e = go (split (f y)) (first-kept f l x rest)
     where
-      go : T (f y) ⊎ T (not (f y)) → (keep f l ≡ x ∷ rest → FirstKept f l x rest) → FirstKept f (y ∷ l) x rest
+      go : T (f y) ⊎ T (not (f y)) → (filter f l ≡ x ∷ rest → FirstKept f l x rest) → FirstKept f (y ∷ l) x rest
       go (inl t) found =
-          let same : y ∷ keep f l ≡ x ∷ rest = sym (keep_passed f y l t) ∙ e in
+          let same : y ∷ filter f l ≡ x ∷ rest = sym (keep_passed f y l t) ∙ e in
           ([], l, ap (λ (z : A). z ∷ l) (head-eq_of_cons-eq same), refl, tail-eq_of_cons-eq same)
       go (inr t) found =
           let (ls, rs, cut, before, behind) = found (sym (keep_failed f y l t) ∙ e) in
           (y ∷ ls, rs, ap (λ (m : List A). y ∷ m) cut, keep_failed f y ls t ∙ before, behind)
 
-  pub any_append : (f : A → Bool) (xs ys : List A) → any f (xs ++ ys) ≡ any f xs || any f ys
+  pub any_append : (f : A → Bool) (xs ys : List A) → list_any f (xs ++ ys) ≡ list_any f xs || list_any f ys
   any_append f [] ys = refl
-  any_append f (x ∷ xs) ys = ap (λ (b : Bool). f x || b) (any_append f xs ys) ∙ sym (or_assoc (f x) (any f xs) (any f ys))
+  any_append f (x ∷ xs) ys = ap (λ (b : Bool). f x || b) (any_append f xs ys) ∙ sym (or_assoc (f x) (list_any f xs) (list_any f ys))

@@ -1,11 +1,11 @@
--- A predicate's mark: what it decides of a set and of another predicate, and one turn of the loop that makes it.
+-- A predicate's mark: what it decides of a set and of another predicate, and how it is made.
 -- The idea: a set of one name makes a predicate true only by a term that is that name, or by the empty one; so what p has of such terms, q must
 -- have if p implies q. No contract cites this file. Assumes nothing.
 use mathlib.Core.Path.{◌≡◌, refl, sym, ap, subst, ◌∙◌}
 use mathlib.Core.Bool.{Bool, true, false, not, cond}
 use mathlib.Core.Logic.{inl, inr, ⊎_elim}
 use mathlib.Core.List.{List, [], ◌∷◌, ◌++◌}
-use Prim.Native.Nat.{ℕ, ◌+◌, ◌-◌, ◌^◌, ◌≤◌, ◌<◌}
+use Prim.Native.Nat.{ℕ, ◌-◌, ◌^◌, ◌<◌}
 use native.Mathlib.Nat.{mod-eq_of_lt}
 use native.Mathlib.Omega.{arith}
 use native.Mathlib.Decide.{ℕ_discrete}
@@ -13,17 +13,16 @@ use borrow.Author.Tests.{eq-eqb}
 use lib.Bits.{and_zero_r, and_mask}
 use lib.Count.{ones}
 use lib.Dec.{T, T_not, not_T, eqb, eqb→eq, leb, leb→le, le→leb}
-use lib.ListN.{length, get_or, drop, drop_of_length-le}
 use Rattle.names.specs.Sets.{subset, set_union}
 use Rattle.names.specs.code.Parts.{digit}
 use Rattle.names.specs.code.Parts.{shared}
 use Rattle.names.proofs.SetLaws.{digit-union, and_subset, subset-empty, digit-empty, digits_ext, subset_trans, empty-subset, union_left, union_right, union-least, union-none, union_comm, ones_none, union_assoc}
 use Rattle.names.proofs.PartLaws.{digit-shared, shared-left, shared-right, subset-same}
-use Rattle.predicates.specs.Lists.{all, In}
+use Rattle.std.specs.List.{list_all, fold}
+use Rattle.predicates.specs.Lists.{In}
 use Rattle.predicates.specs.Predicates.{holds, implies}
 use Rattle.predicates.specs.code.Marks.{mark_of, singles}
 use Rattle.predicates.proofs.ListLaws.{true_T, T_true, T_false, both_l, both_r, or_l, or_r, cond_ind, all_out}
-use Rattle.predicates.proofs.LoopLaws.{drop_next, any_here, any_next, any-done}
 use Rattle.predicates.proofs.PredicateLaws.{holds_in, holds_out, holds_mono, implies_out}
 
 -- ---- a set that shares a name with a term of one name contains that term
@@ -109,7 +108,7 @@ holds-mark s a r p e d f =
     (cond_ind (λ (x : ℕ). a ≡ x → T (holds s p)) (holds 0 p) (2 ^ 32 - 1) (singles p) (λ h _. holds_mono 0 s p (empty-subset s) h)
     (λ _ k. singles-holds s p (λ z. f (d ∙ ap (λ (x : ℕ). shared s x) k ∙ z))) e)
 
--- ---- the loop
+-- ---- what one term adds
 
 -- the empty term adds no name
 singles-few : (t : ℕ) (p : List ℕ) → leb (ones t) 1 ≡ true → singles (t ∷ p) ≡ set_union t (singles p)
@@ -129,33 +128,6 @@ singles_many t p h =
     cond_ind (λ (x : ℕ). x ≡ singles p) (eqb (ones t) 1) (set_union t (singles p)) (singles p)
     (λ e. absurd (T_not (leb (ones t) 1) (subst (λ (b : Bool). T (not b)) (sym h) tt) (le→leb (ones t) 1 (omega (arith, eqb→eq (ones t) 1 e))))) (λ _. refl)
 
--- m are the names of the terms before i; the names of the term at i are taken, or not
-module _ (p : List ℕ) (i m : ℕ) where
-  pub singles-take : i < length p → leb (ones (get_or p i 0)) 1 ≡ true → set_union (set_union m (get_or p i 0)) (singles (drop (i + 1) p)) ≡ set_union m (singles (drop i p))
-  singles-take h e = rw (drop_next p i h, singles-few (get_or p i 0) (drop (i + 1) p) e) (union_assoc m (get_or p i 0) (singles (drop (i + 1) p)))
-
-  pub singles_pass : i < length p → leb (ones (get_or p i 0)) 1 ≡ false → set_union m (singles (drop (i + 1) p)) ≡ set_union m (singles (drop i p))
-  singles_pass h e = rw (drop_next p i h, singles_many (get_or p i 0) (drop (i + 1) p) e)
-
--- a term that is not empty passes, an empty one decides
-pub holds_pass : (p : List ℕ) (i : ℕ) → i < length p → (get_or p i 0 ≡ 0 → ⊥) → holds 0 (drop i p) ≡ holds 0 (drop (i + 1) p)
-unfolding holds
-holds_pass p i h f =
-    any_next (λ t. subset t 0) p i h (T_false (subset (get_or p i 0) 0) (not_T (subset (get_or p i 0) 0) (λ k. f (subset-empty (get_or p i 0) k))))
-
-pub mark-all : (p : List ℕ) (i : ℕ) → holds 0 p ≡ holds 0 (drop i p) → i < length p → get_or p i 0 ≡ 0 → mark_of p ≡ 2 ^ 32 - 1
-unfolding mark_of holds
-mark-all p i e h z =
-    let here : holds 0 p ≡ true = e ∙ any_here (λ t. subset t 0) p i h (rw z (T_true (subset 0 0) (empty-subset 0))) in rw here
-
-pub mark-some : (p : List ℕ) (i m : ℕ) → holds 0 p ≡ holds 0 (drop i p) → length p ≤ i → set_union m (singles (drop i p)) ≡ singles p → mark_of p ≡ m
-unfolding mark_of holds singles
-mark-some p i m e h k =
-    let none : holds 0 p ≡ false = e ∙ any-done (λ t. subset t 0) p i h in rw none (sym k ∙ rw (drop_of_length-le p {i = i} h) (union-none m))
-
--- ---- a mark from the terms of one name alone
-
--- what one term adds
 pub alone-few : (t : ℕ) → leb (ones t) 1 ≡ true → singles (t ∷ []) ≡ t
 unfolding singles
 alone-few t h = singles-few t [] h ∙ union-none t
@@ -172,17 +144,16 @@ singles-first t p = go (eqb (ones t) 1)
     go true = rw (union-none t)
     go false = sym (union_comm 0 (singles p) ∙ union-none (singles p))
 
--- a turn and the end of the loop over all terms; a are the names of the term at i
-pub singles-turn : (p : List ℕ) (i m a : ℕ) → i < length p → a ≡ singles (get_or p i 0 ∷ []) → set_union (set_union m a) (singles (drop (i + 1) p)) ≡ set_union m (singles (drop i p))
-singles-turn p i m a h e =
-    rw (drop_next p i h, singles-first (get_or p i 0) (drop (i + 1) p), e) (union_assoc m (singles (get_or p i 0 ∷ [])) (singles (drop (i + 1) p)))
-
-pub singles-done : (p : List ℕ) (i m : ℕ) → length p ≤ i → set_union m (singles (drop i p)) ≡ singles p → m ≡ singles p
+-- the names that the terms add one after the other
+pub fold-singles : (m : ℕ) (p : List ℕ) → fold (λ a t. set_union a (singles (t ∷ []))) m p ≡ set_union m (singles p)
 unfolding singles
-singles-done p i m h k = sym (union-none m) ∙ rw (drop_of_length-le p {i = i} h) at k
+fold-singles m [] = sym (union-none m)
+fold-singles m (t ∷ p) =
+    fold-singles (set_union m (singles (t ∷ []))) p ∙ union_assoc m (singles (t ∷ [])) (singles p)
+    ∙ ap (λ (x : ℕ). set_union m x) (sym (singles-first t p))
 
 -- zeros behind the terms count for nothing
-pub singles-zeros : (p l : List ℕ) → T (all (λ t. eqb t 0) l) → singles (p ++ l) ≡ singles p
+pub singles-zeros : (p l : List ℕ) → T (list_all (λ t. eqb t 0) l) → singles (p ++ l) ≡ singles p
 unfolding singles ones
 singles-zeros [] [] z = refl
 singles-zeros [] (t ∷ l) z =

@@ -13,7 +13,8 @@ use borrow.Author.Tests.{ne_eqb}
 use lib.ListN.{length, get_or}
 use Rattle.names.specs.Sets.{subset, has}
 use Rattle.names.proofs.SetLaws.{subset_refl, subset_trans, subset_antisym, subset_le, empty-subset, ones_mono, test_ext}
-use Rattle.predicates.specs.Lists.{any, all, In}
+use Rattle.std.specs.List.{list_any, list_all}
+use Rattle.predicates.specs.Lists.{In}
 use Rattle.predicates.specs.Predicates.{holds, implies, degree, is_true, struck, precedes, is_normal, insert_rising, rising, minimal, normal, formed}
 use Rattle.predicates.proofs.ListLaws.{both, both_l, both_r, or_l, or_r, or_cases, or_swap, cond_ind, in_cases, any_in, any_out, all_in, all_out, keep_out}
 
@@ -87,15 +88,15 @@ degree-some (t ∷ p) h = go (leb (ones t) (degree p)) refl (λ k. degree-some p
 -- ---- normal form: the order
 
 -- a test passes for some term after sorting where it did before
-any-insert : (f : ℕ → Bool) (t : ℕ) (p : List ℕ) → any f (insert_rising t p) ≡ f t || any f p
+any-insert : (f : ℕ → Bool) (t : ℕ) (p : List ℕ) → list_any f (insert_rising t p) ≡ f t || list_any f p
 unfolding insert_rising
 any-insert f t [] = refl
 any-insert f t (u ∷ p) =
     let rest = any-insert f t p in
-    cond_ind (λ q. any f q ≡ f t || any f (u ∷ p)) (leb t u) (t ∷ u ∷ p) (u ∷ insert_rising t p) (λ _. refl)
-    (λ _. ap (λ (b : Bool). f u || b) rest ∙ or_swap (f u) (f t) (any f p))
+    cond_ind (λ q. list_any f q ≡ f t || list_any f (u ∷ p)) (leb t u) (t ∷ u ∷ p) (u ∷ insert_rising t p) (λ _. refl)
+    (λ _. ap (λ (b : Bool). f u || b) rest ∙ or_swap (f u) (f t) (list_any f p))
 
-pub any-rising : (f : ℕ → Bool) (p : List ℕ) → any f (rising p) ≡ any f p
+pub any-rising : (f : ℕ → Bool) (p : List ℕ) → list_any f (rising p) ≡ list_any f p
 unfolding rising
 any-rising f [] = refl
 any-rising f (t ∷ p) = any-insert f t (rising p) ∙ ap (λ (b : Bool). f t || b) (any-rising f p)
@@ -191,15 +192,15 @@ minimal_out kept (t ∷ p) a =
 
 normal-head : (t : ℕ) (p : List ℕ) → T (is_normal (t ∷ p)) → (u : ℕ) → In u p → T (precedes t u)
 unfolding is_normal
-normal-head t p h u m = all_out (λ v. precedes t v) p (both_l (all (λ v. precedes t v) p) (is_normal p) h) u m
+normal-head t p h u m = all_out (λ v. precedes t v) p (both_l (list_all (λ v. precedes t v) p) (is_normal p) h) u m
 
 pub normal_tail : (t : ℕ) (p : List ℕ) → T (is_normal (t ∷ p)) → T (is_normal p)
 unfolding is_normal
-normal_tail t p h = both_r (all (λ v. precedes t v) p) (is_normal p) h
+normal_tail t p h = both_r (list_all (λ v. precedes t v) p) (is_normal p) h
 
 normal_cons : (t : ℕ) (p : List ℕ) → ((u : ℕ) → In u p → T (precedes t u)) → T (is_normal p) → T (is_normal (t ∷ p))
 unfolding is_normal
-normal_cons t p f h = both (all (λ v. precedes t v) p) (is_normal p) (all_in (λ v. precedes t v) p f) h
+normal_cons t p f h = both (list_all (λ v. precedes t v) p) (is_normal p) (all_in (λ v. precedes t v) p f) h
 
 -- one more term, last
 normal_snoc : (p : List ℕ) (t : ℕ) → T (is_normal p) → ((u : ℕ) → In u p → T (precedes u t)) → T (is_normal (p ++ (t ∷ [])))
@@ -367,15 +368,15 @@ not_true_full p n t m =
 pub true_first : (p : List ℕ) → T (is_normal p) → 0 < length p → is_true p ≡ eqb (get_or p 0 0) 0
 unfolding is_true is_normal
 true_first [] n h = absurd (omega arith)
-true_first (t ∷ p) n h = go (eqb t 0) (later p (both_l (all (λ u. precedes t u) p) (is_normal p) n))
+true_first (t ∷ p) n h = go (eqb t 0) (later p (both_l (list_all (λ u. precedes t u) p) (is_normal p) n))
   where
-    go : (b : Bool) → any (λ u. eqb u 0) p ≡ false → b || any (λ u. eqb u 0) p ≡ b
+    go : (b : Bool) → list_any (λ u. eqb u 0) p ≡ false → b || list_any (λ u. eqb u 0) p ≡ b
     go true e = refl
     go false e = e
 
-    later : (q : List ℕ) → T (all (λ u. precedes t u) q) → any (λ u. eqb u 0) q ≡ false
+    later : (q : List ℕ) → T (list_all (λ u. precedes t u) q) → list_any (λ u. eqb u 0) q ≡ false
     later [] a = refl
     later (u ∷ q) a =
-        let first = both_l (precedes t u) (all (λ v. precedes t v) q) a in
+        let first = both_l (precedes t u) (list_all (λ v. precedes t v) q) a in
         let less : t < u = ltb→lt t u (both_l (ltb t u) _ first) in
-        ap (λ (b : Bool). b || any (λ v. eqb v 0) q) (ne_eqb u 0 (λ e. omega arith)) ∙ later q (both_r (precedes t u) (all (λ v. precedes t v) q) a)
+        ap (λ (b : Bool). b || list_any (λ v. eqb v 0) q) (ne_eqb u 0 (λ e. omega arith)) ∙ later q (both_r (precedes t u) (list_all (λ v. precedes t v) q) a)

@@ -1,18 +1,20 @@
--- Lists that are filled, filtered and joined in place: the loops and calls of `sums`, on plain values. No contract cites this file. Assumes nothing.
+-- Lists that are filled, filtered and joined in place: the calls of `sums`, on plain values. No contract cites this file. Assumes nothing.
 use Prim.Native.Nat.{ℕ, suc, ◌+◌, ◌-◌, ◌^◌, ◌≤◌, ◌<◌}
 use mathlib.Core.Path.{◌≡◌, refl, sym, ap, ◌∙◌}
-use mathlib.Core.Bool.{true, false, or_comm}
-use mathlib.Core.List.{List, [], ◌∷◌, ◌++◌, append_assoc}
+use mathlib.Core.Bool.{Bool, true, false, not, cond, or_comm}
+use mathlib.Core.List.{List, [], ◌∷◌, ◌++◌, append_assoc, append-nil}
 use native.Mathlib.Nat.{zero-add}
 use native.Mathlib.Numerals.{add-one}
 use native.Mathlib.Omega.{arith}
-use lib.ListN.{length, get_or, take, drop, set, replicate, length-append, length-set}
-use lib.Seq.{sets, sets-eq, length-sets, take_at, drop_at, set_at, drop-drop, drop-append-add, take-set-le, drop-set-lt, get_or-set_same}
+use borrow.Rule.Slice.PartMut.{put_mid}
+use lib.ListN.{length, get_or, take, drop, set, replicate, length-append, length-set, length-drop, drop_of_length-le}
+use lib.Seq.{sets, sets-eq, length-sets, drop-append-add, length-take-le, take_at, drop_at, set_at, drop-drop, take-set-le, get_or-set_same}
 use Rattle.names.specs.Sets.{has}
 use Rattle.predicates.specs.Lists.{padded}
 use Rattle.predicates.specs.Predicates.{holds, struck, normal, formed}
+use Rattle.predicates.specs.code.Sifts.{sifted}
 use Rattle.predicates.proofs.LoopLaws.{drop_next}
-use Rattle.predicates.proofs.PlaceLaws.{padded-zeros}
+use Rattle.predicates.proofs.PlaceLaws.{padded-zeros, length-padded}
 use Rattle.predicates.proofs.PredicateLaws.{holds-sum, normal-same}
 
 -- ---- a run that is stored place by place
@@ -26,23 +28,11 @@ zeros_end s i n h = let e : n - i ≡ 0 = omega arith in rw e
 pub copy-turn : (s p : List ℕ) (at i : ℕ) → i < length p → sets (set s (at + i) (get_or p i 0)) (at + (i + 1)) (drop (i + 1) p) ≡ sets s (at + i) (drop i p)
 copy-turn s p at i h = let e : at + (i + 1) ≡ suc (at + i) = omega arith in rw (e, drop_next p i h)
 
--- ---- striking a name: a sifting in which what has been kept plays no part
-
-abbrev pub striking : ℕ → List ℕ → List ℕ → List ℕ
-striking name kept p = struck name p
-
-module _ (name : ℕ) (kept : List ℕ) (t : ℕ) where
-  pub struck_gone : has name t ≡ true → (p : List ℕ) → striking name kept (t ∷ p) ≡ striking name kept p
-  unfolding struck
-  struck_gone e p = rw e
-
-  pub struck_stays : has name t ≡ false → (p : List ℕ) → striking name kept (t ∷ p) ≡ t ∷ striking name (kept ++ (t ∷ [])) p
-  unfolding struck
-  struck_stays e p = rw e
-
-pub struck-none : (name : ℕ) → struck name [] ≡ []
-unfolding struck
-struck-none name = refl
+-- a list that is copied into the places from `at` on; k places are lent for it
+pub copied : (at k : ℕ) (l ys p : List ℕ) → at + length p ≤ length l → k ≡ length p → ys ≡ p → put_mid at k l ys ≡ sets l at p
+copied at k l ys p h m e =
+    let same : drop k (drop at l) ≡ drop (at + length p) l = rw m (drop-drop (length p) at l) in
+    rw (e, same, ← append_assoc (take at l) p (drop (at + length p) l)) (sym (sets-eq p l at h))
 
 -- ---- two predicates, one behind the other
 
@@ -56,6 +46,18 @@ both_calls l p q s t h a b =
     ap (λ (x : List ℕ). drop n x) one ∙ drop-append-add p (drop (length p) l) (length q) ∙ drop-drop (length q) (length p) l in
     b ∙ sets-eq q s (length p) (omega arith) ∙ rw (ap (λ (x : List ℕ). take (length p) x) one ∙ take_at p (drop (length p) l) (length p) refl, behind)
 
+-- ---- striking a name: a sifting in which what has been kept plays no part
+
+pub struck-sifted : (name : ℕ) (kept p : List ℕ) → sifted (λ k t. has name t) kept p ≡ struck name p
+unfolding sifted struck
+struck-sifted name kept [] = refl
+struck-sifted name kept (t ∷ p) = go (has name t) (struck-sifted name kept p) (struck-sifted name (kept ++ (t ∷ [])) p)
+  where
+    go : (b : Bool) → sifted (λ k u. has name u) kept p ≡ struck name p → sifted (λ k u. has name u) (kept ++ (t ∷ [])) p ≡ struck name p
+        → cond b (sifted (λ k u. has name u) kept p) (t ∷ sifted (λ k u. has name u) (kept ++ (t ∷ [])) p) ≡ cond (not b) (t ∷ struck name p) (struck name p)
+    go true e f = e
+    go false e f = ap (λ (q : List ℕ). t ∷ q) f
+
 -- ---- what a receiver forms
 
 -- the sender's term may stand last
@@ -68,46 +70,78 @@ formed-last own sender p = normal-same (struck own p ++ (2 ^ sender ∷ [])) (2 
         holds-sum s (struck own p) (2 ^ sender ∷ []) ∙ or_comm (holds s (struck own p)) (holds s (2 ^ sender ∷ []))
         ∙ sym (holds-sum s (2 ^ sender ∷ []) (struck own p))
 
--- the place behind n is cleared, the own name struck, and the sender's term put behind what is left
-module _ (l s t u : List ℕ) (own sender n k : ℕ) (h : n < length l) (a : s ≡ set l n 0)
-    (b : (k ≡ length (struck own (take n s))) × (k ≤ n)) (c : t ≡ padded n (struck own (take n s)) ++ drop n s) (d : u ≡ set t k (2 ^ sender)) where
+-- the last place is cleared, the own name struck before it, and the sender's term put behind what is left
+module _ (l y z : List ℕ) (own sender n k r : ℕ) (h : n + 1 ≡ length l)
+    (b : k ≡ length (struck own (take n (set l n 0)))) (o : k ≤ n) (c : y ≡ padded n (struck own (take n (set l n 0)))) where
   kept : List ℕ
   kept = struck own (take n l)
 
-  used : struck own (take n s) ≡ kept
+  used : struck own (take n (set l n 0)) ≡ kept
   unfolding kept
-  used = ap (λ (x : List ℕ). struck own (take n x)) a ∙ ap (λ (x : List ℕ). struck own x) (take-set-le n l n 0 (omega arith))
+  used = ap (λ (x : List ℕ). struck own x) (take-set-le n l n 0 (omega arith))
 
-  behind : drop n s ≡ 0 ∷ drop (n + 1) l
+  behind : drop n (set l n 0) ≡ 0 ∷ []
   behind =
-      ap (λ (x : List ℕ). drop n x) a ∙ drop_next (set l n 0) n (omega (arith, length-set l n 0))
-      ∙ rw (get_or-set_same l n 0 0 h, drop-set-lt (n + 1) l n 0 (omega arith))
+      let long : length (set l n 0) ≡ length l = length-set l n 0 in
+      drop_next (set l n 0) n (omega arith) ∙ rw (get_or-set_same l n 0 0 (omega arith), drop_of_length-le (set l n 0) {i = n + 1} (omega arith))
 
   count : k ≡ length kept
-  count = b.0 ∙ ap length used
+  count = b ∙ ap length used
 
-  made : u ≡ kept ++ (2 ^ sender ∷ (replicate (n - k) 0 ++ drop (n + 1) l))
+  made : set (y ++ drop n (set l n 0)) k (2 ^ sender) ≡ (kept ++ (2 ^ sender ∷ [])) ++ replicate (n - k) 0
   unfolding padded
   made =
       let e : n + 1 - length kept ≡ suc (n - k) = omega (arith, count) in
       let small : length kept ≤ n = omega (arith, count) in
-      let long : t ≡ kept ++ (0 ∷ (replicate (n - k) 0 ++ drop (n + 1) l)) =
-      c ∙ rw (used, behind) (padded-zeros n 1 kept (drop (n + 1) l) small ∙ rw (e, append_assoc kept (0 ∷ replicate (n - k) 0) (drop (n + 1) l))) in
-      d ∙ ap (λ (x : List ℕ). set x k (2 ^ sender)) long ∙ set_at kept 0 (replicate (n - k) 0 ++ drop (n + 1) l) (2 ^ sender) k (sym count)
+      let zeros = replicate (n - k) 0 in
+      let long : padded n kept ++ (0 ∷ []) ≡ kept ++ (0 ∷ zeros) = padded-zeros n 1 kept [] small ∙ append-nil (padded (n + 1) kept) ∙ rw e in
+      ap (λ (x : List ℕ). set (x ++ drop n (set l n 0)) k (2 ^ sender)) c ∙ rw (used, behind, long) (set_at kept 0 zeros (2 ^ sender) k (sym count) ∙ sym (append_assoc kept (2 ^ sender ∷ []) zeros))
 
-  pub form_calls : (e : List ℕ) (r : ℕ) → (r ≡ length (normal (take (k + 1) u))) × (r ≤ k + 1) → e ≡ padded (k + 1) (normal (take (k + 1) u)) ++ drop (k + 1) u
-      → ((r ≡ length (formed own sender (take n l))) × (r ≤ n + 1)) × (e ≡ padded (n + 1) (formed own sender (take n l)) ++ drop (n + 1) l)
-  unfolding kept
-  form_calls e r p q =
-      let zeros = replicate (n - k) 0 ++ drop (n + 1) l in
-      let last : u ≡ (kept ++ (2 ^ sender ∷ [])) ++ zeros = made ∙ sym (append_assoc kept (2 ^ sender ∷ []) zeros) in
-      let m : length (kept ++ (2 ^ sender ∷ [])) ≡ k + 1 = omega (arith, length-append kept (2 ^ sender ∷ []), count) in
-      let front : normal (take (k + 1) u) ≡ formed own sender (take n l) =
-      ap (λ (x : List ℕ). normal (take (k + 1) x)) last ∙ ap (λ (x : List ℕ). normal x) (take_at (kept ++ (2 ^ sender ∷ [])) zeros (k + 1) m) ∙ formed-last own sender (take n l) in
-      let rest : drop (k + 1) u ≡ zeros = ap (λ (x : List ℕ). drop (k + 1) x) last ∙ drop_at (kept ++ (2 ^ sender ∷ [])) zeros (k + 1) m in
-      let same : r ≡ length (formed own sender (take n l)) = p.0 ∙ ap length front in
-      let f : k + 1 + (n - k) ≡ n + 1 = omega arith in
-      ((same, omega arith), q ∙ rw (front, rest) (padded-zeros (k + 1) (n - k) (formed own sender (take n l)) (drop (n + 1) l) (omega (arith, same)) ∙ rw f))
+  module _ (u : List ℕ) (w : u ≡ set (y ++ drop n (set l n 0)) k (2 ^ sender))
+      (p : r ≡ length (normal (take (k + 1) u))) (q : z ≡ padded (k + 1) (normal (take (k + 1) u))) where
+    width : length (kept ++ (2 ^ sender ∷ [])) ≡ k + 1
+    width = omega (arith, length-append kept (2 ^ sender ∷ []), count)
+
+    front : normal (take (k + 1) u) ≡ formed own sender (take n l)
+    unfolding kept
+    front =
+        ap (λ (x : List ℕ). normal (take (k + 1) x)) (w ∙ made)
+        ∙ ap (λ (x : List ℕ). normal x) (take_at (kept ++ (2 ^ sender ∷ [])) (replicate (n - k) 0) (k + 1) width) ∙ formed-last own sender (take n l)
+
+    form_value : r ≡ length (formed own sender (take n l))
+    form_value = p ∙ ap length front
+
+    form_terms : r ≤ k + 1 → z ++ drop (k + 1) u ≡ padded (length l) (formed own sender (take n l))
+    form_terms m =
+        let rest : drop (k + 1) u ≡ replicate (n - k) 0 =
+        ap (λ (x : List ℕ). drop (k + 1) x) (w ∙ made) ∙ drop_at (kept ++ (2 ^ sender ∷ [])) (replicate (n - k) 0) (k + 1) width in
+        let all : k + 1 + (n - k) ≡ length l = omega arith in
+        let made = formed own sender (take n l) in
+        rw (q, front, rest, ← append-nil {A = ℕ} (replicate (n - k) 0)) (padded-zeros (k + 1) (n - k) made [] (omega (arith, form_value)) ∙ append-nil (padded (k + 1 + (n - k)) made) ∙ rw all)
+
+-- so with what the calls promise
+pub form_calls : (l y z u : List ℕ) (own sender n k r v : ℕ) → 0 < length l → n ≡ length l - 1
+    → (k ≡ length (struck own (take n (set l n 0)))) × (k ≤ length (take n (set l n 0)))
+    → y ≡ padded (length (take n (set l n 0))) (struck own (take n (set l n 0)))
+    → v ≡ 2 ^ sender → u ≡ set (y ++ drop n (set l n 0)) k v
+    → (r ≡ length (normal (take (k + 1) u))) × (r ≤ length (take (k + 1) u)) → z ≡ padded (length (take (k + 1) u)) (normal (take (k + 1) u))
+    → ((r ≡ length (formed own sender (take n l))) × (r ≤ length l)) × (z ++ drop (k + 1) u ≡ padded (length l) (formed own sender (take n l)))
+form_calls l y z u own sender n k r v h e b c s w p q =
+    let long : length (set l n 0) ≡ length l = length-set l n 0 in
+    let used : length (take n (set l n 0)) ≡ n = length-take-le n (set l n 0) (omega arith) in
+    let y_is : y ≡ padded n (struck own (take n (set l n 0))) = rw used at c in
+    let small : k ≤ n = omega (arith, b.1) in
+    let wide : length y ≡ n = ap length y_is ∙ length-padded n (struck own (take n (set l n 0))) (omega (arith, b.0)) in
+    let all : length u ≡ length l =
+    ap length w ∙ length-set (y ++ drop n (set l n 0)) k v ∙ omega (arith, length-append y (drop n (set l n 0)), length-drop n (set l n 0)) in
+    let front : length (take (k + 1) u) ≡ k + 1 = length-take-le (k + 1) u (omega arith) in
+    let z_is : z ≡ padded (k + 1) (normal (take (k + 1) u)) = rw front at q in
+    let u_is : u ≡ set (y ++ drop n (set l n 0)) k (2 ^ sender) = rw s at w in
+    let last : n + 1 ≡ length l = omega arith in
+    let few : r ≤ k + 1 = omega (arith, p.1) in (
+      (form_value l y z own sender n k r last b.0 small y_is u u_is p.0 z_is, omega arith),
+      form_terms l y z own sender n k r last b.0 small y_is u u_is p.0 z_is few,
+    )
 
 -- what stands at the front of an array filled up with zeros
 pub padded-front : (n : ℕ) (x y : List ℕ) → take (length x) (padded n x ++ y) ≡ x

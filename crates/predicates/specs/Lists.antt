@@ -1,22 +1,7 @@
--- Tests over lists, places in a list, and a list filled up with zeros. Assumes nothing: these are definitions.
-use Rattle.std.specs.Prelude.{ℕ, zero, suc, ◌-◌, ◌≡◌, ◌⊎◌, Bool, true, false, ◌&&◌, ◌||◌, cond, List, [], ◌∷◌, ◌++◌, length, replicate}
+-- An element of a list, a test below a number, and a list filled up with zeros. Assumes nothing: these are definitions.
+use Rattle.std.specs.Prelude.{ℕ, zero, suc, ◌-◌, ◌≡◌, ◌⊎◌, Bool, true, ◌&&◌, List, [], ◌∷◌, ◌++◌, length, replicate}
 
 module _ {A : Type 0} where
-  -- some element passes
-  abbrev pub any : (A → Bool) → List A → Bool
-  any f [] = false
-  any f (x ∷ xs) = f x || any f xs
-
-  -- every element passes
-  abbrev pub all : (A → Bool) → List A → Bool
-  all f [] = true
-  all f (x ∷ xs) = f x && all f xs
-
-  -- the elements that pass, in their order
-  abbrev pub keep : (A → Bool) → List A → List A
-  keep f [] = []
-  keep f (x ∷ xs) = cond (f x) (x ∷ keep f xs) (keep f xs)
-
   -- a is an element
   abbrev pub In : A → List A → Type 0
   In a [] = ⊥

@@ -4,11 +4,12 @@
 
 pub mod marks;
 pub mod normal;
+mod sift;
 pub mod sums;
 
 ghost use Rattle.std.specs.Prelude.{◌≡◌};
 ghost use Rattle.names.specs.Sets.{subset};
-ghost use Rattle.predicates.specs.Lists.{any, all};
+ghost use Rattle.std.specs.List.{list_any, list_all};
 ghost use Rattle.predicates.specs.Predicates.{holds, implies};
 ghost use Rattle.predicates.specs.Predicates.{precedes, is_normal};
 
@@ -16,76 +17,48 @@ ghost use Rattle.predicates.specs.Predicates.{precedes, is_normal};
 pub const DEGREE_OF_FALSE: u32 = 30;
 
 // Whether the set s makes p true.
+#[tactic(auto, unfolding(crate::specs::Predicates::holds))]
 pub fn holds(p: &[u32], s: u32) -> bool
     ensures { result ≡ holds s p.now }
 {
-    let mut i: usize = 0;
-    while i < p.len() {
-        if names::subset(p[i], s) {
+    for t in p {
+        if names::subset(*t, s) {
             return true;
         }
-        i += 1;
     }
     false
 }
 
 // Whether p implies q.
+#[tactic(auto, unfolding(crate::specs::Predicates::implies))]
 pub fn implies(p: &[u32], q: &[u32]) -> bool
     ensures { result ≡ implies p.now q.now }
 {
-    let mut i: usize = 0;
-    while i < p.len() {
-        if !holds(q, p[i]) {
-            return false;
-        }
-        i += 1;
-    }
-    true
+    p.iter().all(|t| holds(q, *t))
 }
 
 // Whether a term of p contains t.
 pub fn contained(t: u32, p: &[u32]) -> bool
-    ensures { result ≡ any (λ u. subset t u) p.now }
+    ensures { result ≡ list_any (λ u. subset t u) p.now }
 {
-    let mut i: usize = 0;
-    while i < p.len() {
-        if names::subset(t, p[i]) {
-            return true;
-        }
-        i += 1;
-    }
-    false
+    p.iter().any(|u| names::subset(t, *u))
 }
 
 // Whether t may stand before each term of p. Predicates are short: to stop at the first that fails is faster than to carry the test along.
 fn precedes_all(t: u32, p: &[u32]) -> bool
-    ensures { result ≡ all (λ u. precedes t u) p.now }
+    ensures { result ≡ list_all (λ u. precedes t u) p.now }
 {
-    let mut i: usize = 0;
-    while i < p.len() {
-        let u = p[i];
-        if u <= t {
-            return false;
-        }
-        if names::subset(t, u) {
-            return false;
-        }
-        i += 1;
-    }
-    true
+    p.iter().all(|u| t < *u && !names::subset(t, *u))
 }
 
 // Whether p is in normal form.
 pub fn is_normal(p: &[u32]) -> bool
     ensures { result ≡ is_normal p.now }
 {
-    let mut i: usize = 0;
-    while i < p.len() {
-        let next = i + 1;
-        if !precedes_all(p[i], &p[next..]) {
+    for (i, t) in p.iter().enumerate() {
+        if !precedes_all(*t, &p[i + 1..]) {
             return false;
         }
-        i = next;
     }
     true
 }

@@ -4,25 +4,17 @@ ghost use Rattle.std.specs.Prelude.{◌≡◌, false, [], ◌∷◌};
 ghost use Rattle.names.specs.Sets.{subset};
 ghost use Rattle.predicates.specs.Predicates.{holds, implies};
 ghost use Rattle.predicates.specs.code.Marks.{singles, mark_of, Apart};
-ghost use Rattle.predicates.specs.Lists.{any};
+ghost use Rattle.std.specs.List.{list_any};
 
 // The mark of p: the names that each make it true alone, or all that a mask can hold where it is true whatever has failed.
+#[tactic(auto, unfolding(crate::specs::code::Marks::mark_of))]
 pub fn mark_of(p: &[u32]) -> u32
     ensures { result ≡ mark_of p.now }
 {
-    let mut names: u32 = 0;
-    let mut i: usize = 0;
-    while i < p.len() {
-        let t = p[i];
-        if t == 0 {
-            return 4294967295;
-        }
-        if names::at_most_one(t) {
-            names = names::union(names, t);
-        }
-        i += 1;
+    if super::holds(p, 0) {
+        return u32::MAX;
     }
-    names
+    names_alone(p)
 }
 
 // A term of one name; no names in place of any other.
@@ -37,13 +29,7 @@ fn alone(t: u32) -> u32
 pub fn names_alone(p: &[u32]) -> u32
     ensures { result ≡ singles p.now }
 {
-    let mut names: u32 = 0;
-    let mut i: usize = 0;
-    while i < p.len() {
-        names = names::union(names, alone(p[i]));
-        i += 1;
-    }
-    names
+    p.iter().fold(0, |names, t| names::union(names, alone(*t)))
 }
 
 // Whether a predicate may imply one whose mark is `bound`, by its own mark: it does not where that has a name more. One that is always true is
@@ -56,13 +42,11 @@ pub fn may_imply(mark: u32, bound: u32) -> bool
 
 // Whether a predicate of one of these marks may imply one whose mark is `bound`. All are looked at: that is faster than to stop.
 pub fn any_may_imply(marks: &[u32], bound: u32) -> bool
-    ensures { result ≡ any (λ m. subset m bound) marks.now }
+    ensures { result ≡ list_any (λ m. subset m bound) marks.now }
 {
     let mut some = false;
-    let mut i: usize = 0;
-    while i < marks.len() {
-        some = some | names::subset(marks[i], bound);
-        i += 1;
+    for m in marks {
+        some |= names::subset(*m, bound);
     }
     some
 }
@@ -79,16 +63,10 @@ fn holds_by_mark(p: &[u32], mark: u32, s: u32) -> bool
 }
 
 // Whether p implies q; q's mark is given.
+#[tactic(auto, unfolding(crate::specs::Predicates::implies))]
 pub fn implies_by_mark(p: &[u32], q: &[u32], bound: u32) -> bool
     requires { bound ≡ mark_of q.now }
     ensures { result ≡ implies p.now q.now }
 {
-    let mut i: usize = 0;
-    while i < p.len() {
-        if !holds_by_mark(q, bound, p[i]) {
-            return false;
-        }
-        i += 1;
-    }
-    true
+    p.iter().all(|t| holds_by_mark(q, bound, *t))
 }

@@ -9,26 +9,26 @@ use lib.ListN.{length, get_or, set, length-append, length-set}
 use Rattle.numbers.specs.Numbers.{tab, put}
 use Rattle.numbers.proofs.NumberLaws.{tab_suc, put_then}
 use Rattle.names.specs.Sets.{has}
-use Rattle.predicates.specs.Lists.{keep}
+use Rattle.std.specs.List.{filter}
 use Rattle.predicates.proofs.ListLaws.{keep_append}
 use Rattle.epochs.specs.Epochs.{name}
 
 -- those of the first i identifiers
 unfoldable pub names_below : List ℕ → ℕ → ℕ → List ℕ
-names_below ks mask i = map (λ n. name n (get_or ks n 0)) (keep (λ n. has n mask) (tab i (λ n. n)))
+names_below ks mask i = map (λ n. name n (get_or ks n 0)) (filter (λ n. has n mask) (tab i (λ n. n)))
 
 module _ (ks : List ℕ) (mask i : ℕ) where
   pub below_next : has i mask ≡ true → names_below ks mask (i + 1) ≡ names_below ks mask i ++ (name i (get_or ks i 0) ∷ [])
   unfolding names_below
   below_next e =
       rw (tab_suc i (λ n. n), keep_append (λ n. has n mask) (tab i (λ n. n)) (i ∷ []), e)
-      (map-append (λ n. name n (get_or ks n 0)) (keep (λ n. has n mask) (tab i (λ n. n))) (i ∷ []))
+      (map-append (λ n. name n (get_or ks n 0)) (filter (λ n. has n mask) (tab i (λ n. n))) (i ∷ []))
 
   pub below_skip : has i mask ≡ false → names_below ks mask (i + 1) ≡ names_below ks mask i
   unfolding names_below
   below_skip e =
       rw (tab_suc i (λ n. n), keep_append (λ n. has n mask) (tab i (λ n. n)) (i ∷ []), e)
-      (ap (λ (l : List ℕ). map (λ n. name n (get_or ks n 0)) l) (append-nil (keep (λ n. has n mask) (tab i (λ n. n)))))
+      (ap (λ (l : List ℕ). map (λ n. name n (get_or ks n 0)) l) (append-nil (filter (λ n. has n mask) (tab i (λ n. n)))))
 
 -- r of them are stored at the front of a list; the rest of it is as it was
 pub record Given (ks : List ℕ) (mask i : ℕ) (names₀ names : List ℕ) (r : ℕ) : Type 0 where

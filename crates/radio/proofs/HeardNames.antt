@@ -6,13 +6,13 @@ use mathlib.Core.List.{List, [], ◌∷◌}
 use native.Mathlib.Omega.{arith}
 use lib.Dec.{T, ltb, ltb→lt}
 use lib.ListN.{length, get_or}
-use Rattle.predicates.specs.Lists.{all}
+use Rattle.std.specs.List.{list_all}
 use Rattle.predicates.proofs.ListLaws.{both_l, both_r}
 use Rattle.predicates.proofs.IndexLaws.{all_get_or, at_in}
 use Rattle.message.specs.Words.{masks}
 use Rattle.message.specs.Read.{term_words}
 use Rattle.message.proofs.MessageLaws.{masks_lt}
-use Rattle.message.specs.declared.Reading.TheVariants.{Message}
+use Rattle.message.specs.Read.{Message}
 use Rattle.epochs.specs.Epochs.{name_limit, identifier_of}
 use Rattle.epochs.specs.code.Known.{Named}
 use Rattle.radio.specs.Names.{wanted, rises, names_fit}
@@ -26,9 +26,9 @@ rises_at [] t i j h k = absurd (omega (arith, k))
 rises_at (w ∷ ws) t i zero h k = absurd (omega (arith, h))
 rises_at (w ∷ ws) t zero (suc j) h k =
     ltb→lt (identifier_of w) (identifier_of (get_or ws j 0))
-    (all_get_or (λ v. ltb (identifier_of w) (identifier_of v)) ws j 0 (both_l (all (λ v. ltb (identifier_of w) (identifier_of v)) ws) _ t) (omega (arith, k)))
+    (all_get_or (λ v. ltb (identifier_of w) (identifier_of v)) ws j 0 (both_l (list_all (λ v. ltb (identifier_of w) (identifier_of v)) ws) _ t) (omega (arith, k)))
 rises_at (w ∷ ws) t (suc i) (suc j) h k =
-    rises_at ws (both_r (all (λ v. ltb (identifier_of w) (identifier_of v)) ws) (rises ws) t) i j (omega (arith, h)) (omega (arith, k))
+    rises_at ws (both_r (list_all (λ v. ltb (identifier_of w) (identifier_of v)) ws) (rises ws) t) i j (omega (arith, h)) (omega (arith, k))
 
 pub heard-names : {ends : Bool} {ws : List ℕ} {s l r n : ℕ} → Live ends ws s l r n → Named (epoch_words (Message s l r n) ws)
 heard-names {ends} {ws} {s} {l} {r} {n} live =

@@ -11,15 +11,15 @@ use lib.Dec.{T, ltb, ltb→lt, eqb}
 use lib.ListN.{length, get_or}
 use borrow.Author.Tests.{eq-eqb}
 use Rattle.numbers.specs.Numbers.{Words}
-use Rattle.predicates.specs.Lists.{all}
+use Rattle.std.specs.List.{list_all}
 use Rattle.predicates.specs.Predicates.{is_normal}
 use Rattle.predicates.proofs.ListLaws.{true_T, both_l, both_r}
 use Rattle.predicates.proofs.IndexLaws.{all_mono}
 use Rattle.message.specs.Words.{payload_size, ends_limit, terms_most, kind_of, word, of_kind, masks}
 use Rattle.message.specs.Read.{is_ends, middle, term_words}
 use Rattle.message.specs.Write.{end_words, message_words}
-use Rattle.message.specs.declared.Reading.{Reading}
-use Rattle.message.specs.declared.Reading.TheVariants.{Message, Refused}
+use Rattle.message.specs.Read.{Reading}
+use Rattle.message.specs.Read.{Message, Refused}
 use Rattle.message.proofs.ReadLaws.{from_in}
 use Rattle.message.proofs.MessageLaws.{Masks, masks-terms, masks_lt, length-message-more, parts-message, more-message, middle-message, taken-message}
 use Rattle.message.proofs.MessageLaws.{words_cons, words-none, words-message-more, length-terms, again, again_ends}
@@ -32,12 +32,12 @@ use Rattle.radio.proofs.ReadLaws.{leading-append, leading-none, Live, read_in, r
 
 -- ---- names are words of kind 0
 
-names-kind : (names : List ℕ) → T (all (λ w. ltb w name_limit) names) → T (of_kind 0 names)
+names-kind : (names : List ℕ) → T (list_all (λ w. ltb w name_limit) names) → T (of_kind 0 names)
 unfolding of_kind
 names-kind names t =
     all_mono (λ w. ltb w name_limit) (λ w. eqb (kind_of w) 0) names (λ w h. true_T _ (eq-eqb (kind_of w) 0 (omega (arith, ltb→lt w name_limit h)))) t
 
-names-words : (names : List ℕ) → T (all (λ w. ltb w name_limit) names) → Words names
+names-words : (names : List ℕ) → T (list_all (λ w. ltb w name_limit) names) → Words names
 names-words [] t = words-none
 names-words (w ∷ names) t =
     words_cons w names (omega (arith, ltb→lt w name_limit (both_l (ltb w name_limit) _ t))) (names-words names (both_r (ltb w name_limit) _ t))

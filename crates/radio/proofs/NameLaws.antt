@@ -3,24 +3,23 @@
 -- No contract cites this file. Assumes nothing.
 use Prim.Native.Nat.{ℕ, zero, suc, ◌+◌, ◌*◌, ◌/◌, ◌^◌, ◌≤◌, ◌<◌}
 use mathlib.Core.Path.{◌≡◌, refl, sym, ap, subst, ◌∙◌}
-use mathlib.Core.Bool.{Bool, true, false, not, ◌&&◌, and_assoc, cond}
+use mathlib.Core.Bool.{Bool, true, false, not, ◌&&◌, cond}
 use mathlib.Core.List.{List, [], ◌∷◌, ◌++◌, map, append-nil, map-append}
 use mathlib.Core.Logic.{◌⊎◌, inl, inr}
 use native.Mathlib.Nat.{pow-le-pow_right, one-le-pow, div-eq_of_lt}
 use native.Mathlib.Decide.{ℕ_discrete}
-use native.Mathlib.Numerals.{add-one}
 use native.Mathlib.Omega.{arith}
 use lib.Bits.{or_lt}
 use lib.Dec.{T, ltb, ltb→lt, lt→ltb, nltb→le, eqb, eqb→eq}
-use lib.ListN.{length, get_or, drop, drop_of_length-le}
-use lib.Seq.{slice, slice-cons, slice_empty}
+use lib.ListN.{length, get_or, drop}
 use borrow.Author.Tests.{eq-eqb}
 use Rattle.names.specs.Sets.{subset, set_union, has}
 use Rattle.names.specs.code.Parts.{digit}
 use Rattle.names.proofs.SetLaws.{test_ext, digit_lt, digit-union, digit-empty, digit-single-same, digit-single_other, digits_ext, subset_trans}
 use Rattle.names.proofs.SetLaws.{subset_le, union_left, union_right, union_comm, union-none, union_assoc, union_left_comm, union-above}
 use Rattle.names.proofs.SetLaws.{has_in, has_out, has_mono}
-use Rattle.predicates.specs.Lists.{all, keep, In}
+use Rattle.std.specs.List.{list_all, filter, fold}
+use Rattle.predicates.specs.Lists.{In}
 use Rattle.predicates.proofs.ListLaws.{both, both_l, both_r, true_T, split, all_out, all_in, keep_in, keep_out, keep_append, map_in, map_out}
 use Rattle.predicates.proofs.ListLaws.{in_cases}
 use Rattle.predicates.proofs.IndexLaws.{all_mono, at_in}
@@ -80,24 +79,24 @@ seen_in seen i j h k = omega (arith, bit_next i j k, seen_sum seen i h)
 
 -- the identifiers are above those seen
 abbrev above : ℕ → List ℕ → Bool
-above seen ws = all (under seen) ws
+above seen ws = list_all (under seen) ws
 
 module _ (mask : ℕ) where
-  walk_in : (seen : ℕ) (ws : List ℕ) → T (all small ws) → T (above seen ws) → T (rises ws) → set_union seen (named ws) ≡ mask
+  walk_in : (seen : ℕ) (ws : List ℕ) → T (list_all small ws) → T (above seen ws) → T (rises ws) → set_union seen (named ws) ≡ mask
       → T (names_from mask seen ws)
   unfolding names_from rises named
   walk_in seen [] a b c e = true_T _ (eq-eqb seen mask (sym (union-none seen) ∙ e))
   walk_in seen (w ∷ ws) a b c e =
       let next = set_union seen (bit_of w) in
       let low = ltb→lt seen (bit_of w) (both_l (under seen w) _ b) in
-      let rising = both_l (all (over w) ws) (rises ws) c in
+      let rising = both_l (list_all (over w) ws) (rises ws) c in
       let later = all_mono (over w) (under next) ws
       (λ v t. lt→ltb next (bit_of v) (seen_in seen _ _ low (ltb→lt (identifier_of w) (identifier_of v) t))) rising in
       both (follows seen w) _ (both (small w) (under seen w) (both_l (small w) _ a) (both_l (under seen w) _ b))
-      (walk_in next ws (both_r (small w) _ a) later (both_r (all (over w) ws) (rises ws) c) (union_assoc seen (bit_of w) (named ws) ∙ e))
+      (walk_in next ws (both_r (small w) _ a) later (both_r (list_all (over w) ws) (rises ws) c) (union_assoc seen (bit_of w) (named ws) ∙ e))
 
   walk_out : (seen : ℕ) (ws : List ℕ) → T (names_from mask seen ws)
-      → T (all small ws) × T (above seen ws) × T (rises ws) × (set_union seen (named ws) ≡ mask)
+      → T (list_all small ws) × T (above seen ws) × T (rises ws) × (set_union seen (named ws) ≡ mask)
   unfolding names_from rises named
   walk_out seen [] t = (tt, tt, tt, union-none seen ∙ eqb→eq seen mask t)
   walk_out seen (w ∷ ws) t =
@@ -110,9 +109,9 @@ module _ (mask : ℕ) where
       (λ v p. lt→ltb seen (bit_of v) (omega (arith, ltb→lt next (bit_of v) p, seen_sum seen (identifier_of w) low))) rest.1 in
       let later = all_mono (under next) (over w) ws
       (λ v p. lt→ltb (identifier_of w) (identifier_of v) (seen_out seen _ _ low (ltb→lt next (bit_of v) p))) rest.1 in (
-        both (small w) (all small ws) (both_l (small w) (under seen w) this) rest.0,
+        both (small w) (list_all small ws) (both_l (small w) (under seen w) this) rest.0,
         both (under seen w) (above seen ws) here more,
-        both (all (over w) ws) (rises ws) later rest.2,
+        both (list_all (over w) ws) (rises ws) later rest.2,
         sym (union_assoc seen (bit_of w) (named ws)) ∙ rest.3,
       )
 
@@ -123,26 +122,19 @@ module _ (mask : ℕ) where
       (λ h.
       let k = walk_out 0 ws h in
       let e = eq-eqb (named ws) mask (sym (union-none (named ws)) ∙ union_comm (named ws) 0 ∙ k.3) in
-      both (all small ws) _ k.0 (both (rises ws) (eqb (named ws) mask) k.2 (true_T _ e)))
+      both (list_all small ws) _ k.0 (both (rises ws) (eqb (named ws) mask) k.2 (true_T _ e)))
       (λ h.
-      let low = both_l (all small ws) _ h in
-      let rest = both_r (all small ws) _ h in
+      let low = both_l (list_all small ws) _ h in
+      let rest = both_r (list_all small ws) _ h in
       let e = eqb→eq (named ws) mask (both_r (rises ws) _ rest) in
       walk_in 0 ws low (all_mono small (under 0) ws (λ v _. lt→ltb 0 (bit_of v) (bit_above (identifier_of v))) low)
       (both_l (rises ws) _ rest) (union_comm 0 (named ws) ∙ union-none (named ws) ∙ e))
 
-  -- a turn of the loop over the words from i up to j, and its end
-  pub names-turn : (ws : List ℕ) (i j seen s' : ℕ) (ok b t : Bool) → i < j → j ≤ length ws → b ≡ follows seen (get_or ws i 0)
-      → s' ≡ set_union seen (bit_of (get_or ws i 0)) → ok && names_from mask seen (slice i j ws) ≡ t → ok && b && names_from mask s' (slice (i + 1) j ws) ≡ t
+  -- a turn of the loop over the names
+  pub names_next : (ws : List ℕ) (i seen : ℕ) → i < length ws → names_from mask seen (drop i ws)
+      ≡ (follows seen (get_or ws i 0) && names_from mask (set_union seen (bit_of (get_or ws i 0))) (drop (i + 1) ws))
   unfolding names_from
-  names-turn ws i j seen s' ok b t h k e f p =
-      let w = get_or ws i 0 in
-      let rest = names_from mask (set_union seen (bit_of w)) (slice (suc i) j ws) in
-      rw (e, f, add-one) (and_assoc ok (follows seen w) rest ∙ rw (slice-cons i j ws 0 h k) at p)
-
-  pub names-done : (ws : List ℕ) (i j seen : ℕ) (ok t : Bool) → i ≡ j → ok && names_from mask seen (slice i j ws) ≡ t → ok && eqb seen mask ≡ t
-  unfolding names_from
-  names-done ws i j seen ok t e p = rw (e, slice_empty j ws) at p
+  names_next ws i seen h = rw (drop_next ws i h)
 
 -- ---- the identifiers that are wanted
 
@@ -152,23 +144,18 @@ module _ (s : ℕ) where
   wanted-own [] = union-same (2 ^ s)
   wanted-own (t ∷ ts) = union_left_comm (2 ^ s) t (wanted s ts) ∙ ap (λ (x : ℕ). set_union t x) (wanted-own ts)
 
-  -- the loop: it starts at the sender alone, a turn takes one term more, and the end
-  pub wanted-start : (ts : List ℕ) → (set_union (2 ^ s) (wanted s ts) ≡ wanted s ts) × (set_union (2 ^ s) (2 ^ s) ≡ 2 ^ s)
-  wanted-start ts = (wanted-own ts, union-same (2 ^ s))
-
-  pub wanted-turn : (ts : List ℕ) (i m m' t : ℕ) → i < length ts → m' ≡ set_union m (payload (get_or ts i 0))
-      → (set_union m (wanted s (masks (drop i ts))) ≡ t) × (set_union m (2 ^ s) ≡ m)
-      → (set_union m' (wanted s (masks (drop (i + 1) ts))) ≡ t) × (set_union m' (2 ^ s) ≡ m')
+  -- the terms are taken one by one
+  wanted_from : (ts : List ℕ) (m : ℕ) → set_union m (2 ^ s) ≡ m → fold (λ m t. set_union m (payload t)) m ts ≡ set_union m (wanted s (masks ts))
   unfolding wanted masks
-  wanted-turn ts i m m' t h e p =
-      let x = payload (get_or ts i 0) in (
-        rw e (union_assoc m x (wanted s (masks (drop (i + 1) ts))) ∙ rw (drop_next ts i h) at p.0),
-        rw e (union_assoc m x (2 ^ s) ∙ rw (union_comm x (2 ^ s), ← (union_assoc m (2 ^ s) x), p.1)),
-      )
+  wanted_from [] m p = sym p
+  wanted_from (t ∷ ts) m p =
+      let x = payload t in
+      let more : set_union (set_union m x) (2 ^ s) ≡ set_union m x =
+      union_assoc m x (2 ^ s) ∙ rw (union_comm x (2 ^ s), ← (union_assoc m (2 ^ s) x), p) in
+      wanted_from ts (set_union m x) more ∙ union_assoc m x (wanted s (masks ts))
 
-  pub wanted-done : (ts : List ℕ) (i m t : ℕ) → length ts ≤ i → (set_union m (wanted s (masks (drop i ts))) ≡ t) × (set_union m (2 ^ s) ≡ m) → m ≡ t
-  unfolding wanted masks
-  wanted-done ts i m t h p = sym p.1 ∙ rw (drop_of_length-le ts {i = i} h) at p.0
+  pub wanted_fold : (ts : List ℕ) → fold (λ m t. set_union m (payload t)) (2 ^ s) ts ≡ wanted s (masks ts)
+  wanted_fold ts = wanted_from ts (2 ^ s) (union-same (2 ^ s)) ∙ wanted-own (masks ts)
 
   -- the sender, and each identifier in a term
   pub wanted-sender : (ts : List ℕ) → T (has s (wanted s ts))
@@ -218,17 +205,17 @@ named_out (v ∷ ws) n h = by (λ k. named_out ws n k) (ℕ_discrete (identifier
 -- ---- names that fit
 
 module _ (mask : ℕ) (names : List ℕ) (h : T (names_fit mask names)) where
-  pub fit_below : T (all small names)
+  pub fit_below : T (list_all small names)
   unfolding names_fit
-  fit_below = both_l (all small names) _ h
+  fit_below = both_l (list_all small names) _ h
 
   pub fit_rises : T (rises names)
   unfolding names_fit
-  fit_rises = both_l (rises names) _ (both_r (all small names) _ h)
+  fit_rises = both_l (rises names) _ (both_r (list_all small names) _ h)
 
   pub fit_named : named names ≡ mask
   unfolding names_fit
-  fit_named = eqb→eq (named names) mask (both_r (rises names) _ (both_r (all small names) _ h))
+  fit_named = eqb→eq (named names) mask (both_r (rises names) _ (both_r (list_all small names) _ h))
 
   pub fit_identifier : mask < 2 ^ epochs_most → (w : ℕ) → In w names → identifier_of w < epochs_most
   fit_identifier k w i = by (split (ltb (identifier_of w) epochs_most))
@@ -247,11 +234,11 @@ unfolding rises
 rises-few low [] h f t = omega arith
 rises-few low (w ∷ ws) h f t =
     let this = f w (inl refl) in
-    let later = both_l (all (over w) ws) (rises ws) t in
+    let later = both_l (list_all (over w) ws) (rises ws) t in
     let rest =
     rises-few (suc (identifier_of w)) ws this.1
     (λ v i. (ltb→lt (identifier_of w) (identifier_of v) (all_out (over w) ws later v i), (f v (inr i)).1))
-    (both_r (all (over w) ws) (rises ws) t) in
+    (both_r (list_all (over w) ws) (rises ws) t) in
     omega arith
 
 pub fit_few : (mask : ℕ) (names : List ℕ) → T (names_fit mask names) → mask < 2 ^ epochs_most → length names ≤ epochs_most
@@ -279,10 +266,10 @@ rises_snoc : (ws : List ℕ) (x : ℕ) → T (rises ws) → ((w : ℕ) → In w 
 unfolding rises
 rises_snoc [] x t f = tt
 rises_snoc (w ∷ ws) x t f =
-    let later = all_out (over w) ws (both_l (all (over w) ws) (rises ws) t) in
-    both (all (over w) (ws ++ (x ∷ []))) (rises (ws ++ (x ∷ [])))
+    let later = all_out (over w) ws (both_l (list_all (over w) ws) (rises ws) t) in
+    both (list_all (over w) (ws ++ (x ∷ []))) (rises (ws ++ (x ∷ [])))
     (all_in (over w) (ws ++ (x ∷ [])) (λ v i. by later v (in_cases v ws (x ∷ []) i)))
-    (rises_snoc ws x (both_r (all (over w) ws) (rises ws) t) (λ v i. f v (inr i)))
+    (rises_snoc ws x (both_r (list_all (over w) ws) (rises ws) t) (λ v i. f v (inr i)))
   where
     by : ((v : ℕ) → In v ws → T (over w v)) → (v : ℕ) → In v ws ⊎ In v (x ∷ []) → T (over w v)
     by g v (inl i) = g v i
@@ -299,7 +286,7 @@ module _ (ks : List ℕ) (mask : ℕ) (low : (n : ℕ) → get_or ks n 0 ≤ epo
 
   -- the identifiers below n, and their names
   abbrev wanted_below : ℕ → List ℕ
-  wanted_below n = keep (λ i. has i mask) (tab n (λ i. i))
+  wanted_below n = filter (λ i. has i mask) (tab n (λ i. i))
 
   abbrev upto : ℕ → List ℕ
   upto n = map name_of (wanted_below n)
@@ -314,7 +301,7 @@ module _ (ks : List ℕ) (mask : ℕ) (low : (n : ℕ) → get_or ks n 0 ≤ epo
   unfolding tab rises
   upto_rises zero h = tt
   upto_rises (suc n) h =
-      rw (keep_append (λ i. has i mask) (tab n (λ i. i)) (n ∷ []), map-append name_of (wanted_below n) (keep (λ i. has i mask) (n ∷ [])))
+      rw (keep_append (λ i. has i mask) (tab n (λ i. i)) (n ∷ []), map-append name_of (wanted_below n) (filter (λ i. has i mask) (n ∷ [])))
       (by (has n mask) (upto_rises n (omega arith)))
     where
       lower : (w : ℕ) → In w (upto n) → identifier_of w < identifier_of (name_of n)
@@ -327,7 +314,7 @@ module _ (ks : List ℕ) (mask : ℕ) (low : (n : ℕ) → get_or ks n 0 ≤ epo
       by true t = rises_snoc (upto n) (name_of n) t lower
       by false t = rw (append-nil (upto n)) t
 
-  upto_below : T (all small (upto epochs_most))
+  upto_below : T (list_all small (upto epochs_most))
   upto_below =
       all_in small (upto epochs_most) (λ w i.
       let k = upto_out epochs_most w i in
@@ -370,6 +357,6 @@ module _ (ks : List ℕ) (mask : ℕ) (low : (n : ℕ) → get_or ks n 0 ≤ epo
   pub names_of_lem : mask < 2 ^ epochs_most → T (names_fit mask (names_of ks mask))
   unfolding names_fit names_of
   names_of_lem fits =
-      both (all small (upto epochs_most)) _ upto_below
+      both (list_all small (upto epochs_most)) _ upto_below
       (both (rises (upto epochs_most)) (eqb (named (upto epochs_most)) mask) (upto_rises epochs_most (omega arith))
       (true_T _ (eq-eqb (named (upto epochs_most)) mask (upto_named fits))))

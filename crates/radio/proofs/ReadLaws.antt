@@ -7,18 +7,21 @@ use mathlib.Core.Bool.{Bool, true, false, cond, not, ◌||◌}
 use mathlib.Core.List.{List, [], ◌∷◌, ◌++◌, append-nil}
 use native.Mathlib.Omega.{arith}
 use lib.Dec.{T, eqb, ltb}
-use lib.ListN.{length, get_or, take, drop, length-drop, drop_of_length-le}
+use lib.ListN.{length, take, drop, length-drop}
 use lib.Seq.{slice, length-slice}
-use borrow.Author.Tests.{le-ltb, eq-eqb, ne_eqb}
+use borrow.Author.Tests.{le-ltb, ltb-false, ne_eqb}
 use Rattle.names.specs.Sets.{has}
 use Rattle.names.proofs.SetLaws.{has_out, has_mono, digit-empty}
-use Rattle.predicates.specs.Lists.{all, In}
+use Rattle.std.specs.Prelude.{Some, None, unwrap_or, position}
+use Rattle.std.specs.List.{list_all, position_or_len}
+use Rattle.std.proofs.lemmas.List.Recursion.{is_position_or_len}
+use Rattle.std.proofs.lemmas.List.Sums.{prefix_len-le-length}
+use Rattle.predicates.specs.Lists.{In}
 use Rattle.predicates.proofs.ListLaws.{both_l, both_r, T_true, cond_ind}
-use Rattle.predicates.proofs.LoopLaws.{drop_next}
 use Rattle.message.specs.Words.{kind_of, of_kind, masks}
 use Rattle.message.specs.Read.{is_ends, middle, kinds_fit, start, shape_refusal, term_words}
-use Rattle.message.specs.declared.Reading.{Reading}
-use Rattle.message.specs.declared.Reading.TheVariants.{Message, Refused}
+use Rattle.message.specs.Read.{Reading}
+use Rattle.message.specs.Read.{Message, Refused}
 use Rattle.message.proofs.WordLaws.{part_slice}
 use Rattle.message.proofs.ReadLaws.{Taken, past, passed, passed_or, shape_out, taken_out, taken_shaped, contents_in, start_bounds}
 use Rattle.message.proofs.ReadLaws.{drop-cut, kept, kept_same, kept-none, kept_past, kept-head, kept-span, terms-middle-from}
@@ -57,18 +60,28 @@ leading-append [] ws t = omega arith
 leading-append (v ∷ vs) ws t =
     rw (T_true (eqb (kind_of v) 0) (both_l (eqb (kind_of v) 0) _ t)) (omega (arith, leading-append vs ws (both_r (eqb (kind_of v) 0) _ t)))
 
--- the loop: a word of kind 0 is passed, another one stops it, and so does the end
-module _ (ws : List ℕ) (i : ℕ) where
-  pub leading_pass : i < length ws → kind_of (get_or ws i 0) ≡ 0 → leading (drop i ws) ≡ 1 + leading (drop (i + 1) ws)
-  unfolding leading
-  leading_pass h e = rw (drop_next ws i h, eq-eqb (kind_of (get_or ws i 0)) 0 e) (omega arith)
+-- whether a word is of another kind
+abbrev other : ℕ → Bool
+other w = not (eqb (kind_of w) 0)
 
-  pub leading_stop : i < length ws → (kind_of (get_or ws i 0) ≡ 0 → ⊥) → leading (drop i ws) ≡ 0
-  leading_stop h f = rw (drop_next ws i h) (leading-none (get_or ws i 0) (drop (i + 1) ws) f)
+leading_first : (ws : List ℕ) → leading ws ≡ position_or_len other ws
+unfolding leading
+leading_first ws = is_position_or_len leading other refl (λ w l. turned (eqb (kind_of w) 0) (leading l)) ws
+  where
+    turned : (b : Bool) (n : ℕ) → cond b (suc n) 0 ≡ cond (not b) 0 (1 + n)
+    turned true n = omega arith
+    turned false n = refl
 
-  pub leading-done : length ws ≤ i → leading (drop i ws) ≡ 0
-  unfolding leading
-  leading-done h = rw (drop_of_length-le ws {i = i} h)
+-- the first word of another kind, or the end
+pub leading_position : (ws : List ℕ) → unwrap_or (position other ws) (length ws) ≡ leading ws
+leading_position ws = by (ltb (position_or_len other ws) (length ws)) refl ∙ sym (leading_first ws)
+  where
+    by : (b : Bool) → ltb (position_or_len other ws) (length ws) ≡ b
+        → unwrap_or (cond b (Some (position_or_len other ws)) None) (length ws) ≡ position_or_len other ws
+    by true e = refl
+    by false e =
+        let p : position_or_len other ws ≤ length ws = prefix_len-le-length (λ w. not (other w)) ws in
+        omega (arith, ltb-false (position_or_len other ws) (length ws) e)
 
 -- ---- the epoch words
 
@@ -164,7 +177,7 @@ module _ {ends : Bool} {ws : List ℕ} {s l r n : ℕ} (t : Live ends ws s l r n
   pub epochs-few : length (epoch_words (Message s l r n) ws) ≤ epochs_most
   epochs-few = rw epochs_part part_few
 
-  pub epochs-below : T (all (λ w. ltb w name_limit) (epoch_words (Message s l r n) ws))
+  pub epochs-below : T (list_all (λ w. ltb w name_limit) (epoch_words (Message s l r n) ws))
   epochs-below = rw epochs_part (fit_below (wanted s (terms ends ws)) (epoch_part ws) t.fit)
 
   pub epochs_rise : T (rises (epoch_words (Message s l r n) ws))
@@ -190,6 +203,12 @@ read_out ws e =
     let fit = passed (epoch_words_fit ws) 42 _ shape.1 in
     let here = taken_out (opening ws) ws (shape_out (opening ws) ws shape.0) fit.1 in
     record { taken = here; fit = rw here.sender fit.0 }
+
+-- where the term words and the epoch words of a message stand
+pub parts_read : {s l r n : ℕ} (ws : List ℕ) → Message s l r n ≡ read_words ws
+    → (term_words (read_words ws) ws ≡ middle (opening ws) (is_ends (opening ws) ws) ws) × (epoch_words (read_words ws) ws ≡ slice 1 (opening ws) ws)
+unfolding epoch_part
+parts_read ws e = let live = read_out ws (sym e) in (rw (← e) (terms-middle live), rw (← e) (epochs_part live))
 
 -- ---- a refusal has a number above 0
 

@@ -3,11 +3,11 @@
 -- definitions.
 use Rattle.std.specs.Prelude.{ℕ, suc, ◌+◌, ◌*◌, Bool, cond, not, ◌||◌, List, [], ◌∷◌, length, get_or, drop, ltb, eqb}
 use Rattle.std.proofs.Math.Seq.{slice}
-use Rattle.predicates.specs.Lists.{keep}
+use Rattle.std.specs.List.{filter}
 use Rattle.message.specs.Words.{kind_of, masks}
 use Rattle.message.specs.Read.{sender_of, is_ends, middle, shape_refusal, contents, refused_or}
-use Rattle.message.specs.declared.Reading.{Reading}
-use Rattle.message.specs.declared.Reading.TheVariants.{Message, Refused}
+use Rattle.message.specs.Read.{Reading}
+use Rattle.message.specs.Read.{Message, Refused}
 use Rattle.radio.specs.Names.{wanted, names_fit}
 
 -- "Number 10 now allows 6 to 43 words": the fewest, the most, and the most in bytes
@@ -54,4 +54,4 @@ read_words ws =
 -- the epoch words, handed back as the term words are: the words of kind 0 of a message that is taken
 unfoldable pub epoch_words : Reading → List ℕ → List ℕ
 epoch_words (Refused number) ws = []
-epoch_words (Message sender left right count) ws = keep (λ w. eqb (kind_of w) 0) ws
+epoch_words (Message sender left right count) ws = filter (λ w. eqb (kind_of w) 0) ws

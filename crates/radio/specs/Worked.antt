@@ -2,8 +2,8 @@
 use Rattle.std.specs.Prelude.{ℕ, ◌+◌, ◌*◌, ◌%◌, List, [], ◌∷◌, ◌++◌, replicate}
 use Rattle.message.specs.Words.{payload_size, word, check}
 use Rattle.message.specs.Write.{end_words}
-use Rattle.message.specs.declared.Reading.{Reading}
-use Rattle.message.specs.declared.Reading.TheVariants.{Message, Refused}
+use Rattle.message.specs.Read.{Reading}
+use Rattle.message.specs.Read.{Message, Refused}
 use Rattle.epochs.specs.Epochs.{name}
 
 -- words closed by a check word that is right, and by one that is not

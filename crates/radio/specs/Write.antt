@@ -3,8 +3,8 @@ use Rattle.std.specs.Prelude.{ℕ, List, []}
 use Rattle.message.specs.Words.{masks}
 use Rattle.message.specs.Read.{term_words}
 use Rattle.message.specs.Write.{message_words}
-use Rattle.message.specs.declared.Reading.{Reading}
-use Rattle.message.specs.declared.Reading.TheVariants.{Message, Refused}
+use Rattle.message.specs.Read.{Reading}
+use Rattle.message.specs.Read.{Message, Refused}
 use Rattle.radio.specs.Read.{read_words, epoch_words}
 
 -- "takes a message and writes it in ends form with the sender, interval and terms it has", and its epoch words; nothing of a refused one

@@ -18,11 +18,12 @@ use Rattle.numbers.proofs.NumberLaws.{tab_ext}
 use Rattle.names.specs.Sets.{has}
 use Rattle.names.specs.code.Parts.{digit}
 use Rattle.names.proofs.SetLaws.{digit-empty}
-use Rattle.predicates.specs.Lists.{all}
+use Rattle.std.specs.List.{list_all}
 use Rattle.predicates.proofs.ListLaws.{both, both_l, both_r, cond_ind}
 use Rattle.epochs.specs.Epochs.{epochs_most, epochs_in, older, raised, NotAbove, spoken}
 use Rattle.epochs.specs.code.Known.{Named}
 use Rattle.epochs.proofs.EpochLaws.{below, digit-older, length-raised, raised-same}
+use Rattle.std.specs.Prelude.{Option}
 use Rattle.clocks.specs.declared.Readings.{Readings}
 use Rattle.clocks.specs.Clocks.{Saved, nothing, saved_ok, readings_fail, watched}
 use Rattle.clocks.specs.Places.{place_size, saved_bytes}
@@ -46,11 +47,11 @@ module _ (r : ℕ) (cs : List Saved) where
       cond_ind (λ l. length l ≡ length cs) (has n r) (set (cleared_below n r cs) n nothing) (cleared_below n r cs)
       (λ _. length-set (cleared_below n r cs) n nothing ∙ length-below n) (λ _. length-below n)
 
-  below_ok : (n : ℕ) → T (all saved_ok cs) → T (all saved_ok (cleared_below n r cs))
+  below_ok : (n : ℕ) → T (list_all saved_ok cs) → T (list_all saved_ok (cleared_below n r cs))
   unfolding cleared_below saved_ok
   below_ok zero t = t
   below_ok (suc n) t =
-      cond_ind (λ l. T (all saved_ok l)) (has n r) (set (cleared_below n r cs) n nothing) (cleared_below n r cs)
+      cond_ind (λ l. T (list_all saved_ok l)) (has n r) (set (cleared_below n r cs) n nothing) (cleared_below n r cs)
       (λ _. all_set saved_ok (cleared_below n r cs) n nothing (below_ok n t) tt) (λ _. below_ok n t)
 
   -- those that are still to come stay
@@ -105,7 +106,7 @@ heard-none own names r h e z =
 -- ---- states stored in front
 
 -- a right head with other clocks
-clocks_ok : (h : Head) (cs : List Saved) → T (head_ok h) → length cs ≡ clocks_most → T (all saved_ok cs) → T (head_ok (with_clocks h cs))
+clocks_ok : (h : Head) (cs : List Saved) → T (head_ok h) → length cs ≡ clocks_most → T (list_all saved_ok cs) → T (head_ok (with_clocks h cs))
 unfolding head_ok
 clocks_ok h cs t e k =
     let there : T (eqb (length cs) clocks_most) = rw e tt in
@@ -126,7 +127,7 @@ module _ (s : List ℕ) (f : T (in_form s)) (h : state_size ≤ length s) where
   unfolding state_ok state_of
   with_head g e n = both (head_ok g) _ n (rw e (both_r (head_ok (head_of s)) _ (form_ok s f)))
 
-  lent-clocks : (length (head_of s).clocks ≡ clocks_most) × T (all saved_ok (head_of s).clocks)
+  lent-clocks : (length (head_of s).clocks ≡ clocks_most) × T (list_all saved_ok (head_of s).clocks)
   unfolding state_of
   lent-clocks = let o = state_out (state_of s) (form_ok s f) in (o.clocks-all, o.clocks)
 
@@ -195,7 +196,7 @@ module _ (s : List ℕ) (f : T (in_form s)) (h : state_size ≤ length s) where
       pub heard-form : T (in_form t)
       heard-form = rw p (put-form heard s heard-right h)
 
-      pub close-stored : (sender : ℕ) (readings : Readings) (u : List ℕ) → sender ≤ name_most → T (not (readings_fail readings))
+      pub close-stored : (sender : ℕ) (readings : Option Readings) (u : List ℕ) → sender ≤ name_most → T (not (readings_fail readings))
           → u ≡ put 0 (state_bytes (record { head = with_clocks (head_of t) (watched readings sender (head_of t).clocks); store = store_of t })) t
           → u ≡ put 0 (state_bytes (record { head = with_clocks heard.head (watched readings sender heard.head.clocks); store = store_of s })) s
       unfolding state_of heard_head

@@ -3,3 +3,4 @@ pub mod TakenLaws
 pub mod HearingCalls
 pub mod ReceiptCalls
 pub mod RisenLaws
+pub mod ReceivingLaws

@@ -1,16 +1,15 @@
 -- The exits of a receipt, on plain values: the row that the predicate is formed in, when it is true, and what each exit's number and bytes are.
 -- No contract cites this file. Assumes nothing.
-use Prim.Native.Nat.{ℕ, ◌+◌, ◌*◌, ◌^◌, ◌≤◌, ◌<◌}
+use Prim.Native.Nat.{ℕ, ◌+◌, ◌-◌, ◌*◌, ◌^◌, ◌≤◌, ◌<◌}
 use mathlib.Core.Path.{◌≡◌, refl, sym, ap, subst, ◌∙◌}
 use mathlib.Core.Bool.{Bool, true, false, not, cond, and-true, and-false}
 use mathlib.Core.Logic.{inl, inr}
 use mathlib.Core.List.{List, [], ◌∷◌, ◌++◌}
 use native.Mathlib.Omega.{arith}
 use borrow.Author.Tests.{eq-eqb, ne_eqb, le-leb, lt-leb, lt-ltb, le-ltb}
-use lib.Pow.{pow_pos}
-use lib.Dec.{T, eqb}
+use lib.Dec.{T}
 use lib.ListN.{length, take, drop}
-use lib.Seq.{sets, sets-eq, take_at}
+use lib.Seq.{sets, sets-eq, take_at, take-take, length-sets, length-take-le}
 use Rattle.numbers.specs.Numbers.{put}
 use Rattle.names.specs.Sets.{no_set, set_union, has}
 use Rattle.message.specs.Words.{masks}
@@ -19,8 +18,12 @@ use Rattle.predicates.specs.Lists.{In, padded}
 use Rattle.predicates.specs.Predicates.{implies, is_true, formed}
 use Rattle.predicates.proofs.ListLaws.{both_l, both_r, cond_ind}
 use Rattle.predicates.proofs.SumLaws.{padded-front}
+use Rattle.std.specs.Prelude.{Option, None, Some, Result, Ok, Err}
+use Rattle.std.specs.Result.{is_err}
+use Rattle.refusals.specs.declared.Refusal.{Refusal}
+use Rattle.refusals.specs.Refusals.{number}
+use Rattle.message.proofs.ReadLaws.{number_above}
 use Rattle.clocks.specs.declared.Readings.{Readings}
-use Rattle.clocks.specs.declared.Readings.TheVariants.{Without}
 use Rattle.clocks.specs.Clocks.{Saved, nothing, readings_fail, violated_by, watched}
 use Rattle.epochs.specs.Epochs.{withdraw, older, spoken}
 use Rattle.ends.specs.Ends.{million}
@@ -36,13 +39,12 @@ use Rattle.engine.specs.Hearing.{spoken_by, risen, late, hearing, heeded, arrive
 use Rattle.engine.proofs.WatchLaws.{violated-none, none-saved}
 use Rattle.engine.proofs.HearingLaws.{has-union_l, has-union_r, has-union_neither, get_or-cleared}
 use Rattle.engine.specs.Calls.{receive, clock_of, violated, done, moved, made}
-use Rattle.steps.specs.Steps.{settled, received, blamed, judged, too_many}
+use Rattle.steps.specs.Steps.{received, blamed, judged, too_many}
 use Rattle.steps.specs.Withdrawn.{withdrawn}
 use Rattle.steps.proofs.WithdrawnLaws.{withdrawn-none}
 use Rattle.receipts.specs.code.Blame.{blamed_by}
 use Rattle.receipts.specs.code.Taken.{taken_by}
 use Rattle.settling.specs.code.Rows.{with_term}
-use Rattle.entries.specs.Entries.{learn}
 use Rattle.steps.proofs.BlameLaws.{judged-violated, blamed_explains, explained-settled}
 use Rattle.engine.specs.code.Hearing.{heard_head}
 use Rattle.engine.specs.Refusals.{receipt_refusal}
@@ -55,12 +57,15 @@ row-front : (m z r : List ℕ) → length m ≤ length z → r ≡ sets z 0 m �
 row-front m z r h e =
     ap (λ (l : List ℕ). take (length m) l) (e ∙ sets-eq m z 0 (omega arith)) ∙ take_at m (drop (0 + length m) z) (length m) refl
 
--- the predicate formed of a row that the terms of words stand at the front of
-pub formed-front : (ws z r : List ℕ) (own same sender : ℕ) → length ws ≤ length z → r ≡ sets z 0 (masks ws) → own ≡ same
-    → formed own sender (take (length ws) r) ≡ formed same sender (masks ws)
-formed-front ws z r own same sender h e o =
-    let front = row-front (masks ws) z r (omega (arith, length-masks ws)) e in
-    rw (o, rw (length-masks ws) at front)
+-- the terms in a row that they stand at the front of, with room for one more
+pub formed-front : (ws z r : List ℕ) → length ws < length z → r ≡ sets z 0 (masks ws)
+    → take (length (take (length ws + 1) r) - 1) (take (length ws + 1) r) ≡ masks ws
+formed-front ws z r h e =
+    let long : length (take (length ws + 1) r) ≡ length ws + 1 = length-take-le (length ws + 1) r (omega (arith, h, ap length e, length-sets z 0 (masks ws))) in
+    let same : length ws + 1 - 1 ≡ length ws = omega arith in
+    let front : take (length ws) r ≡ masks ws = rw (length-masks ws) at (row-front (masks ws) z r (omega (arith, length-masks ws)) e) in
+    ap (λ (k : ℕ). take (k - 1) (take (length ws + 1) r)) long
+    ∙ ap (λ (k : ℕ). take k (take (length ws + 1) r)) same ∙ take-take (length ws) (length ws + 1) r (omega arith) ∙ front
 
 -- what stands at the front afterwards
 pub kept-front : (n m : ℕ) (p y r : List ℕ) → m ≡ length p → r ≡ padded n p ++ y → take m r ≡ p
@@ -76,40 +81,25 @@ masks-small (w ∷ ws) t (inr h) = masks-small ws t h
 -- ---- what is made of a datum from the sender
 
 -- the blamed name as a term
-module _ (violation : Bool) (sender b : ℕ) (told : b ≡ cond violation (2 ^ sender) 0) where
-  pub blame-none : b ≡ 0 → violation ≡ false
-  blame-none z = go violation (sym told ∙ z)
-    where
-      go : (v : Bool) → cond v (2 ^ sender) 0 ≡ 0 → v ≡ false
-      go true e = absurd (omega (arith, pow_pos sender))
-      go false e = refl
-
-  pub blame-implies : (p : List ℕ) → T (implies (2 ^ sender ∷ []) p) → (b ≡ 0 → ⊥) → T (implies (b ∷ []) p)
-  blame-implies p h f = go violation told
-    where
-      go : (v : Bool) → b ≡ cond v (2 ^ sender) 0 → T (implies (b ∷ []) p)
-      go true e = rw e h
-      go false e = absurd (f e)
-
+module _ (violation : Bool) (sender : ℕ) (b : Option ℕ) (told : b ≡ cond violation (Some (2 ^ sender)) None) where
   module _ (n : Datum) (k : Store) (h : T (implies (2 ^ sender ∷ []) n.terms)) where
     -- a violation: the entry is there, and the four steps end at the second
-    judged-blamed : b ≡ 2 ^ sender → judged true sender n k ≡ taken_by b n k
+    judged-blamed : b ≡ Some (2 ^ sender) → judged true sender n k ≡ taken_by b n k
     unfolding taken_by blamed_by with_term blamed
     judged-blamed e =
-        let some : eqb b 0 ≡ false = ne_eqb b 0 (λ z. omega (arith, pow_pos sender, e, z)) in
         judged-violated sender n k h
         ∙ sym (explained-settled n (blamed sender k) (blamed_explains sender k n.terms h))
-        ∙ rw (some, and-false (is_true n.terms)) (ap (λ (x : ℕ). settled n (record { held = k.held; entries = learn (x ∷ []) k.entries })) (sym e))
+        ∙ rw (e, and-false (is_true n.terms))
 
     -- none: a datum that is true adds nothing
-    judged-quiet : b ≡ 0 → judged false sender n k ≡ taken_by b n k
+    judged-quiet : b ≡ None → judged false sender n k ≡ taken_by b n k
     unfolding judged received taken_by blamed_by with_term
-    judged-quiet e = rw (eq-eqb b 0 e, and-true (is_true n.terms))
+    judged-quiet e = rw (e, and-true (is_true n.terms))
 
     pub judged-taken : judged violation sender n k ≡ taken_by b n k
     judged-taken = go violation told
       where
-        go : (v : Bool) → b ≡ cond v (2 ^ sender) 0 → judged v sender n k ≡ taken_by b n k
+        go : (v : Bool) → b ≡ cond v (Some (2 ^ sender)) None → judged v sender n k ≡ taken_by b n k
         go true e = judged-blamed e
         go false e = judged-quiet e
 
@@ -118,6 +108,15 @@ pub made-same : (s : List ℕ) (k j : Store) (r : ℕ) (u : List ℕ) → j ≡ 
     → u ≡ after r (state_bytes (record { head = head_of s; store = k })) s
     → (r ≡ cond (too_many j) 32 0) × (u ≡ after r (state_bytes (record { head = head_of s; store = j })) s)
 made-same s k j r u e p q = rw e (p, q)
+
+-- a call's number, and whether it was refused
+pub refused-number : (got : Result (Unit {0}) Refusal) → is_err got ≡ true → number got ≡ 0 → ⊥
+refused-number (Ok taken) e z = absurd (cc)
+refused-number (Err refusal) e z = omega (arith, z, number_above refusal)
+
+pub taken-number : (got : Result (Unit {0}) Refusal) → is_err got ≡ false → number got ≡ 0
+taken-number (Ok taken) e = refl
+taken-number (Err refusal) e = absurd (cc)
 
 -- a state in form does not have too many
 pub few-held : (s : List ℕ) → T (in_form s) → too_many (store_of s) ≡ false
@@ -165,38 +164,38 @@ unfolding arrived grown
 datum-arrived s g left right p l r e = rw (l, r, e)
 
 -- readings of a sender that is late, or that has risen, are not tested
-tested_same : (h : Head) (g : Delivery) (tested : Readings) → g.sender < length h.clocks
-    → tested ≡ cond (has g.sender (set_union (late h g) (risen h g))) Without g.readings
+tested_same : (h : Head) (g : Delivery) (tested : Option Readings) → g.sender < length h.clocks
+    → tested ≡ cond (has g.sender (set_union (late h g) (risen h g))) None g.readings
     → violated_by h.drift (clock_of h g.sender) tested ≡ violated h g
 unfolding violated heeded hearing
 tested_same h g tested l e =
-    ap (λ (r : Readings). violated_by h.drift (clock_of h g.sender) r) e
+    ap (λ (r : Option Readings). violated_by h.drift (clock_of h g.sender) r) e
     ∙ go (has g.sender (late h g)) (has g.sender (risen h g)) refl refl
-    ∙ ap (λ (v : Saved). violated_by h.drift v (cond (has g.sender (late h g)) Without g.readings)) (sym (get_or-cleared (risen h g) h.clocks g.sender l))
+    ∙ ap (λ (v : Saved). violated_by h.drift v (cond (has g.sender (late h g)) None g.readings)) (sym (get_or-cleared (risen h g) h.clocks g.sender l))
   where
     old : Saved
     old = clock_of h g.sender
 
-    quiet : (v : Saved) → false ≡ violated_by h.drift v Without
-    quiet v = sym (violated-none h.drift v Without refl)
+    quiet : (v : Saved) → false ≡ violated_by h.drift v None
+    quiet v = sym (violated-none h.drift v None refl)
 
     go : (a b : Bool) → has g.sender (late h g) ≡ a → has g.sender (risen h g) ≡ b
-        → violated_by h.drift old (cond (has g.sender (set_union (late h g) (risen h g))) Without g.readings)
-        ≡ violated_by h.drift (cond (has g.sender (risen h g)) nothing old) (cond (has g.sender (late h g)) Without g.readings)
+        → violated_by h.drift old (cond (has g.sender (set_union (late h g) (risen h g))) None g.readings)
+        ≡ violated_by h.drift (cond (has g.sender (risen h g)) nothing old) (cond (has g.sender (late h g)) None g.readings)
     go true b p q =
         rw (has-union_l g.sender (late h g) (risen h g) p, p) (sym (quiet old) ∙ quiet (cond (has g.sender (risen h g)) nothing old))
     go false true p q = rw (has-union_r g.sender (late h g) (risen h g) q, p, q) (sym (quiet old) ∙ sym (nothing-quiet g.readings))
       where
-        nothing-quiet : (r : Readings) → violated_by h.drift nothing r ≡ false
+        nothing-quiet : (r : Option Readings) → violated_by h.drift nothing r ≡ false
         nothing-quiet r = none-saved h.drift r
     go false false p q = rw (has-union_neither g.sender (late h g) (risen h g) p q, p, q)
 
 -- the same, told of the identifiers that were heard
-pub tested_there : (h : Head) (g : Delivery) (tested : Readings) (l r : ℕ) → g.sender < length h.clocks → l ≡ late h g → r ≡ risen h g
-    → tested ≡ cond (has g.sender (set_union l r)) Without g.readings → violated_by h.drift (clock_of h g.sender) tested ≡ violated h g
+pub tested_there : (h : Head) (g : Delivery) (tested : Option Readings) (l r : ℕ) → g.sender < length h.clocks → l ≡ late h g → r ≡ risen h g
+    → tested ≡ cond (has g.sender (set_union l r)) None g.readings → violated_by h.drift (clock_of h g.sender) tested ≡ violated h g
 tested_there h g tested l r b p q e = tested_same h g tested b (e ∙ rw (p, q))
 
-pub heeded_there : (h : Head) (g : Delivery) (t : Readings) (l : ℕ) → l ≡ late h g → t ≡ cond (has g.sender l) Without g.readings → t ≡ heeded h g
+pub heeded_there : (h : Head) (g : Delivery) (t : Option Readings) (l : ℕ) → l ≡ late h g → t ≡ cond (has g.sender l) None g.readings → t ≡ heeded h g
 unfolding heeded
 heeded_there h g t l p e = e ∙ rw p
 
@@ -206,11 +205,11 @@ unfolding state_of
 sender_clock s n f h = omega (arith, (state_out (state_of s) (form_ok s f)).clocks-all, h)
 
 -- readings that fit, passed over or not
-pub heed-fits : (sender names : ℕ) (r t : Readings) → t ≡ cond (has sender names) Without r → T (not (readings_fail r)) → T (not (readings_fail t))
+pub heed-fits : (sender names : ℕ) (r t : Option Readings) → t ≡ cond (has sender names) None r → T (not (readings_fail r)) → T (not (readings_fail t))
 unfolding readings_fail
 heed-fits sender names r t e h =
-    subst (λ (x : Readings). T (not (readings_fail x))) (sym e)
-    (cond_ind (λ x. T (not (readings_fail x))) (has sender names) Without r (λ _. tt) (λ _. h))
+    subst (λ (x : Option Readings). T (not (readings_fail x))) (sym e)
+    (cond_ind (λ x. T (not (readings_fail x))) (has sender names) None r (λ _. tt) (λ _. h))
 
 -- what is told of the head by the own name and the epochs in the bytes
 module _ (s : List ℕ) (g : Delivery) (own : ℕ) (o : own ≡ (head_of s).own) where
@@ -248,7 +247,7 @@ pub risen-kept : (s u : List ℕ) (own : ℕ) (names : List ℕ) (r : ℕ) → h
 risen-kept s u own names r e h = h ∙ rw e
 
 -- the store of a taken receipt, and then its epochs and readings stored
-pub receipt-closed : (s : List ℕ) (g : Delivery) (u v : List ℕ) (own names : ℕ) (readings : Readings) → state_size ≤ length s
+pub receipt-closed : (s : List ℕ) (g : Delivery) (u v : List ℕ) (own names : ℕ) (readings : Option Readings) → state_size ≤ length s
     → T (state_ok (record { head = head_of s; store = made (head_of s) (store_of s) (receive g) }))
     → T (state_ok (done (state_of s) (receive g))) → own ≡ (head_of s).own → names ≡ risen (head_of s) g → readings ≡ heeded (head_of s) g
     → u ≡ put 0 (state_bytes (record { head = head_of s; store = made (head_of s) (store_of s) (receive g) })) s

@@ -3,12 +3,13 @@
 use Prim.Native.Nat.{ℕ, ◌+◌, ◌≤◌}
 use mathlib.Core.Path.{◌≡◌, refl, sym, ap, ◌∙◌}
 use mathlib.Core.Bool.{Bool, cond}
-use mathlib.Core.List.{List, ◌++◌, append-nil}
+use mathlib.Core.List.{List, ◌++◌}
 use native.Mathlib.Omega.{arith}
 use borrow.Author.Tests.{ne_eqb}
 use lib.Dec.{T, le→leb}
-use lib.ListN.{length, take, drop_of_length-le}
+use lib.ListN.{length, take, drop}
 use lib.Seq.{sets, sets-eq, length-take-le}
+use Rattle.std.specs.Prelude.{Option}
 use Rattle.numbers.specs.Numbers.{put, Bytes}
 use Rattle.numbers.proofs.NumberLaws.{length-put}
 use Rattle.predicates.proofs.ListLaws.{both, both_l, both_r}
@@ -65,29 +66,28 @@ module _ (s : List ℕ) (t : T (in_form s)) (h : state_size ≤ length s) (r : �
     head-same = ap (λ (x : State). x.head) same
 
     -- the number, told of what was held before
-    pub risen-number : (b n : ℕ) (d : Datum) → n ≡ cond (too_many (taken_by b d (store_of u))) 32 0
+    pub risen-number : (b : Option ℕ) (n : ℕ) (d : Datum) → n ≡ cond (too_many (taken_by b d (store_of u))) 32 0
         → n ≡ cond (too_many (taken_by b d (withdrawn r (store_of s)))) 32 0
     risen-number b n d p = p ∙ rw store_same
 
     -- taken
-    pub risen-taken : (b n : ℕ) (d : Datum) (v : List ℕ) → n ≡ 0 → v ≡ after n (state_bytes (record { head = head_of u; store = taken_by b d (store_of u) })) u
+    pub risen-taken : (b : Option ℕ) (n : ℕ) (d : Datum) (v : List ℕ) → n ≡ 0 → v ≡ after n (state_bytes (record { head = head_of u; store = taken_by b d (store_of u) })) u
         → v ≡ after_risen n r (state_bytes (record { head = head_of s; store = taken_by b d (withdrawn r (store_of s)) })) s
     unfolding after after_risen
     risen-taken b n d v z p = p ∙ rw (z, head-same, store_same, e)
 
     -- refused, and put back
-    pub risen-refused : Bytes s → (b n : ℕ) (d : Datum) (z kept v w : List ℕ) → (n ≡ 0 → ⊥) → length z ≡ clocks_at → kept ≡ sets z 0 (take clocks_at s)
-        → v ≡ after n (state_bytes (record { head = head_of u; store = taken_by b d (store_of u) })) u → w ≡ sets v 0 kept
+    pub risen-refused : Bytes s → (b : Option ℕ) (n : ℕ) (d : Datum) (v w : List ℕ) → (n ≡ 0 → ⊥)
+        → v ≡ after n (state_bytes (record { head = head_of u; store = taken_by b d (store_of u) })) u → w ≡ take clocks_at s ++ drop clocks_at v
         → w ≡ after_risen n r (state_bytes (record { head = head_of s; store = taken_by b d (withdrawn r (store_of s)) })) s
     unfolding withdrawn_state parts put
-    risen-refused fits b n d z kept v w f l p q x =
+    risen-refused fits b n d v w f q x =
         let long : length (take clocks_at s) ≡ clocks_at = length-take-le clocks_at s (omega arith) in
-        let whole : kept ≡ take clocks_at s =
-        p ∙ sets-eq (take clocks_at s) z 0 (omega arith)
-        ∙ ap (λ (y : List ℕ). take clocks_at s ++ y) (drop_of_length-le z {i = 0 + length (take clocks_at s)} (omega arith)) ∙ append-nil (take clocks_at s) in
         let still : v ≡ u = q ∙ sym (after-refused n _ u f) in
+        let over : sets u 0 (take clocks_at s) ≡ take clocks_at s ++ drop clocks_at u =
+        sets-eq (take clocks_at s) u 0 (omega (arith, risen-long)) ∙ ap (λ (k : ℕ). take clocks_at s ++ drop (0 + k) u) long in
         let back : put 0 (take clocks_at s) u ≡ s = front_back s fits t h (withdrawn_state r (state_of s)) withdrawn-right u 7 clocks_at refl (omega arith) refl e in
-        let end : w ≡ s = x ∙ rw (whole, still) back in
+        let end : w ≡ s = x ∙ rw still (sym over ∙ back) in
         end ∙ after_stays s r n _ f
 
 -- where nobody has risen nothing is withdrawn

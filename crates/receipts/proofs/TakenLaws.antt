@@ -1,34 +1,29 @@
 -- Laws of a datum taken (`specs.code.Taken`): a true one without a blamed name leaves all as it is, any other takes the four steps.
 -- No contract cites this file. Assumes nothing.
 use Prim.Native.Nat.{ℕ}
-use mathlib.Core.Path.{◌≡◌, sym, ap, ◌∙◌}
-use mathlib.Core.Bool.{Bool, ◌&&◌}
+use mathlib.Core.Path.{◌≡◌}
+use mathlib.Core.Bool.{true, false, and-false}
 use borrow.Author.Tests.{eq-eqb, ne_eqb}
-use lib.Bits.{bit_or}
-use lib.Dec.{eqb, eqb→eq}
+use lib.Dec.{eqb}
+use Rattle.std.specs.Prelude.{Option}
+use Rattle.std.specs.Option.{is_some}
 use Rattle.predicates.specs.Predicates.{is_true}
-use Rattle.predicates.proofs.ListLaws.{both_l, both_r, true_T}
-use Rattle.predicates.proofs.BitLaws.{or_zero}
 use Rattle.state.specs.Model.{Datum, Store}
 use Rattle.steps.specs.Steps.{settled}
 use Rattle.receipts.specs.code.Blame.{blamed_by}
 use Rattle.receipts.specs.code.Taken.{taken_by}
 
--- neither has a bit
-pub or_none : (v w : ℕ) → bit_or v w ≡ 0 → (v ≡ 0) × (w ≡ 0)
-or_none v w e =
-    let h = true_T _ (sym (or_zero v w) ∙ eq-eqb (bit_or v w) 0 e) in
-    (eqb→eq v 0 (both_l (eqb v 0) (eqb w 0) h), eqb→eq w 0 (both_r (eqb v 0) (eqb w 0) h))
-
-module _ (t first : ℕ) (n : Datum) (k : Store) (e : is_true n.terms ≡ eqb first 0) where
-  -- the test is that of both numbers
-  quiet : (is_true n.terms && eqb t 0) ≡ eqb (bit_or first t) 0
-  quiet = ap (λ (b : Bool). b && eqb t 0) e ∙ sym (or_zero first t)
-
-  pub taken_none : bit_or first t ≡ 0 → taken_by t n k ≡ k
+module _ (blame : Option ℕ) (first : ℕ) (n : Datum) (k : Store) (e : is_true n.terms ≡ eqb first 0) where
+  pub taken_none : first ≡ 0 → is_some blame ≡ false → taken_by blame n k ≡ k
   unfolding taken_by
-  taken_none z = rw (quiet, eq-eqb (bit_or first t) 0 z)
+  taken_none z q = rw (e, eq-eqb first 0 z, q)
 
-  pub taken-settled : (bit_or first t ≡ 0 → ⊥) → settled n (blamed_by t k) ≡ taken_by t n k
+  -- the predicate is not true
+  pub taken-some : (first ≡ 0 → ⊥) → settled n (blamed_by blame k) ≡ taken_by blame n k
   unfolding taken_by
-  taken-settled f = rw (quiet, ne_eqb (bit_or first t) 0 f)
+  taken-some f = rw (e, ne_eqb first 0 f)
+
+  -- somebody is blamed
+  pub taken-blamed : is_some blame ≡ true → settled n (blamed_by blame k) ≡ taken_by blame n k
+  unfolding taken_by
+  taken-blamed q = rw (q, and-false (is_true n.terms))

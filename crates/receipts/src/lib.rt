@@ -2,6 +2,7 @@
 // of it. Every function here is proved, and the crate assumes nothing of its own.
 #![tactic(auto)]
 
+pub mod delays;
 mod hearing;
 pub mod receipt;
 mod receiving;

@@ -1,60 +1,55 @@
 // The sender's clock (document 02, W-201), on the bytes of a state in form: readings that come with a receipt are tested against what is saved
 // of their sender, and saved. Only the sender's place is read or written.
-ghost use Rattle.std.specs.Prelude.{◌≡◌, not, cond, ◌≤◌, ◌^◌, T, length};
-ghost use Rattle.numbers.specs.Numbers.{put};
-ghost use Rattle.clocks.specs.Clocks.{readings_fail, violated_by, watched};
-ghost use Rattle.state.specs.Model.{Head, name_most, with_clocks};
-ghost use Rattle.state.specs.Layout.{state_size, state_bytes, head_of, store_of};
-ghost use Rattle.state.specs.Form.{in_form};
-ghost use Rattle.engine.specs.Calls.{clock_of};
+ghost use Rattle.std.specs.Prelude.{◌≡◌, cond, ◌^◌, Some, None};
+ghost use Rattle.clocks.specs.Clocks.{watched};
+ghost use Rattle.state.specs.Model.{Head, with_clocks};
+ghost use Rattle.state.specs.Layout.{head_of};
+ghost use Rattle.receipts.specs.code.Given.{IsState, FromSender, put_head, violated_in};
 
 use clocks::Readings;
 
 // Whether a receipt's readings violate test (20) against what is saved of their sender's clock.
-fn violated(state: &[u8], sender: u32, readings: Readings) -> bool
-    requires { (state_size ≤ length state.now) × T (in_form state.now) × (sender ≤ name_most) × T (not (readings_fail readings)) }
-    ensures { (let h : Head = head_of state.now in result ≡ violated_by h.drift (clock_of h sender) readings) }
+fn violated(state: &[u8], sender: u32, readings: Option<Readings>) -> bool
+    requires { IsState state.now × FromSender sender readings }
+    ensures { result ≡ violated_in state.now sender readings }
 {
-    let Readings::With(new, drift) = readings else {
+    let Some(given) = readings else {
         return false;
     };
-    let own = numbers::get32(state, state::DRIFT_AT);
+    let own = state::drift(state);
     clocks::place::violated(
         state,
         state::CLOCKS_AT + sender as usize * clocks::place::PLACE_SIZE,
         own,
-        drift,
-        new,
+        given.drift,
+        given.triple,
     )
 }
 
-// The sender's name as a term where its readings violate the test; else 0.
-pub(crate) fn blame(state: &[u8], sender: u32, readings: Readings) -> u32
-    requires { (state_size ≤ length state.now) × T (in_form state.now) × (sender ≤ name_most) × T (not (readings_fail readings)) }
-    ensures { (let h : Head = head_of state.now in
-        result ≡ cond (violated_by h.drift (clock_of h sender) readings) (2 ^ sender) 0) }
+// The sender's name as a term where its readings violate the test.
+pub(crate) fn blame(state: &[u8], sender: u32, readings: Option<Readings>) -> Option<u32>
+    requires { IsState state.now × FromSender sender readings }
+    ensures { result ≡ cond (violated_in state.now sender readings) (Some (2 ^ sender)) None }
 {
     if violated(state, sender, readings) {
-        return names::single(sender);
+        Some(names::single(sender))
+    } else {
+        None
     }
-    0
 }
 
 // Saves a receipt's readings in their sender's place; without readings every place stays.
-pub(crate) fn save(state: &mut [u8], sender: u32, readings: Readings)
-    requires { (state_size ≤ length state.old) × T (in_form state.old) × (sender ≤ name_most) × T (not (readings_fail readings)) }
+pub(crate) fn save(state: &mut [u8], sender: u32, readings: Option<Readings>)
+    requires { IsState state.old × FromSender sender readings }
     ensures { (let h : Head = head_of state.old in
-        state.new
-        ≡ put 0
-        (state_bytes (record { head = with_clocks h (watched readings sender h.clocks); store = store_of state.old }))
-        state.old) }
+        state.new ≡ put_head (with_clocks h (watched readings sender h.clocks)) state.old) }
 {
-    let Readings::With(new, _) = readings else {
+    let Some(given) = readings else {
         return;
     };
     clocks::place::save(
         state,
         state::CLOCKS_AT + sender as usize * clocks::place::PLACE_SIZE,
-        new,
+        given.triple,
     );
 }

@@ -20,7 +20,7 @@ use Rattle.predicates.proofs.ListLaws.{split}
 use Rattle.epochs.specs.Epochs.{withdraw, older, raised, NotAbove}
 use Rattle.epochs.proofs.WithdrawLaws.{withdraw-holds}
 use Rattle.epochs.proofs.EpochLaws.{late-before, older-raised, raised-above, raised-heard}
-use Rattle.clocks.specs.declared.Readings.TheVariants.{Without}
+use Rattle.std.specs.Prelude.{None}
 use Rattle.clocks.specs.Clocks.{violated_by}
 use Rattle.state.specs.Model.{Datum, datum, Head, Store}
 use Rattle.engine.specs.Ageing.{slow, fast, widened, aged}
@@ -193,8 +193,8 @@ unfolding violated heeded
 violated_current h g e = go (has g.sender (late h g)) refl e
   where
     go : (b : Bool) → has g.sender (late h g) ≡ b
-        → violated_by h.drift (clock_of (hearing h g) g.sender) (cond b Without g.readings) ≡ true → T (not b)
-    go true q p = false_true (sym (violated-none h.drift (clock_of (hearing h g) g.sender) Without refl) ∙ p)
+        → violated_by h.drift (clock_of (hearing h g) g.sender) (cond b None g.readings) ≡ true → T (not b)
+    go true q p = false_true (sym (violated-none h.drift (clock_of (hearing h g) g.sender) None refl) ∙ p)
       where
         false_true : false ≡ true → ⊥
         false_true z = let n : ◌≡◌ {A = ℕ} 0 1 = ap (λ (b : Bool). cond b 1 0) z in omega (arith, n)

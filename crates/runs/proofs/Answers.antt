@@ -14,7 +14,8 @@ use lib.ListN.{length, get_or, drop}
 use lib.IntN.{ℤ, pos, negsuc}
 use Rattle.numbers.specs.Numbers.{num, bytes, put}
 use Rattle.numbers.proofs.NumberLaws.{length-bytes, put_front, take_put, tab_ext}
-use Rattle.predicates.specs.Lists.{all, In}
+use Rattle.std.specs.List.{list_all}
+use Rattle.predicates.specs.Lists.{In}
 use Rattle.predicates.proofs.ListLaws.{both, all_out}
 use Rattle.state.specs.Model.{Datum, State, end_limit}
 use Rattle.state.specs.Layout.{joined}
@@ -25,12 +26,10 @@ use Rattle.predicates.proofs.IndexLaws.{all_get_or}
 use Rattle.state.proofs.OkLaws.{ok_datum_out}
 use Rattle.asking.specs.declared.Answer.{Answer}
 use Rattle.asking.specs.declared.Answer.TheVariants.{Contradicted, Open, Between}
-use Rattle.asking.specs.declared.Fewest.{Fewest}
-use Rattle.asking.specs.declared.Fewest.TheVariants.{Over, Few}
 use Rattle.asking.specs.Instants.{Within, InAll, Counts, Gives}
 use Rattle.ends.specs.Ends.{down, up}
 use Rattle.asking.specs.Asking.{rounded, answer_numbers}
-use Rattle.asking.specs.Fewest.{Works, FewestOf, fewest_numbers}
+use Rattle.asking.specs.Fewest.{Fewest, Over, Few, Works, FewestOf, fewest_numbers}
 use Rattle.asking.proofs.AnswerLaws.{gives_one}
 use Rattle.monitor.specs.Ask.{answer_size, fewest_size, wide, wide_in, Shows}
 use Rattle.runs.specs.Runs.{AtLeast, AtMost, Least, Greatest, Tells}
@@ -45,12 +44,12 @@ Small x = ltb x (256 ^ 8)
 sized : (x : ℕ) → T (Small x) → length (bytes 8 x) ≡ 8
 sized x _ = length-bytes 8 x
 
-length-wide : (ns : List ℕ) → T (all Small ns) → length (wide ns) ≡ length ns * 8
+length-wide : (ns : List ℕ) → T (list_all Small ns) → length (wide ns) ≡ length ns * 8
 unfolding wide
 length-wide ns t = length-joined (bytes 8) Small 8 sized ns t
 
 -- number i of those in front
-wide-num : (ns out : List ℕ) → T (all Small ns) → length ns * 8 ≤ length out → (i : ℕ) → i < length ns
+wide-num : (ns out : List ℕ) → T (list_all Small ns) → length ns * 8 ≤ length out → (i : ℕ) → i < length ns
     → num (i * 8) 8 (put 0 (wide ns) out) ≡ get_or ns i 0
 unfolding wide
 wide-num ns out t h i k =
@@ -60,7 +59,7 @@ wide-num ns out t h i k =
     (rw zero-add at (at_joined (bytes 8) Small 8 sized 0 0 i ns (put 0 vs out) t k front))
 
 -- so they are what the output shows
-pub shown : (ns out : List ℕ) → T (all Small ns) → length ns * 8 ≤ length out → Shows (put 0 (wide ns) out) ns
+pub shown : (ns out : List ℕ) → T (list_all Small ns) → length ns * 8 ≤ length out → Shows (put 0 (wide ns) out) ns
 unfolding wide_in
 shown ns out t h =
     record {

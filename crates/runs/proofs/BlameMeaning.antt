@@ -15,7 +15,7 @@ use lib.IntN.{ℤ, pos}
 use Rattle.names.specs.Sets.{subset, has}
 use Rattle.names.specs.code.Parts.{digit}
 use Rattle.names.proofs.SetLaws.{digit-single-same, digit-single_other, subset_in, has_in, has_out, has_mono}
-use Rattle.predicates.specs.Lists.{all}
+use Rattle.std.specs.List.{list_all}
 use Rattle.predicates.specs.Predicates.{holds}
 use Rattle.predicates.proofs.ListLaws.{or_l, or_cases}
 use Rattle.state.specs.Model.{Store}
@@ -44,7 +44,7 @@ module _ (s : ℕ) where
   -- ---- step 2 alone
 
   module _ (k : Store) where
-    cleared : (x : ℤ) → T (all (holds s) k.entries) → InAll s (unexplained k.entries k.held) x ↔ InAll s k.held x
+    cleared : (x : ℤ) → T (list_all (holds s) k.entries) → InAll s (unexplained k.entries k.held) x ↔ InAll s k.held x
     cleared x h = unexplained-all s x k.entries ((entries-each s k.entries).0 h) k.held
 
     swept_fine : (x : ℤ) → Fine s (swept k) x ↔ Fine s k x
@@ -58,7 +58,7 @@ module _ (s : ℕ) where
   -- ---- the violation
 
   module _ (name : ℕ) (k : Store) where
-    name-learnt : T (all (holds s) (blamed name k).entries) ↔ (T (has name s) × T (all (holds s) k.entries))
+    name-learnt : T (list_all (holds s) (blamed name k).entries) ↔ (T (has name s) × T (list_all (holds s) k.entries))
     unfolding blamed
     name-learnt =
         let es = k.entries in

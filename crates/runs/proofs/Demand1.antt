@@ -13,7 +13,8 @@ use lib.Dec.{T, ltb, leb, eqb, eqb→eq, ltb→lt, nltb→le}
 use lib.ListN.{length, get_or, drop}
 use Rattle.numbers.specs.Numbers.{bytes, bytes_of, words_of, put, num}
 use Rattle.predicates.specs.Predicates.{is_normal}
-use Rattle.predicates.specs.Lists.{all, In}
+use Rattle.std.specs.List.{list_all}
+use Rattle.predicates.specs.Lists.{In}
 use Rattle.predicates.proofs.ListLaws.{cond_ind, both_l, both_r}
 use Rattle.ends.specs.Ends.{down, up}
 use Rattle.message.specs.Words.{payload, masks, ends_limit}
@@ -23,15 +24,14 @@ use Rattle.epochs.specs.Epochs.{epochs_in}
 use Rattle.radio.specs.Names.{wanted, names_of}
 use Rattle.radio.specs.Read.{words_least, words_most, epoch_count, opening, epoch_words_fit, read_words, epoch_words}
 use Rattle.radio.specs.Write.{rewritten_as}
-use Rattle.message.specs.declared.Interval.{Interval}
-use Rattle.message.specs.declared.Interval.TheVariants.{Span, Bad}
-use Rattle.message.specs.declared.Reading.{Reading}
-use Rattle.message.specs.declared.Reading.TheVariants.{Message, Refused}
+use Rattle.message.specs.Read.{Interval}
+use Rattle.message.specs.Read.{Span, Bad}
+use Rattle.message.specs.Read.{Reading}
+use Rattle.message.specs.Read.{Message, Refused}
 use Rattle.radio.proofs.ReadLaws.{read_out, length-live, length_part, epochs_part, refused-above}
 use Rattle.message.proofs.MessageLaws.{length-message-more}
 use Rattle.clocks.specs.declared.Triple.{Triple}
-use Rattle.clocks.specs.declared.Readings.TheVariants.{With}
-use Rattle.clocks.specs.Clocks.{readings_fail}
+use Rattle.clocks.specs.Clocks.{readings_fail, with_drift}
 use Rattle.state.specs.Layout.{state_size, state_of, own_at, epochs_at, datum_at, state_bytes, joined}
 use Rattle.state.specs.Refusal.{refuse, lent, after}
 use Rattle.state.specs.Form.{in_form}
@@ -43,10 +43,8 @@ use Rattle.engine.specs.Calls.{set_up, age, done}
 use Rattle.engine.proofs.CallLaws.{set_up_ok, age_ok}
 use Rattle.asking.specs.declared.Answer.{Answer}
 use Rattle.asking.specs.declared.Answer.TheVariants.{Contradicted, Open, Between}
-use Rattle.asking.specs.declared.Fewest.{Fewest}
-use Rattle.asking.specs.declared.Fewest.TheVariants.{Over, Few}
 use Rattle.asking.specs.Asking.{answer, answer_numbers}
-use Rattle.asking.specs.Fewest.{fewest, fewest_numbers}
+use Rattle.asking.specs.Fewest.{Fewest, Over, Few, fewest, fewest_numbers}
 use Rattle.monitor.specs.Messages.{read_bytes, answered, reading_bytes, read_number, read_output, rewrite_number, rewrite_output, rewritten_bytes}
 use Rattle.monitor.specs.code.Words.{words_in}
 use Rattle.monitor.specs.Calls.{set_up_number, age_number, write_number, written_words, written_bytes, set_up_state, age_state, write_output}
@@ -217,7 +215,7 @@ receive_number_lem s least greatest m = receive_nest s (receipt_of least greates
 receive_with_number : (s : List ℕ) (least greatest : ℕ) (t : Triple) (drift : ℕ) (m : List ℕ)
     → returned (monitor_receive_with_readings s least greatest t drift m) ≡ first_failing (tests (monitor_receive_with_readings s least greatest t drift m))
 unfolding tests first_failing readings_fail
-receive_with_number s least greatest t drift m = receive_nest s (receipt_with least greatest (With t drift) m)
+receive_with_number s least greatest t drift m = receive_nest s (receipt_with least greatest (with_drift t drift) m)
 
 number-first : (c : Exported) → returned c ≡ first_failing (tests c)
 unfolding tests first_failing set_up_number set_up_refusal age_number age_refusal ask_number fewest_number write_number lent layout_size state_of
@@ -245,7 +243,7 @@ numbers-listed (message_rewrite m out) = refl
 
 -- ---- room: what is taken was refused by no test
 
-no_test-fails : (ts : List Test) → T (all (λ (t : Test). ltb 0 t.number) ts) → first_failing ts ≡ 0 → (t : Test) → In t ts → T (not t.fails)
+no_test-fails : (ts : List Test) → T (list_all (λ (t : Test). ltb 0 t.number) ts) → first_failing ts ≡ 0 → (t : Test) → In t ts → T (not t.fails)
 unfolding first_failing
 no_test-fails [] p e t i = absurd i
 no_test-fails (u ∷ ts) p e t (inl q) =
@@ -254,7 +252,7 @@ no_test-fails (u ∷ ts) p e t (inr q) =
     let k = refuse-none u.fails u.number (first_failing ts) (ltb→lt 0 u.number (both_l (ltb 0 u.number) _ p)) e in
     no_test-fails ts (both_r (ltb 0 u.number) _ p) k.1 t q
 
-numbers-above : (c : Exported) → T (all (λ (t : Test). ltb 0 t.number) (tests c))
+numbers-above : (c : Exported) → T (list_all (λ (t : Test). ltb 0 t.number) (tests c))
 unfolding tests
 numbers-above (monitor_set_up s u) = tt
 numbers-above (monitor_age s reading) = tt
@@ -352,7 +350,7 @@ stores (monitor_receive s least greatest m) =
     let g = receipt_of least greatest m in
     record { stored = state_bytes (delivered_state (state_of s) (delivered g)); left = refl; sized = receive_sized s g }
 stores (monitor_receive_with_readings s least greatest t drift m) =
-    let g = receipt_with least greatest (With t drift) m in
+    let g = receipt_with least greatest (with_drift t drift) m in
     record { stored = state_bytes (delivered_state (state_of s) (delivered g)); left = refl; sized = receive_sized s g }
 stores (monitor_ask s limit out) = record { stored = asked_bytes s limit; left = refl; sized = λ e. length-answer (answer limit (state_of s)) }
 stores (monitor_fewest s out) = record { stored = fewest_bytes s; left = refl; sized = λ e. length-fewest (fewest (state_of s)) }

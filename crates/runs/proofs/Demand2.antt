@@ -12,12 +12,12 @@ use lib.Dec.{T, lt→ltb}
 use lib.ListN.{length, take}
 use Rattle.numbers.specs.Numbers.{num, bytes}
 use Rattle.numbers.proofs.NumberLaws.{take_put}
-use Rattle.predicates.specs.Lists.{all}
+use Rattle.std.specs.List.{list_all}
 use Rattle.predicates.proofs.ListLaws.{both}
 use Rattle.ends.specs.Ends.{down, up}
 use Rattle.message.specs.Read.{term_words}
-use Rattle.message.specs.declared.Reading.{Reading}
-use Rattle.message.specs.declared.Reading.TheVariants.{Message, Refused}
+use Rattle.message.specs.Read.{Reading}
+use Rattle.message.specs.Read.{Message, Refused}
 use Rattle.radio.specs.Names.{wanted, names_of}
 use Rattle.radio.specs.Read.{epoch_words}
 use Rattle.radio.proofs.ReadLaws.{refused-above}
@@ -38,7 +38,7 @@ use Rattle.runs.proofs.Demand1.{written-size, rewritten-size}
 -- ---- reading
 
 -- what C reads of a message whose numbers fit 8 bytes
-module _ {s l r n : ℕ} (m : List ℕ) (e : read_bytes m ≡ Message s l r n) (small : T (all Small (s ∷ l ∷ r ∷ n ∷ []))) (out : List ℕ) (h : 32 ≤ length out) where
+module _ {s l r n : ℕ} (m : List ℕ) (e : read_bytes m ≡ Message s l r n) (small : T (list_all Small (s ∷ l ∷ r ∷ n ∷ []))) (out : List ℕ) (h : 32 ≤ length out) where
   taken-reading : read_number m out ≡ 0
   unfolding read_number answered reading_bytes bytes
   taken-reading = let long = le-ltb (length out) 32 h in rw (e, long)
@@ -60,7 +60,7 @@ accepted-reads m out = go (read_bytes m) refl
 
 -- ---- writing
 
-small-numbers : (a b c d : ℕ) → a < 256 ^ 8 → b < 256 ^ 8 → c < 256 ^ 8 → d < 256 ^ 8 → T (all Small (a ∷ b ∷ c ∷ d ∷ []))
+small-numbers : (a b c d : ℕ) → a < 256 ^ 8 → b < 256 ^ 8 → c < 256 ^ 8 → d < 256 ^ 8 → T (list_all Small (a ∷ b ∷ c ∷ d ∷ []))
 small-numbers a b c d p q r s =
     both (Small a) _ (lt→ltb a (256 ^ 8) p) (both (Small b) _ (lt→ltb b (256 ^ 8) q) (both (Small c) _ (lt→ltb c (256 ^ 8) r) (both (Small d) true (lt→ltb d (256 ^ 8) s) tt)))
 

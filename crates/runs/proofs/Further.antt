@@ -9,7 +9,6 @@ use mathlib.Core.List.{List, [], ◌∷◌}
 use native.Mathlib.Nat.{le_trans}
 use lib.IntN.{ℤ}
 use Rattle.state.specs.Model.{Head}
-use Rattle.clocks.specs.declared.Readings.TheVariants.{Without}
 use Rattle.epochs.specs.Epochs.{NotAbove}
 use Rattle.engine.specs.Receiving.{Delivery, grown}
 use Rattle.engine.specs.Hearing.{spoken_by, hearing, heeded}
@@ -23,6 +22,7 @@ use Rattle.runs.specs.Book.{Request, ageing, receipt, Step, Line, heard, Book, o
 use Rattle.runs.specs.Book.{entered_delivery, EndsOn}
 use Rattle.runs.specs.Runs.{Run, steps_of, book, if_taken, taken_of, Quiet, Extra, Further, Demand3More, Demand3Whole}
 use Rattle.runs.proofs.Agreement.{ends_out, ends_in}
+use Rattle.std.specs.Prelude.{None}
 use Rattle.runs.proofs.Demand3.{demand3}
 
 -- ---- the book of the taken calls
@@ -67,7 +67,7 @@ less_call c b q l =
     }
 
 -- a receipt in the first alone, without readings and without an epoch above the known one: it enters its own line, nothing is saved, no epoch rises
-less_receipt : (c b : Book) (g : Delivery) → g.readings ≡ Without → NotAbove (spoken_by c.head g) c.head.epochs → Less c b
+less_receipt : (c b : Book) (g : Delivery) → g.readings ≡ None → NotAbove (spoken_by c.head g) c.head.epochs → Less c b
     → Less (entered c (receive g)) b
 unfolding entered moved lines_of violated
 less_receipt c b g e q l =

@@ -12,7 +12,8 @@ use mathlib.Core.List.Permᴰ
 use mathlib.Core.List.{Permᴰ}
 use lib.Dec.{T, T_not, not_T, eqb, eqb→eq, eqb_refl}
 use lib.IntN.{ℤ}
-use Rattle.predicates.specs.Lists.{keep, In}
+use Rattle.std.specs.List.{filter}
+use Rattle.predicates.specs.Lists.{In}
 use Rattle.predicates.proofs.ListLaws.{both, both_l, both_r, split, cond_ind, in_l, in_r, in_cases, all_in, perm_in}
 use Rattle.predicates.proofs.ListLaws.{keep_out, keep_passed, keep_failed, keep_all, keep-none_out, keep_append, keep-without, FirstKept, first-kept}
 use Rattle.clocks.specs.Clocks.{watched}
@@ -175,63 +176,63 @@ module _ (h : Head) where
           ∙ eqb→eq d.sender m (both_l (eqb d.sender m) (is_given (heeded h d)) t)
 
   -- a request that carries readings of n is unrelated to those that do not
-  unrelated_kept : (x : Request) (n : ℕ) → T (carries h n x) → (ls : List Request) → keep (carries h n) ls ≡ [] → Each (Unrelated x) ls
+  unrelated_kept : (x : Request) (n : ℕ) → T (carries h n x) → (ls : List Request) → filter (carries h n) ls ≡ [] → Each (Unrelated x) ls
   unrelated_kept x n t ls e q m k s u =
       keep-none_out (carries h n) ls e q m (subst (λ (i : ℕ). T (carries h i q)) (carries-one x k n s t) u)
 
   -- where no sender has any, no request has
-  none-timed : (ys : List Request) → ((n : ℕ) → keep (carries h n) ys ≡ []) → keep is_untimed ys ≡ ys
+  none-timed : (ys : List Request) → ((n : ℕ) → filter (carries h n) ys ≡ []) → filter is_untimed ys ≡ ys
   none-timed ys e =
       keep_all is_untimed ys
       (all_in is_untimed ys (λ q m. not_T (is_timed q) (λ t. let c = timed-carries q t in keep-none_out (carries h c.0) ys (e c.0) q m c.1)))
 
   -- x, the first of a list, stands between ls and rs in another, the first there with readings of its sender
-  module _ (x : Request) (xs ls rs : List Request) (n : ℕ) (c : T (carries h n x)) (before : keep (carries h n) ls ≡ [])
-      (behind : keep (carries h n) rs ≡ keep (carries h n) xs) where
+  module _ (x : Request) (xs ls rs : List Request) (n : ℕ) (c : T (carries h n x)) (before : filter (carries h n) ls ≡ [])
+      (behind : filter (carries h n) rs ≡ filter (carries h n) xs) where
     others-kept : ReadingsKept h (x ∷ xs) (ls ++ (x ∷ rs)) → ReadingsKept h xs (ls ++ rs)
     others-kept e m = go (split (carries h m x))
       where
-        go : T (carries h m x) ⊎ T (not (carries h m x)) → keep (carries h m) xs ≡ keep (carries h m) (ls ++ rs)
+        go : T (carries h m x) ⊎ T (not (carries h m x)) → filter (carries h m) xs ≡ filter (carries h m) (ls ++ rs)
         go (inl t) =
-            subst (λ (i : ℕ). keep (carries h i) xs ≡ keep (carries h i) (ls ++ rs)) (carries-one x n m c t)
+            subst (λ (i : ℕ). filter (carries h i) xs ≡ filter (carries h i) (ls ++ rs)) (carries-one x n m c t)
             (sym (keep_append (carries h n) ls rs ∙ rw (before, behind)))
         go (inr t) = sym (keep_failed (carries h m) x xs t) ∙ e m ∙ keep-without (carries h m) ls x rs t
 
     -- it goes in front, and then the others follow
     timed_next : (b : Book) → Batch h b → Each Plain (ls ++ (x ∷ rs))
-        → SamePaths (written (entered_request b x) (ls ++ rs)) (written (entered_request b x) (keep is_timed xs ++ keep is_untimed (ls ++ rs)))
-        → SamePaths (written b (ls ++ (x ∷ rs))) (written b (keep is_timed (x ∷ xs) ++ keep is_untimed (ls ++ (x ∷ rs))))
+        → SamePaths (written (entered_request b x) (ls ++ rs)) (written (entered_request b x) (filter is_timed xs ++ filter is_untimed (ls ++ rs)))
+        → SamePaths (written b (ls ++ (x ∷ rs))) (written b (filter is_timed (x ∷ xs) ++ filter is_untimed (ls ++ (x ∷ rs))))
     unfolding written
     timed_next b k ps rest =
         let t = carries-timed x n c in
         rw (keep_passed is_timed x xs t, keep-without is_untimed ls x rs (not_T (is_untimed x) (λ u. T_not (is_timed x) u t)))
-        (same_trans (written b (ls ++ (x ∷ rs))) (written b (x ∷ (ls ++ rs))) (written b (x ∷ (keep is_timed xs ++ keep is_untimed (ls ++ rs))))
+        (same_trans (written b (ls ++ (x ∷ rs))) (written b (x ∷ (ls ++ rs))) (written b (x ∷ (filter is_timed xs ++ filter is_untimed (ls ++ rs))))
         (to_front ls rs x b k (λ q m. ps q (in_l q ls (x ∷ rs) m)) (ps x (in_r x ls (x ∷ rs) (inl refl))) (unrelated_kept x n c ls before)) rest)
 
   -- ys, which has of each sender what xs has: those of xs with readings, then its own without
   timed-first : (xs ys : List Request) (b : Book) → Batch h b → Each Plain ys → ReadingsKept h xs ys
-      → SamePaths (written b ys) (written b (keep is_timed xs ++ keep is_untimed ys))
+      → SamePaths (written b ys) (written b (filter is_timed xs ++ filter is_untimed ys))
   timed-first [] ys b k ps e =
       subst (λ (zs : List Request). SamePaths (written b ys) (written b zs)) (sym (none-timed ys (λ n. sym (e n)))) (same_refl (written b ys))
   timed-first (x ∷ xs) ys b k ps e = go (split (is_timed x)) (timed-first xs)
     where
       go : T (is_timed x) ⊎ T (is_untimed x)
           → ((zs : List Request) (c : Book) → Batch h c → Each Plain zs → ReadingsKept h xs zs
-          → SamePaths (written c zs) (written c (keep is_timed xs ++ keep is_untimed zs)))
-          → SamePaths (written b ys) (written b (keep is_timed (x ∷ xs) ++ keep is_untimed ys))
+          → SamePaths (written c zs) (written c (filter is_timed xs ++ filter is_untimed zs)))
+          → SamePaths (written b ys) (written b (filter is_timed (x ∷ xs) ++ filter is_untimed ys))
       go (inr t) rest =
           rw (keep_failed is_timed x xs t)
           (rest ys b k ps (λ n. sym (keep_failed (carries h n) x xs (untimed_carries x t n)) ∙ e n))
       go (inl t) rest =
           let (n, c) = timed-carries x t in
-          found n c (first-kept (carries h n) ys x (keep (carries h n) xs) (sym (e n) ∙ keep_passed (carries h n) x xs c))
+          found n c (first-kept (carries h n) ys x (filter (carries h n) xs) (sym (e n) ∙ keep_passed (carries h n) x xs c))
         where
-          found : (n : ℕ) → T (carries h n x) → FirstKept (carries h n) ys x (keep (carries h n) xs)
-              → SamePaths (written b ys) (written b (keep is_timed (x ∷ xs) ++ keep is_untimed ys))
+          found : (n : ℕ) → T (carries h n x) → FirstKept (carries h n) ys x (filter (carries h n) xs)
+              → SamePaths (written b ys) (written b (filter is_timed (x ∷ xs) ++ filter is_untimed ys))
           found n c (ls, rs, cut, before, behind) =
               let plain : Each Plain (ls ++ (x ∷ rs)) = subst (λ (zs : List Request). Each Plain zs) cut ps in
               let kept : ReadingsKept h (x ∷ xs) (ls ++ (x ∷ rs)) = subst (λ (zs : List Request). ReadingsKept h (x ∷ xs) zs) cut e in
-              subst (λ (zs : List Request). SamePaths (written b zs) (written b (keep is_timed (x ∷ xs) ++ keep is_untimed zs))) (sym cut)
+              subst (λ (zs : List Request). SamePaths (written b zs) (written b (filter is_timed (x ∷ xs) ++ filter is_untimed zs))) (sym cut)
               (timed_next x xs ls rs n c before behind b k plain
               (rest (ls ++ rs) (entered_request b x) (batch_next b k x (plain x (in_r x ls (x ∷ rs) (inl refl))))
               (each-others Plain ls x rs plain) (others-kept x xs ls rs n c before behind kept)))
@@ -243,12 +244,12 @@ module _ (h : Head) where
     abbrev passing : Request → Book
     passing q = cond (is_untimed q) (entered_request b q) b
 
-    written_passing : (q : Request) (qs : List Request) → written b (keep is_untimed (q ∷ qs)) ≡ written (passing q) (keep is_untimed qs)
+    written_passing : (q : Request) (qs : List Request) → written b (filter is_untimed (q ∷ qs)) ≡ written (passing q) (filter is_untimed qs)
     unfolding written
     written_passing q qs = go (is_untimed q)
       where
         go : (t : Bool)
-            → written b (cond t (q ∷ keep is_untimed qs) (keep is_untimed qs)) ≡ written (cond t (entered_request b q) b) (keep is_untimed qs)
+            → written b (cond t (q ∷ filter is_untimed qs) (filter is_untimed qs)) ≡ written (cond t (entered_request b q) b) (filter is_untimed qs)
         go true = refl
         go false = refl
 
@@ -267,7 +268,7 @@ module _ (h : Head) where
       go false false f = same_refl b
 
   untimed_same : {xs ys : List Request} → Permᴰ xs ys → (b : Book) → Batch h b → Each Plain xs
-      → SamePaths (written b (keep is_untimed xs)) (written b (keep is_untimed ys))
+      → SamePaths (written b (filter is_untimed xs)) (written b (filter is_untimed ys))
   untimed_same Permᴰ.nil b k ps = same_refl (written b [])
   untimed_same (Permᴰ.cons {a = x} {b = y} {l₁ = xs} {l₂ = ys} e d) b k ps =
       rw (written_passing b x xs, written_passing b y ys, ← e)
@@ -281,10 +282,10 @@ module _ (h : Head) where
         ← e₁,
         ← e₂,
       )
-      (same-all (keep is_untimed l) (passing (passing b x) y) (passing (passing b y) x)
+      (same-all (filter is_untimed l) (passing (passing b x) y) (passing (passing b y) x)
       (passing_swap b k x y (ps x (inl refl)) (ps y (inr (inl refl)))))
   untimed_same (Permᴰ.trans {l₁ = xs} {l₂ = zs} {l₃ = ys} d₁ d₂) b k ps =
-      same_trans (written b (keep is_untimed xs)) (written b (keep is_untimed zs)) (written b (keep is_untimed ys)) (untimed_same d₁ b k ps)
+      same_trans (written b (filter is_untimed xs)) (written b (filter is_untimed zs)) (written b (filter is_untimed ys)) (untimed_same d₁ b k ps)
       (untimed_same d₂ b k (each_perm Plain d₁ ps))
 
   -- ---- any two orders
@@ -292,13 +293,13 @@ module _ (h : Head) where
   order_same : (xs ys : List Request) (b : Book) → Batch h b → Reordered xs ys → Each Plain xs → ReadingsKept h xs ys
       → SamePaths (written b xs) (written b ys)
   order_same xs ys b k d ps e =
-      let ts = keep is_timed xs in
-      let sorted_x = written b (ts ++ keep is_untimed xs) in
-      let sorted_y = written b (ts ++ keep is_untimed ys) in
+      let ts = filter is_timed xs in
+      let sorted_x = written b (ts ++ filter is_untimed xs) in
+      let sorted_y = written b (ts ++ filter is_untimed ys) in
       let first : SamePaths (written b xs) sorted_x = timed-first xs xs b k ps (λ n. refl) in
       let last : SamePaths (written b ys) sorted_y = timed-first xs ys b k (each_perm Plain d ps) e in
       let between : SamePaths sorted_x sorted_y =
-      rw (written-append ts (keep is_untimed xs) b, written-append ts (keep is_untimed ys) b)
+      rw (written-append ts (filter is_untimed xs) b, written-append ts (filter is_untimed ys) b)
       (untimed_same d (written b ts) (batch-written ts b k (λ q m. ps q (keep_out is_timed xs q m).0)) ps) in
       same_trans (written b xs) sorted_x (written b ys) first (same_trans sorted_x sorted_y (written b ys) between (last.1, last.0))
 

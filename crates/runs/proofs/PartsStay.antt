@@ -9,7 +9,6 @@ use lib.Dec.{eqb, eqb→eq}
 use lib.ListN.{get_or, take, drop}
 use Rattle.numbers.specs.Numbers.{put}
 use Rattle.predicates.proofs.ListLaws.{cond_ind}
-use Rattle.clocks.specs.declared.Readings.TheVariants.{Without}
 use Rattle.state.specs.Model.{State}
 use Rattle.state.specs.Layout.{entries_at, clocks_at, held_at, parts, state_bytes, head_of, state_of}
 use Rattle.state.specs.Refusal.{after}
@@ -28,6 +27,7 @@ use Rattle.engine.proofs.HearingLaws.{heeded-none, quiet-hearing, own-epoch-hear
 use Rattle.monitor.specs.Calls.{age_number, age_state}
 use Rattle.monitor.specs.Receive.{Receipt, Delivered, refused, brings, delivered, delivered_state, receipt_number, receive_number, receive_state}
 use Rattle.monitor.proofs.FormKept.{brought_readings, receive_passed, delivered_ok}
+use Rattle.std.specs.Prelude.{None}
 use Rattle.runs.specs.Demand1.{EntriesStay, HeadStays, ClocksStay, OwnEpochStays}
 
 -- ---- parts one behind the other
@@ -59,7 +59,7 @@ head-bytes_stay s b g =
     (head_of-delivered (state_of s) (delivered g)))
     (λ e. refl)
 
-clocks-of_delivered : (st : State) (g : Receipt) → g.readings ≡ Without
+clocks-of_delivered : (st : State) (g : Receipt) → g.readings ≡ None
     → ((d : Delivery) → delivered g ≡ brings d → NotAbove (spoken_by st.head d) st.head.epochs)
     → drop 7 (parts (delivered_state st (delivered g))) ≡ drop 7 (parts st)
 unfolding delivered_state done moved parts

@@ -13,7 +13,8 @@ use mathlib.Core.List.{List, [], ◌∷◌, ◌++◌}
 use native.Mathlib.Omega.{arith}
 use lib.Dec.{T, T_not, not_T, leb→le, ltb, ltb→lt}
 use lib.IntN.{ℤ, pos, negsuc}
-use Rattle.predicates.specs.Lists.{any, all, In}
+use Rattle.std.specs.List.{list_any, list_all}
+use Rattle.predicates.specs.Lists.{In}
 use Rattle.predicates.specs.Predicates.{holds, implies, is_true, normal}
 use Rattle.predicates.proofs.ListLaws.{both_l, both_r, or_l, or_r, or_cases, split, cond_ind, any_in, any_out, all_in, all_out}
 use Rattle.predicates.proofs.EachLaws.{Each, each_dropped, each_added}
@@ -41,7 +42,7 @@ module _ (s : ℕ) where
 
   -- where s makes every entry true, some instant lies in every interval that s leaves active
   abbrev pub Some : Store → Type 0
-  Some k = T (all (holds s) k.entries) → (m : ℕ) × InAll s k.held (pos m)
+  Some k = T (list_all (holds s) k.entries) → (m : ℕ) × InAll s k.held (pos m)
 
   pub inall_each : (x : ℤ) (ds : List Datum) → InAll s ds x ↔ Each (Allows s x) ds
   inall_each x ds = (inall_out s ds x, inall_in s ds x)
@@ -50,9 +51,9 @@ module _ (s : ℕ) where
   pub active-cases : (ds : List Datum) → ((d : Datum) × In d ds × Active s d) ⊎ ((x : ℤ) → InAll s ds x)
   active-cases ds =
       let f : Datum → Bool = λ d. not (holds s d.terms) in
-      ⊎_map (any_out f ds) (λ t x. (inall_each x ds).1 (λ d m a. absurd (T_not (any f ds) t (any_in f ds d m a)))) (split (any f ds))
+      ⊎_map (any_out f ds) (λ t x. (inall_each x ds).1 (λ d m a. absurd (T_not (list_any f ds) t (any_in f ds d m a)))) (split (list_any f ds))
 
-  pub entries-each : (es : List (List ℕ)) → T (all (holds s) es) ↔ Each True es
+  pub entries-each : (es : List (List ℕ)) → T (list_all (holds s) es) ↔ Each True es
   entries-each es = (all_out (holds s) es, all_in (holds s) es)
 
   -- ---- step 1

@@ -13,8 +13,8 @@ use lib.ListN.{length}
 use lib.IntN.{ℤ}
 use Rattle.numbers.specs.Numbers.{put}
 use Rattle.numbers.proofs.NumberLaws.{length-put}
-use Rattle.message.specs.declared.Reading.{Reading}
-use Rattle.message.specs.declared.Reading.TheVariants.{Message, Refused}
+use Rattle.message.specs.Read.{Reading}
+use Rattle.message.specs.Read.{Message, Refused}
 use Rattle.clocks.specs.Clocks.{readings_fail}
 use Rattle.state.specs.Model.{Head, State}
 use Rattle.state.specs.Layout.{state_size, state_bytes, head_of, store_of, state_of}

@@ -16,8 +16,8 @@ use Rattle.state.specs.Form.{in_form}
 use Rattle.state.specs.Refusal.{after}
 use Rattle.state.proofs.StateLaws.{form_ok, put-state-same}
 use Rattle.state.proofs.LentLaws.{lent_next}
+use Rattle.std.specs.Prelude.{Option, None}
 use Rattle.clocks.specs.declared.Readings.{Readings}
-use Rattle.clocks.specs.declared.Readings.TheVariants.{Without}
 use Rattle.clocks.specs.Clocks.{readings_fail}
 use Rattle.engine.specs.Refusals.{delays_fail}
 use Rattle.engine.proofs.SameLaws.{age-same, receive-same, receive_true}
@@ -40,9 +40,9 @@ equal_reading s b h t =
     let a = age-same (state_of s) (form_ok s t) in
     (lent_next s _ h t ∙ a.0, after_same _ _ s b h t a.1)
 
-readings-none : (r : Readings) → r ≡ Without → readings_fail r ≡ false
+readings-none : (r : Option Readings) → r ≡ None → readings_fail r ≡ false
 unfolding readings_fail
-readings-none r e = subst (λ (x : Readings). readings_fail x ≡ false) (sym e) refl
+readings-none r e = subst (λ (x : Option Readings). readings_fail x ≡ false) (sym e) refl
 
 pub true_receipt : TrueReceipt
 unfolding TrueReceipt receive_number receive_state delivered_number delivered_state state_of

@@ -12,8 +12,8 @@ use lib.Seq.{get_or-set_other, set_comm}
 use lib.IntN.{ℤ}
 use Rattle.predicates.proofs.ListLaws.{both, cond_ind}
 use Rattle.epochs.specs.Epochs.{NotAbove}
+use Rattle.std.specs.Prelude.{Option, None, Some}
 use Rattle.clocks.specs.declared.Readings.{Readings}
-use Rattle.clocks.specs.declared.Readings.TheVariants.{Without, With}
 use Rattle.clocks.specs.Clocks.{Saved, nothing, saving, violated_by, watched}
 use Rattle.state.specs.Model.{Head, with_clocks}
 use Rattle.engine.specs.Receiving.{Delivery, grown}
@@ -60,7 +60,7 @@ lines-still h g =
 -- ---- the triples of different senders
 
 -- readings of i and of j that are not both given, or i and j are not one
-abbrev UnrelatedAt : ℕ → Readings → ℕ → Readings → Type 0
+abbrev UnrelatedAt : ℕ → Option Readings → ℕ → Option Readings → Type 0
 UnrelatedAt i r j u = (n : ℕ) → T (eqb i n && is_given r) → T (eqb j n && is_given u) → ⊥
 
 other_senders : (i j : ℕ) → ((n : ℕ) → T (eqb i n && true) → T (eqb j n && true) → ⊥) → j ≡ i → ⊥
@@ -68,26 +68,26 @@ other_senders i j a e =
     let same : T (eqb j j && true) = both (eqb j j) true (eqb_refl j) tt in a j (subst (λ (n : ℕ). T (eqb n j && true)) e same) same
 
 -- what is saved of j is what it was
-watched_other : (i : ℕ) (r : Readings) (j drift : ℕ) (u : Readings) (cs : List Saved) → UnrelatedAt i r j u
+watched_other : (i : ℕ) (r : Option Readings) (j drift : ℕ) (u : Option Readings) (cs : List Saved) → UnrelatedAt i r j u
     → violated_by drift (get_or (watched r i cs) j nothing) u ≡ violated_by drift (get_or cs j nothing) u
 unfolding watched violated_by
-watched_other i Without j drift u cs a = refl
-watched_other i (With t d) j drift Without cs a = refl
-watched_other i (With t d) j drift (With u e) cs a =
-    ap (λ (c : Saved). violated_by drift c (With u e)) (get_or-set_other cs i j (saving (get_or cs i nothing) t) nothing (other_senders i j a))
+watched_other i None j drift u cs a = refl
+watched_other i (Some x) j drift None cs a = refl
+watched_other i (Some x) j drift (Some y) cs a =
+    ap (λ (c : Saved). violated_by drift c (Some y)) (get_or-set_other cs i j (saving (get_or cs i nothing) x.triple) nothing (other_senders i j a))
 
-watched_swap : (i : ℕ) (r : Readings) (j : ℕ) (u : Readings) (cs : List Saved) → UnrelatedAt i r j u
+watched_swap : (i : ℕ) (r : Option Readings) (j : ℕ) (u : Option Readings) (cs : List Saved) → UnrelatedAt i r j u
     → watched u j (watched r i cs) ≡ watched r i (watched u j cs)
 unfolding watched
-watched_swap i Without j u cs a = refl
-watched_swap i (With t d) j Without cs a = refl
-watched_swap i (With t d) j (With u e) cs a =
+watched_swap i None j u cs a = refl
+watched_swap i (Some x) j None cs a = refl
+watched_swap i (Some x) j (Some y) cs a =
     let other : j ≡ i → ⊥ = other_senders i j a in
-    let new : Saved = saving (get_or cs i nothing) t in
-    ap (λ (c : Saved). set (set cs i new) j (saving c u)) (get_or-set_other cs i j new nothing other)
-    ∙ set_comm cs i j new (saving (get_or cs j nothing) u) (λ q. other (sym q))
-    ∙ ap (λ (c : Saved). set (set cs j (saving (get_or cs j nothing) u)) i (saving c t))
-    (sym (get_or-set_other cs j i (saving (get_or cs j nothing) u) nothing (λ q. other (sym q))))
+    let new : Saved = saving (get_or cs i nothing) x.triple in
+    ap (λ (c : Saved). set (set cs i new) j (saving c y.triple)) (get_or-set_other cs i j new nothing other)
+    ∙ set_comm cs i j new (saving (get_or cs j nothing) y.triple) (λ q. other (sym q))
+    ∙ ap (λ (c : Saved). set (set cs j (saving (get_or cs j nothing) y.triple)) i (saving c x.triple))
+    (sym (get_or-set_other cs j i (saving (get_or cs j nothing) y.triple) nothing (λ q. other (sym q))))
 
 -- ---- two receipts, where the head before all of them is h
 

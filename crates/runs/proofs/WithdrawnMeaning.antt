@@ -9,7 +9,8 @@ use mathlib.Core.List.{List, map}
 use lib.Dec.{T, T_not, not_T}
 use lib.IntN.{ℤ, pos}
 use Rattle.names.specs.Sets.{set_union}
-use Rattle.predicates.specs.Lists.{all, keep, In}
+use Rattle.std.specs.List.{list_all, filter}
+use Rattle.predicates.specs.Lists.{In}
 use Rattle.predicates.specs.Predicates.{holds, is_true}
 use Rattle.predicates.proofs.ListLaws.{split, all_in, all_out, keep_in, keep_out, map_in, map_out}
 use Rattle.predicates.proofs.PredicateLaws.{true_holds}
@@ -23,23 +24,23 @@ use Rattle.asking.proofs.InstantLaws.{Active, Allows}
 use Rattle.runs.proofs.ReceiptMeaning.{Some, inall_each}
 
 module _ (s r : ℕ) where
-  entries_fine : (es : List (List ℕ)) → T (all (holds s) (withdrawn_entries r es)) ↔ T (all (holds (set_union s r)) es)
+  entries_fine : (es : List (List ℕ)) → T (list_all (holds s) (withdrawn_entries r es)) ↔ T (list_all (holds (set_union s r)) es)
   unfolding withdrawn_entries
   entries_fine es = (
     λ h. all_in (holds (set_union s r)) es (λ e m. subst (λ (b : Bool). T b) (withdraw-holds s r e) (left h e m (split (is_true (withdraw r e))))),
-    λ h. all_in (holds s) (keep (λ e. not (is_true e)) (map (withdraw r) es)) (λ e m.
+    λ h. all_in (holds s) (filter (λ e. not (is_true e)) (map (withdraw r) es)) (λ e m.
         let q = keep_out (λ e. not (is_true e)) (map (withdraw r) es) e m in
         let u = map_out (withdraw r) es e q.0 in
         subst (λ (x : List ℕ). T (holds s x)) (sym u.2)
         (subst (λ (b : Bool). T b) (sym (withdraw-holds s r u.0)) (all_out (holds (set_union s r)) es h u.0 u.1))),
   )
     where
-      left : T (all (holds s) (keep (λ e. not (is_true e)) (map (withdraw r) es))) → (e : List ℕ) → In e es
+      left : T (list_all (holds s) (filter (λ e. not (is_true e)) (map (withdraw r) es))) → (e : List ℕ) → In e es
           → T (is_true (withdraw r e)) ⊎ T (not (is_true (withdraw r e))) → T (holds s (withdraw r e))
       left h e m c =
           ⊎_elim
           (λ t. true_holds s (withdraw r e) t)
-          (λ t. all_out (holds s) (keep (λ e. not (is_true e)) (map (withdraw r) es)) h (withdraw r e)
+          (λ t. all_out (holds s) (filter (λ e. not (is_true e)) (map (withdraw r) es)) h (withdraw r e)
           (keep_in (λ e. not (is_true e)) (map (withdraw r) es) (withdraw r e) (map_in (withdraw r) es e m) t))
           c
 
@@ -59,9 +60,9 @@ module _ (s r : ℕ) where
   held_fine ds x = (
     λ h. (inall_each (set_union s r) x ds).1 (λ d m a.
         let b = active_out d a in
-        (inall_each s x (keep (λ d. not (is_true d.terms)) (map (withdrawn_datum r) ds))).0 h (withdrawn_datum r d)
+        (inall_each s x (filter (λ d. not (is_true d.terms)) (map (withdrawn_datum r) ds))).0 h (withdrawn_datum r d)
         (keep_in (λ d. not (is_true d.terms)) (map (withdrawn_datum r) ds) (withdrawn_datum r d) (map_in (withdrawn_datum r) ds d m) (active_stays (withdrawn_datum r d) b)) b),
-    λ h. (inall_each s x (keep (λ d. not (is_true d.terms)) (map (withdrawn_datum r) ds))).1 (λ d m.
+    λ h. (inall_each s x (filter (λ d. not (is_true d.terms)) (map (withdrawn_datum r) ds))).1 (λ d m.
         let q = keep_out (λ d. not (is_true d.terms)) (map (withdrawn_datum r) ds) d m in
         let u = map_out (withdrawn_datum r) ds d q.0 in
         subst (λ (z : Datum). Allows s x z) (sym u.2) (λ a. (inall_each (set_union s r) x ds).0 h u.0 u.1 (active_in u.0 a))),

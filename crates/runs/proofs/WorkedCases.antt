@@ -10,7 +10,7 @@ use lib.Dec.{T, eqb, eqb→eq, nltb→le}
 use lib.ListN.{length, get_or, length-append}
 use Rattle.names.specs.Sets.{subset, set_union, minus, has}
 use Rattle.numbers.specs.Numbers.{num, bytes, tab, words_of, bytes_of}
-use Rattle.predicates.specs.Lists.{all}
+use Rattle.std.specs.List.{list_all}
 use Rattle.predicates.specs.Predicates.{holds, implies, is_true, is_normal, struck, insert_rising, rising, minimal, normal, formed}
 use Rattle.predicates.proofs.ListLaws.{both_l, both_r, T_true, all_out}
 use Rattle.message.specs.Words.{of_kind, masks, word_sum, check}
@@ -99,10 +99,10 @@ meets st (setting_up u number) = eqb (set_up_refusal u) number
 unfoldable passes : Case → Bool
 passes c =
     eqb (set_up_refusal c.setup) 0
-    && (all (λ (p : Step). eqb p.number 0) (steps_from (set_up c.setup) c.requests)
+    && (list_all (λ (p : Step). eqb p.number 0) (steps_from (set_up c.setup) c.requests)
     && meets (state_from (set_up c.setup) c.requests) c.question)
 
-each_passes : T (all passes cases)
+each_passes : T (list_all passes cases)
 unfolding subset set_union has holds implies is_true is_normal struck insert_rising rising minimal normal formed
     num bytes tab words_of bytes_of
     of_kind masks word_sum check head_word_fits is_ends opens width span_kinds middle kinds_fit check_fits
@@ -209,9 +209,9 @@ case_comes c p buffer h =
 lent_passes : Lent → Bool
 lent_passes c =
     state_ok c.state
-    && (all (λ (p : Step). eqb p.number 0) (steps_from c.state c.requests) && meets (state_from c.state c.requests) c.question)
+    && (list_all (λ (p : Step). eqb p.number 0) (steps_from c.state c.requests) && meets (state_from c.state c.requests) c.question)
 
-each-lent_passes : T (all lent_passes fractions)
+each-lent_passes : T (list_all lent_passes fractions)
 unfolding subset set_union has holds implies is_true is_normal struck insert_rising rising minimal normal formed
     num bytes tab words_of bytes_of
     of_kind masks word_sum check head_word_fits is_ends opens width span_kinds middle kinds_fit check_fits

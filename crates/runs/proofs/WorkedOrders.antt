@@ -13,7 +13,7 @@ use lib.Dec.{T, eqb, eqb→eq}
 use lib.ListN.{get_or, set, replicate}
 use Rattle.names.specs.Sets.{subset, set_union, minus, has}
 use Rattle.numbers.specs.Numbers.{num, bytes, tab, words_of, bytes_of}
-use Rattle.predicates.specs.Lists.{all, keep}
+use Rattle.std.specs.List.{list_all, filter}
 use Rattle.predicates.specs.Predicates.{holds, implies, is_true, is_normal, struck, insert_rising, rising, minimal, normal, formed}
 use Rattle.predicates.proofs.ListLaws.{both_l, both_r, split, all_in, all_out, keep-none, perm_in}
 use Rattle.epochs.specs.Epochs.{epochs_most, withdraw, older, raised, told, spoken}
@@ -57,7 +57,7 @@ late_below es (suc zero) = omega arith
 late_below es (suc (suc n)) = le_refl (get_or es n 0)
 
 abbrev Kept : ℕ → Type 0
-Kept n = keep (carries mended_head n) one_order ≡ keep (carries mended_head n) other_order
+Kept n = filter (carries mended_head n) one_order ≡ filter (carries mended_head n) other_order
 
 -- it carries no readings of n that are heeded
 abbrev untimed_by : ℕ → Request → Bool
@@ -76,7 +76,7 @@ record Computed : Type 0 where
   quiet : NoEpochChange mended_head one_order
   two : Kept 2
   three : Kept 3
-  others : (n : ℕ) → T (not (eqb 2 n)) → T (not (eqb 3 n)) → T (all (untimed_by n) one_order)
+  others : (n : ℕ) → T (not (eqb 2 n)) → T (not (eqb 3 n)) → T (list_all (untimed_by n) one_order)
 
 computed : Computed
 unfolding mended_head
@@ -120,12 +120,12 @@ kept n = go (split (eqb 2 n)) (split (eqb 3 n))
 
 -- ---- on bytes
 
-none-refused : (qs : List Request) (s : List ℕ) → T (all (λ (p : Step). eqb p.number 0) (steps s qs)) → NoneRefused s qs
+none-refused : (qs : List Request) (s : List ℕ) → T (list_all (λ (p : Step). eqb p.number 0) (steps s qs)) → NoneRefused s qs
 unfolding steps
 none-refused [] s t = tt
 none-refused (q ∷ qs) s t =
     let first = eqb (request_number s q) 0 in
-    let rest = all (λ (p : Step). eqb p.number 0) (steps (bytes_after s q) qs) in
+    let rest = list_all (λ (p : Step). eqb p.number 0) (steps (bytes_after s q) qs) in
     (eqb→eq (request_number s q) 0 (both_l first rest t), none-refused qs (bytes_after s q) (both_r first rest t))
 
 pub order_example : OrderExample

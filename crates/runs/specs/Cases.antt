@@ -2,14 +2,14 @@
 -- when it holds of the exported calls' numbers and bytes, and the rows. Assumes nothing: these are definitions.
 use Rattle.std.specs.Prelude.{ℕ, ◌+◌, ◌*◌, ◌-◌, ◌^◌, ◌≤◌, ◌≡◌, List, [], ◌∷◌, ◌++◌, reverse, T, eqb, length, get_or, replicate}
 use Rattle.numbers.specs.Numbers.{tab, bytes_of}
-use Rattle.predicates.specs.Lists.{all, In}
+use Rattle.std.specs.List.{list_all}
+use Rattle.predicates.specs.Lists.{In}
 use Rattle.predicates.specs.Predicates.{formed}
 use Rattle.message.specs.Write.{message_words}
 use Rattle.epochs.specs.Epochs.{epochs_most, name}
 use Rattle.radio.specs.Names.{wanted, names_of}
 use Rattle.clocks.specs.declared.Triple.{Triple}
-use Rattle.clocks.specs.declared.Readings.TheVariants.{With}
-use Rattle.clocks.specs.Clocks.{Saved, nothing, three}
+use Rattle.clocks.specs.Clocks.{Saved, nothing, three, with_drift}
 use Rattle.clocks.specs.Worked.{triple}
 use Rattle.ends.specs.Ends.{million}
 use Rattle.state.specs.Model.{Datum, datum, State}
@@ -79,7 +79,7 @@ run_of c buffer begins = record { buffer = buffer; setup = c.setup; taken = begi
 -- the setting up and every request are taken, since a row about a state that nobody reaches would say nothing; and then what must come comes
 pub record CaseComes (c : Case) (buffer : List ℕ) : Type 0 where
   pub begins : set_up_number buffer c.setup ≡ 0
-  pub taken : T (all (λ (p : Step). eqb p.number 0) (steps_of (run_of c buffer begins)))
+  pub taken : T (list_all (λ (p : Step). eqb p.number 0) (steps_of (run_of c buffer begins)))
   pub comes : Comes (state_after (run_of c buffer begins)) c.question
 
 -- ---- the table
@@ -128,11 +128,12 @@ mended left right = hear_named (name 1 1 ∷ []) 1 left right []
 
 -- the same with the sender's clock reading, the own one, a half width and the sender's drift
 abbrev pub tick : ℕ → ℕ → ℕ → List ℕ → Triple → ℕ → Request
-tick sender left right terms t drift = receipt (receipt_with 0 0 (With t drift) (bytes_of (said sender left right terms)))
+tick sender left right terms t drift = receipt (receipt_with 0 0 (with_drift t drift) (bytes_of (said sender left right terms)))
 
 -- and under another name
 abbrev pub tick_named : List ℕ → ℕ → ℕ → ℕ → List ℕ → Triple → ℕ → Request
-tick_named names sender left right terms t drift = receipt (receipt_with 0 0 (With t drift) (bytes_of (message_words sender names left right terms)))
+tick_named names sender left right terms t drift =
+    receipt (receipt_with 0 0 (with_drift t drift) (bytes_of (message_words sender names left right terms)))
 
 -- [0,10] from sender 1 with these readings and no drift
 abbrev pub one : ℕ → ℕ → ℕ → Request
@@ -420,7 +421,7 @@ pub record Lent : Type 0 where
 -- the state is right, every request on its bytes is taken, and then what must come comes
 pub record LentComes (c : Lent) (rest : List ℕ) : Type 0 where
   pub right : T (state_ok c.state)
-  pub taken : T (all (λ (p : Step). eqb p.number 0) (steps (state_bytes c.state ++ rest) c.requests))
+  pub taken : T (list_all (λ (p : Step). eqb p.number 0) (steps (state_bytes c.state ++ rest) c.requests))
   pub comes : Comes (bytes_run (state_bytes c.state ++ rest) c.requests) c.question
 
 -- a monitor 5 without drift that holds these data

@@ -1,7 +1,7 @@
 -- Demand 1: "The stamping program may hand in whatever bytes and numbers it has, a damaged state too; each call finishes, and bad input gets the
 -- refusal listed for it, with every lent buffer unchanged." One statement over every exported call and every input. That a call finishes is part of
 -- what its proof shows. A further call is a further line in each of the definitions over `Exported`. Assumes nothing: these are definitions.
-use Rattle.std.specs.Prelude.{ℕ, ◌+◌, ◌*◌, ◌%◌, ◌≤◌, ◌≡◌, Bool, false, not, cond, ◌||◌, List}
+use Rattle.std.specs.Prelude.{ℕ, ◌+◌, ◌*◌, ◌%◌, ◌≤◌, ◌≡◌, Bool, false, not, cond, ◌||◌, List, None}
 use Rattle.std.specs.Prelude.{[], ◌∷◌, ◌++◌, map, length, get_or, take, drop, T, ltb, leb, eqb}
 use Rattle.numbers.specs.Numbers.{Bytes, num, words_of}
 use Rattle.predicates.specs.Predicates.{is_true, is_normal}
@@ -11,8 +11,7 @@ use Rattle.message.specs.Read.{term_count, head_word_fits, is_ends, opens, start
 use Rattle.radio.specs.Names.{wanted, names_of}
 use Rattle.radio.specs.Read.{words_least, words_most, epoch_count, opening, epoch_words_fit}
 use Rattle.clocks.specs.declared.Triple.{Triple}
-use Rattle.clocks.specs.declared.Readings.TheVariants.{Without, With}
-use Rattle.clocks.specs.Clocks.{fails}
+use Rattle.clocks.specs.Clocks.{fails, with_drift}
 use Rattle.state.specs.Model.{State}
 use Rattle.state.specs.Layout.{state_size, own_at, held_at, entries_at, clocks_at, epochs_at, head_of, state_of, datum_at}
 use Rattle.state.specs.Form.{in_form}
@@ -47,7 +46,7 @@ abbrev pub returned : Exported → ℕ
 returned (monitor_set_up s u) = set_up_number s u
 returned (monitor_age s reading) = age_number s reading
 returned (monitor_receive s least greatest m) = receive_number s (receipt_of least greatest m)
-returned (monitor_receive_with_readings s least greatest t drift m) = receive_number s (receipt_with least greatest (With t drift) m)
+returned (monitor_receive_with_readings s least greatest t drift m) = receive_number s (receipt_with least greatest (with_drift t drift) m)
 returned (monitor_ask s limit out) = ask_number s limit out
 returned (monitor_fewest s out) = fewest_number s out
 returned (monitor_write s position out) = write_number s position out
@@ -71,7 +70,7 @@ abbrev pub left_bytes : Exported → List ℕ
 left_bytes (monitor_set_up s u) = set_up_state s u
 left_bytes (monitor_age s reading) = age_state s reading
 left_bytes (monitor_receive s least greatest m) = receive_state s (receipt_of least greatest m)
-left_bytes (monitor_receive_with_readings s least greatest t drift m) = receive_state s (receipt_with least greatest (With t drift) m)
+left_bytes (monitor_receive_with_readings s least greatest t drift m) = receive_state s (receipt_with least greatest (with_drift t drift) m)
 left_bytes (monitor_ask s limit out) = ask_output s limit out
 left_bytes (monitor_fewest s out) = fewest_output s out
 left_bytes (monitor_write s position out) = write_output s position out
@@ -223,7 +222,7 @@ tests (monitor_receive_with_readings s least greatest t drift m) =
     state_tests s
     ++ (test (delays_fail least greatest) 21
     ∷ test (fails t drift) 40
-    ∷ receipt_tests s (receipt_with least greatest (With t drift) m))
+    ∷ receipt_tests s (receipt_with least greatest (with_drift t drift) m))
 tests (monitor_ask s limit out) = state_tests s ++ (test (limit_fails limit) 22 ∷ output_tests (layout_size (monitor_ask s limit out)) out)
 tests (monitor_fewest s out) = state_tests s ++ output_tests (layout_size (monitor_fewest s out)) out
 tests (monitor_write s position out) =
@@ -261,7 +260,7 @@ EqualReading =
 -- stays, and only 21, 18 and 30 can refuse it, since "30 comes also for a predicate that is true"
 unfoldable pub TrueReceipt : Type 0
 TrueReceipt =
-    (s : List ℕ) → Bytes s → state_size ≤ length s → T (in_form s) → (g : Receipt) (d : Delivery) → g.readings ≡ Without → delivered g ≡ brings d
+    (s : List ℕ) → Bytes s → state_size ≤ length s → T (in_form s) → (g : Receipt) (d : Delivery) → g.readings ≡ None → delivered g ≡ brings d
     → NotAbove (spoken_by (head_of s) d) (head_of s).epochs → T (is_true (arrived (head_of s) d).terms)
     → (receive_state s g ≡ s)
     × (T (not (delays_fail g.least g.greatest)) → T (not (from_self (state_of s) d)) → T (not (grows_past (state_of s) d)) → receive_number s g ≡ 0)
@@ -275,7 +274,7 @@ EntriesStay = (s : List ℕ) → Bytes s → (reading : ℕ) → drop entries_at
 -- a receipt without readings that brings no epoch above the known one leaves the names' clocks and the epochs
 unfoldable pub ClocksStay : Type 0
 ClocksStay =
-    (s : List ℕ) → Bytes s → (g : Receipt) → g.readings ≡ Without
+    (s : List ℕ) → Bytes s → (g : Receipt) → g.readings ≡ None
     → ((d : Delivery) → delivered g ≡ brings d → NotAbove (spoken_by (head_of s) d) (head_of s).epochs)
     → drop clocks_at (receive_state s g) ≡ drop clocks_at s
 

@@ -3,7 +3,7 @@
 -- statement over the numbers and outputs of writing, rewriting and reading. Assumes nothing: these are definitions.
 use Rattle.std.specs.Prelude.{ℕ, ◌≤◌, ◌≡◌, List, [], ◌∷◌, T, eqb, length, take}
 use Rattle.numbers.specs.Numbers.{Bytes, words_of}
-use Rattle.predicates.specs.Lists.{keep}
+use Rattle.std.specs.List.{filter}
 use Rattle.ends.specs.Ends.{down, up}
 use Rattle.message.specs.Words.{kind_of, masks}
 use Rattle.message.specs.Read.{is_ends}
@@ -20,11 +20,11 @@ use Rattle.runs.specs.Demand1.{layout_size, monitor_write, message_read, message
 
 -- its terms: "the terms, kind 6"
 unfoldable pub terms_in : List ℕ → List ℕ
-terms_in m = masks (keep (λ w. eqb (kind_of w) 6) (words_of m))
+terms_in m = masks (filter (λ w. eqb (kind_of w) 6) (words_of m))
 
 -- its epoch words: "one word of kind 0 for the sender and for each identifier in its terms"
 unfoldable pub names_in : List ℕ → List ℕ
-names_in m = keep (λ w. eqb (kind_of w) 0) (words_of m)
+names_in m = filter (λ w. eqb (kind_of w) 0) (words_of m)
 
 -- "ends form"
 abbrev pub InEndsForm : List ℕ → Type 0

@@ -2,11 +2,10 @@
 -- either order, and the receipts of one sender that carry clock readings kept in their order, any two orders of the same receipts must give the same
 -- answer for each limit and the same fewest failures. Stored bytes may differ." Each of these premises is a definition, and so is what is the same.
 -- Assumes nothing: these are definitions.
-use Rattle.std.specs.Prelude.{ℕ, ◌≤◌, ◌≡◌, Bool, true, false, ◌&&◌, eqb, length}
+use Rattle.std.specs.Prelude.{ℕ, ◌≤◌, ◌≡◌, Bool, true, false, ◌&&◌, eqb, length, Option, None, Some}
 use mathlib.Core.List.{List, [], ◌∷◌, ◌++◌, Permᴰ}
-use Rattle.predicates.specs.Lists.{keep}
+use Rattle.std.specs.List.{filter}
 use Rattle.clocks.specs.declared.Readings.{Readings}
-use Rattle.clocks.specs.declared.Readings.TheVariants.{Without, With}
 use Rattle.state.specs.Model.{Head}
 use Rattle.engine.specs.Hearing.{heeded}
 use Rattle.monitor.specs.Receive.{Delivered, refused, brings, delivered}
@@ -38,9 +37,9 @@ NoneRefused s [] = Unit {0}
 NoneRefused s (q ∷ qs) = (request_number s q ≡ 0) × NoneRefused (bytes_after s q) qs
 
 -- there are readings
-abbrev pub is_given : Readings → Bool
-is_given Without = false
-is_given (With t drift) = true
+abbrev pub is_given : Option Readings → Bool
+is_given None = false
+is_given (Some x) = true
 
 -- what is delivered comes from the sender n with clock readings, and they are heeded where the head is h: "an older sender's readings being neither
 -- tested nor saved" (W-204), only those of a current name are
@@ -55,7 +54,7 @@ carries h n (receipt g) = timed h n (delivered g)
 
 -- "the receipts of one sender that carry clock readings kept in their order": of each sender they are one list in either
 abbrev pub ReadingsKept : Head → List Request → List Request → Type 0
-ReadingsKept h xs ys = (n : ℕ) → keep (carries h n) xs ≡ keep (carries h n) ys
+ReadingsKept h xs ys = (n : ℕ) → filter (carries h n) xs ≡ filter (carries h n) ys
 
 -- ---- what is the same
 

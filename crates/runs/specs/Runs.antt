@@ -2,8 +2,7 @@
 -- a setting up that was taken, whatever messages, delays and readings come, refused steps included; each gets the state the last one left, and
 -- nobody else writes it meanwhile." Each call is the one whose number and bytes the exported functions promise.
 -- Assumes nothing: these are definitions.
-use Rattle.std.specs.Prelude.{ℕ, zero, suc, ◌≤◌, ◌≡◌, ◌⊎◌, ◌↔◌, List, [], ◌∷◌, length, ℤ, pos, negsuc}
-use Rattle.clocks.specs.declared.Readings.TheVariants.{Without}
+use Rattle.std.specs.Prelude.{ℕ, zero, suc, ◌≤◌, ◌≡◌, ◌⊎◌, ◌↔◌, List, [], ◌∷◌, length, ℤ, pos, negsuc, None}
 use Rattle.ends.specs.Ends.{down, up}
 use Rattle.state.specs.Layout.{head_of, store_of}
 use Rattle.epochs.specs.Epochs.{NotAbove}
@@ -12,10 +11,9 @@ use Rattle.engine.specs.Hearing.{spoken_by}
 use Rattle.engine.specs.Calls.{Setup}
 use Rattle.asking.specs.declared.Answer.{Answer}
 use Rattle.asking.specs.declared.Answer.TheVariants.{Contradicted, Open, Between}
-use Rattle.asking.specs.declared.Fewest.{Fewest}
 use Rattle.asking.specs.Asking.{answer_numbers}
 use Rattle.asking.specs.Instants.{Allowed, Fine}
-use Rattle.asking.specs.Fewest.{FewestOf, fewest_numbers}
+use Rattle.asking.specs.Fewest.{Fewest, FewestOf, fewest_numbers}
 use Rattle.monitor.specs.Calls.{set_up_number, set_up_state, age_number, age_state}
 use Rattle.monitor.specs.Receive.{Delivered, refused, brings, delivered, receive_number, receive_state}
 use Rattle.monitor.specs.Ask.{limit_most, answer_size, fewest_size, Shows, ask_number, ask_output, fewest_number, fewest_output}
@@ -115,7 +113,7 @@ Quiet h (brings d) = NotAbove (spoken_by h d) h.epochs
 -- known"
 abbrev pub Extra : Book → Request → Type 0
 Extra b (ageing reading) = ⊥
-Extra b (receipt g) = (g.readings ≡ Without) × Quiet b.head (delivered g)
+Extra b (receipt g) = (g.readings ≡ None) × Quiet b.head (delivered g)
 
 -- "Q's taken steps are P's taken steps in order with further receipts before, between or after them"; the book is Q's so far
 abbrev pub Further : Book → List Request → List Request → Type 0

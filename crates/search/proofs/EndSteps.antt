@@ -1,28 +1,42 @@
 -- One turn of each loop over the ends, and what the listed rows are to the search. No contract cites this file. Assumes nothing.
-use Prim.Native.Nat.{ℕ, ◌+◌, ◌*◌, ◌≤◌, ◌<◌}
+use Prim.Native.Nat.{ℕ, zero, suc, ◌+◌, ◌≤◌, ◌<◌}
 use mathlib.Core.Path.{◌≡◌, refl, sym, ap, subst, ◌∙◌}
 use mathlib.Core.Logic.{◌⊎◌, inl, inr, ⊎_elim}
 use mathlib.Core.Bool.{Bool, true, false, ◌&&◌, ◌||◌, not, cond}
-use mathlib.Core.List.{List, [], ◌∷◌, ◌++◌, map}
+use mathlib.Core.List.{List, [], ◌∷◌, map}
 use native.Mathlib.Nat.{le_refl, le_trans}
 use native.Mathlib.Decide.{dec_le, dec_lt}
 use native.Mathlib.Omega.{arith}
 use borrow.Author.Tests.{le-leb, lt-leb, le-ltb, lt-ltb}
 use lib.Dec.{T, eqb, leb, ltb, leb→le, ltb→lt, nltb→le}
-use lib.ListN.{length, get_or, take, drop, set, length-append, length-set, length-map, get_or-append}
+use lib.ListN.{length, get_or, take, drop, set, length-append, length-set, length-map}
 use lib.Count.{ones}
+use lib.Seq.{length-take-le, take-length, get_or-take}
 use Rattle.names.specs.Sets.{subset, set_union, no_set, minus}
 use Rattle.names.proofs.SetLaws.{ones-empty}
 use Rattle.numbers.specs.Numbers.{put, tab}
-use Rattle.numbers.proofs.NumberLaws.{put_then, put_front, tab_ext}
-use Rattle.predicates.specs.Lists.{keep}
+use Rattle.numbers.proofs.NumberLaws.{put_then, take_put, length-tab, get_or-tab, tab_ext}
+use Rattle.std.specs.List.{filter}
 use Rattle.predicates.specs.Predicates.{holds}
 use Rattle.predicates.proofs.ListLaws.{both, both_l, both_r, true_T, split, keep_out}
-use Rattle.search.specs.code.Search.{Rows, row_width, Best, Trying, RowsFit, row_terms, pred_at, preds}
-use Rattle.search.specs.code.LeftEnds.{outside, no_end, Next, Last, Latest, Ready, needs}
+use Rattle.search.specs.code.Search.{Rows, Best, Trying, RowsFit, row_terms, pred_at, preds}
+use Rattle.search.specs.declared.rows.Span.{Span}
+use Rattle.search.specs.code.LeftEnds.{outside, lefts_of, rights_of, no_end, Next, Last, Latest, Listing, Ready, needs}
 use Rattle.search.proofs.SearchLaws.{best-done}
-use Rattle.search.proofs.SearchSteps.{rest_next, pred_part, trying_on}
+use Rattle.search.proofs.SearchSteps.{rest_next, trying_on}
 use Rattle.predicates.proofs.IndexLaws.{at_in, get_or_map, kept_pass, kept-take, in_take}
+
+-- ---- the ends of claims
+
+pub left_at : (ends : List Span) (k : ℕ) → get_or (lefts_of ends) k 0 ≡ (get_or ends k (record { left = 0; right = 0 })).left
+left_at [] k = refl
+left_at (s ∷ ends) zero = refl
+left_at (s ∷ ends) (suc k) = left_at ends k
+
+pub right_at : (ends : List Span) (k : ℕ) → get_or (rights_of ends) k 0 ≡ (get_or ends k (record { left = 0; right = 0 })).right
+right_at [] k = refl
+right_at (s ∷ ends) zero = refl
+right_at (s ∷ ends) (suc k) = right_at ends k
 
 -- ---- the next end
 
@@ -66,6 +80,14 @@ module _ (ends : List ℕ) (from i floor r : ℕ) (h : from ≤ i) (n : Next end
           let q : k ≡ i = omega arith in
           subst (λ (x : ℕ). floor ≤ get_or ends x 0 → r ≤ get_or ends x 0) (sym q) (λ d. at d (split (ltb (get_or ends i 0) r))) c
 
+  -- the same of an end that stands there
+  module _ (end : ℕ) (at : end ≡ get_or ends i 0) where
+    pub next-took : leb floor end && ltb end r ≡ true → Next ends from (i + 1) floor end
+    next-took e = rw at (next_take (rw at at e))
+
+    pub next-passed : leb floor end && ltb end r ≡ false → Next ends from (i + 1) floor r
+    next-passed e = next_pass (rw at at e)
+
 -- ---- the last end
 
 pub last_none : (ends : List ℕ) (from floor roof : ℕ) → Last ends from from floor roof floor
@@ -105,6 +127,14 @@ module _ (ends : List ℕ) (from i floor roof r : ℕ) (h : from ≤ i) (l : Las
       at c (inl t) = absurd (subst (λ (b : Bool). T b) e (both (ltb r end) (leb end roof) t (true_T _ (le-leb end roof c))))
       at c (inr t) = nltb→le r end t
 
+  -- the same of an end that stands there
+  module _ (e : ℕ) (at : e ≡ end) where
+    pub last-took : ltb r e && leb e roof ≡ true → Last ends from (i + 1) floor roof e
+    last-took t = rw at (last-take (rw at at t))
+
+    pub last-passed : ltb r e && leb e roof ≡ false → Last ends from (i + 1) floor roof r
+    last-passed t = last_pass (rw at at t)
+
 -- ---- the latest left end that a set leaves false
 
 pub latest-none : (n : ℕ) (lefts : List ℕ) (table : Rows) (set : ℕ) → Latest n n lefts table set 0
@@ -133,6 +163,14 @@ module _ (n i : ℕ) (lefts : List ℕ) (table : Rows) (set r : ℕ) (h : n ≤ 
         most = later r (le_refl r) q;
       }
 
+  -- the same of an end that stands there
+  module _ (e : ℕ) (at : e ≡ get_or lefts i 0) where
+    pub latest-took : r < e → T (not (holds set (row_terms table i))) → Latest n (i + 1) lefts table set e
+    latest-took up t = rw at (latest-take (rw at at up) t)
+
+    pub latest-passed : (e ≤ r) ⊎ T (holds set (row_terms table i)) → Latest n (i + 1) lefts table set r
+    latest-passed q = latest_pass (rw at at q)
+
 -- ---- the rows whose interval lacks an instant
 
 pub outside-test : (lefts rights : List ℕ) (x k : ℕ) → ltb x (get_or lefts k 0) || ltb (get_or rights k 0) x ≡ outside lefts rights x k
@@ -146,12 +184,10 @@ outside-test lefts rights x k = go (dec_le (get_or lefts k 0) x) (dec_le x (get_
         rw (le-ltb x (get_or lefts k 0) a, lt-ltb (get_or rights k 0) x (omega arith), le-leb (get_or lefts k 0) x a, lt-leb x (get_or rights k 0) (omega arith))
     go (no a) d = rw (lt-ltb x (get_or lefts k 0) (omega arith), lt-leb (get_or lefts k 0) x (omega arith))
 
--- the first i of the order looked at, those that pass stand at the front
-pub record Listing (f : ℕ → Bool) (order : List ℕ) (i : ℕ) (l₀ l : List ℕ) (m : ℕ) : Type 0 where
-  pub counted : m ≡ length (keep f (take i order))
-  pub few : m ≤ i
-  pub same : length l ≡ length l₀
-  pub stored : l ≡ put 0 (keep f (take i order)) l₀
+pub outside-spans : (ends : List Span) (x k : ℕ)
+    → ltb x (get_or ends k (record { left = 0; right = 0 })).left || ltb (get_or ends k (record { left = 0; right = 0 })).right x
+    ≡ outside (lefts_of ends) (rights_of ends) x k
+outside-spans ends x k = rw (sym (left_at ends k), sym (right_at ends k)) (outside-test (lefts_of ends) (rights_of ends) x k)
 
 module _ (f : ℕ → Bool) (order : List ℕ) where
   pub listing_none : (l : List ℕ) → Listing f order 0 l l 0
@@ -164,11 +200,11 @@ module _ (f : ℕ → Bool) (order : List ℕ) where
     listing_take e =
         let more = kept-take f order i h e in
         record {
-          counted = rw more (omega (arith, w.counted, length-append (keep f (take i order)) (get_or order i 0 ∷ [])));
+          counted = rw more (omega (arith, w.counted, length-append (filter f (take i order)) (get_or order i 0 ∷ [])));
           few = omega (arith, w.few);
           same = length-set l m (get_or order i 0) ∙ w.same;
           stored = rw more
-              (put_then m 0 m (keep f (take i order)) (get_or order i 0 ∷ []) l₀ l (set l m (get_or order i 0)) (sym w.counted) (omega arith) w.stored refl);
+              (put_then m 0 m (filter f (take i order)) (get_or order i 0 ∷ []) l₀ l (set l m (get_or order i 0)) (sym w.counted) (omega arith) w.stored refl);
         }
 
     pub listing_pass : f (get_or order i 0) ≡ false → Listing f order (i + 1) l₀ l m
@@ -178,74 +214,94 @@ module _ (f : ℕ → Bool) (order : List ℕ) where
 
 -- ---- the listed rows
 
+-- the first of an order are listed
+pub preds-front : (n : ℕ) (order : List ℕ) (table : Rows) → n ≤ length order → preds (length (take n order)) (take n order) table ≡ preds n order table
+unfolding preds pred_at
+preds-front n order table h =
+    rw (length-take-le n order h)
+    (sym (tab_ext [] n (λ j. row_terms table (get_or order j 0)) (tab n (λ j. row_terms table (get_or (take n order) j 0)))
+    (length-tab n (λ j. row_terms table (get_or (take n order) j 0)))
+    (λ j k. ap (row_terms table) (sym (get_or-take n order j 0 k)) ∙ sym (get_or-tab n j (λ i. row_terms table (get_or (take n order) i 0)) [] k))))
+
 -- what passes a test
 module _ (n rows : ℕ) (lefts rights : List ℕ) (table : Rows) (order l₀ l : List ℕ) (ready : Ready n rows lefts rights table order) (long : rows ≤ length l₀)
-    (f : ℕ → Bool) (m : ℕ) (count : m ≡ length (keep f (take rows order))) (few : m ≤ rows) (e : l ≡ put 0 (keep f (take rows order)) l₀) where
+    (f : ℕ → Bool) (m : ℕ) (w : Listing f (take rows order) rows l₀ l m) where
   abbrev kept : List ℕ
-  kept = keep f (take rows order)
+  kept = filter f (take rows order)
 
-  front : l ≡ kept ++ drop m l₀
-  front = e ∙ put_front m kept l₀ (sym count) (le_trans few long)
+  whole : take rows (take rows order) ≡ take rows order
+  whole = ap (λ (k : ℕ). take k (take rows order)) (sym (length-take-le rows order ready.ordered)) ∙ take-length (take rows order)
 
-  kept_at : (j : ℕ) → j < m → get_or l j 0 ≡ get_or kept j 0
-  kept_at j h = ap (λ (z : List ℕ). get_or z j 0) front ∙ get_or-append kept (drop m l₀) 0 j (omega (arith, count))
+  count : m ≡ length kept
+  count = rw whole at w.counted
+
+  -- the first of the listed rows
+  pub kept-front : take m l ≡ kept
+  kept-front =
+      ap (take m) (rw whole at w.stored) ∙ take_put m kept l₀ (sym count) (le_trans w.few long)
 
   -- each is a row
-  kept_row : (j : ℕ) → j < m → get_or l j 0 < rows
+  pub kept_row : (j : ℕ) → j < m → get_or (take m l) j 0 < rows
   kept_row j h =
       let there = keep_out f (take rows order) (get_or kept j 0) (at_in kept 0 j (omega (arith, count))) in
       let w = in_take rows order (get_or kept j 0) there.0 in
-      omega (arith, kept_at j h, w.2, ready.placed w.0 w.1)
+      omega (arith, ap (λ (z : List ℕ). get_or z j 0) kept-front, w.2, ready.placed w.0 w.1)
 
-  pub kept-rows : RowsFit m l table
+  pub kept-long : length (take m l) ≡ m
+  kept-long = ap length kept-front ∙ sym count
+
+  pub kept-rows : RowsFit (length (take m l)) (take m l) table
   kept-rows =
       record {
-        listed-long = omega (arith, ap length front, length-append kept (drop m l₀), count);
-        parted = λ j h. ready.parted (get_or l j 0) (kept_row j h);
+        listed-long = le_refl (length (take m l));
+        parted = λ j h. ready.parted (get_or (take m l) j 0) (kept_row j (omega (arith, kept-long)));
       }
 
-  pub kept-preds : preds m l table ≡ map (row_terms table) (keep f (take rows order))
+  pub kept-preds : preds (length (take m l)) (take m l) table ≡ map (row_terms table) (filter f (take rows order))
   unfolding preds pred_at
   kept-preds =
-      tab_ext [] m (λ j. row_terms table (get_or l j 0)) (map (row_terms table) kept) (length-map kept (row_terms table) ∙ sym count)
-      (λ j h. ap (row_terms table) (kept_at j h) ∙ sym (get_or_map (row_terms table) kept 0 [] j (omega (arith, count))))
+      ap (λ (z : List ℕ). preds (length z) z table) kept-front
+      ∙ tab_ext [] (length kept) (λ j. row_terms table (get_or kept j 0)) (map (row_terms table) kept) (length-map kept (row_terms table))
+      (λ j h. sym (get_or_map (row_terms table) kept 0 [] j h))
 
 -- what lacks an instant
 module _ (n rows : ℕ) (lefts rights : List ℕ) (table : Rows) (order l₀ l : List ℕ) (ready : Ready n rows lefts rights table order) (long : rows ≤ length l₀)
-    (x m : ℕ) (count : m ≡ length (keep (outside lefts rights x) (take rows order))) (few : m ≤ rows)
-    (e : l ≡ put 0 (keep (outside lefts rights x) (take rows order)) l₀) where
-  pub listed-row : (j : ℕ) → j < m → get_or l j 0 < rows
-  listed-row = kept_row n rows lefts rights table order l₀ l ready long (outside lefts rights x) m count few e
+    (x m : ℕ) (w : Listing (outside lefts rights x) (take rows order) rows l₀ l m) where
+  pub listed-row : (j : ℕ) → j < m → get_or (take m l) j 0 < rows
+  listed-row = kept_row n rows lefts rights table order l₀ l ready long (outside lefts rights x) m w
 
-  pub listed-rows : RowsFit m l table
-  listed-rows = kept-rows n rows lefts rights table order l₀ l ready long (outside lefts rights x) m count few e
+  pub listed-rows : RowsFit (length (take m l)) (take m l) table
+  listed-rows = kept-rows n rows lefts rights table order l₀ l ready long (outside lefts rights x) m w
 
-  pub listed-needs : preds m l table ≡ needs rows lefts rights table order x
+  pub listed-long : length (take m l) ≡ m
+  listed-long = kept-long n rows lefts rights table order l₀ l ready long (outside lefts rights x) m w
+
+  pub listed-needs : preds (length (take m l)) (take m l) table ≡ needs rows lefts rights table order x
   unfolding needs
-  listed-needs = kept-preds n rows lefts rights table order l₀ l ready long (outside lefts rights x) m count few e
+  listed-needs = kept-preds n rows lefts rights table order l₀ l ready long (outside lefts rights x) m w
 
 -- ---- the terms of the first predicate, one after the other
 
 module _ (limit free : ℕ) (whole : List (List ℕ)) where
   -- the first of the listed rows has them
-  pub trying_begin : (m : ℕ) (l : List ℕ) (table : Rows) (at end : ℕ) → 0 < m → preds m l table ≡ whole → at ≡ get_or l 0 0 * row_width
-      → end ≡ get_or l 0 0 * row_width + get_or table.counts (get_or l 0 0) 0
-      → Trying no_set limit 0 free whole no_set table.masks (drop 1 (preds m l table)) end at free no_set
-  trying_begin m l table at end h e p q r b =
+  pub trying_begin : (m : ℕ) (l : List ℕ) (table : Rows) (p : List ℕ) → 0 < m → preds m l table ≡ whole → p ≡ row_terms table (get_or l 0 0)
+      → Trying no_set limit 0 free whole no_set (drop 0 p) (drop 1 (preds m l table)) free no_set
+  unfolding pred_at
+  trying_begin m l table p h e q r b =
       subst (λ (ps : List (List ℕ)). Best no_set limit 0 free ps no_set r) (sym (rest_next m l table 0 h) ∙ e)
-      (subst (λ (ts : List ℕ). Best no_set limit 0 free (ts ∷ drop 1 (preds m l table)) no_set r) (pred_part l table 0 at end p q) b)
+      (subst (λ (ts : List ℕ). Best no_set limit 0 free (ts ∷ drop 1 (preds m l table)) no_set r) q b)
 
   -- no set came of a term: the next one begins as it did
-  pub trying_next : (masks : List ℕ) (ps : List (List ℕ)) (end at free' : ℕ) → Trying no_set limit 0 free whole no_set masks ps end at free' no_set
-      → at < end → end ≤ length masks → (set : ℕ)
-      → subset (get_or masks at 0) (set_union 0 free') && (ltb (set_union 0 (get_or masks at 0)) no_set && leb (ones (set_union 0 (get_or masks at 0))) limit) ≡ true
-      → Best no_set limit (set_union 0 (get_or masks at 0)) free' ps no_set set → (rest : ℕ) → no_set ≤ set
-      → rest ≡ cond (eqb (ones (set_union 0 (get_or masks at 0))) (ones 0 + 1)) (minus free' (get_or masks at 0)) free'
-      → Trying no_set limit 0 free whole no_set masks ps end (at + 1) rest no_set
-  trying_next masks ps end at free' w h k set e b rest l q =
+  pub trying_next : (p : List ℕ) (ps : List (List ℕ)) (at free' : ℕ) → Trying no_set limit 0 free whole no_set (drop at p) ps free' no_set
+      → at < length p → (set : ℕ)
+      → subset (get_or p at 0) (set_union 0 free') && (ltb (set_union 0 (get_or p at 0)) no_set && leb (ones (set_union 0 (get_or p at 0))) limit) ≡ true
+      → Best no_set limit (set_union 0 (get_or p at 0)) free' ps no_set set → (rest : ℕ) → no_set ≤ set
+      → rest ≡ cond (eqb (ones (set_union 0 (get_or p at 0))) (ones 0 + 1)) (minus free' (get_or p at 0)) free'
+      → Trying no_set limit 0 free whole no_set (drop (at + 1) p) ps rest no_set
+  trying_next p ps at free' w h set e b rest l q =
       let same : set ≡ no_set = omega (arith, b.low) in
-      subst (λ (x : ℕ). Trying no_set limit 0 free whole no_set masks ps end (at + 1) rest x) same
-      (trying_on no_set limit 0 free whole no_set masks ps end at free' no_set w h k set e b rest l q)
+      subst (λ (x : ℕ). Trying no_set limit 0 free whole no_set (drop (at + 1) p) ps rest x) same
+      (trying_on no_set limit 0 free whole no_set p ps at free' no_set w h set e b rest l q)
 
 -- no row lacks the instant: no name need have failed
 pub none_needed : (limit free : ℕ) (whole : List (List ℕ)) (m : ℕ) (l : List ℕ) (table : Rows) → m ≡ 0 → preds m l table ≡ whole

@@ -15,7 +15,8 @@ use Rattle.names.specs.Sets.{subset, set_union, minus}
 use Rattle.names.specs.code.Parts.{shared, least_name}
 use Rattle.names.proofs.SetLaws.{subset_refl, subset_trans, subset_antisym, union_left, union_right, union-least, ones_mono, ones-union}
 use Rattle.names.proofs.PartLaws.{without-one, ones_added, shared-left, shared-right, shared-greatest, minus-subset, minus_mono, minus_add, minus-apart, union_add, subset-same, ones-more, single_part, least_name-least, least_name_in, least_name-one}
-use Rattle.predicates.specs.Lists.{all, In}
+use Rattle.std.specs.List.{list_all}
+use Rattle.predicates.specs.Lists.{In}
 use Rattle.predicates.specs.Predicates.{holds}
 use Rattle.predicates.proofs.ListLaws.{both, both_l, both_r, cond_ind}
 use Rattle.predicates.proofs.PredicateLaws.{holds_in, holds_out, holds_mono}
@@ -113,15 +114,15 @@ module _ (limit s : ℕ) (last : ones s + 1 ≡ limit) where
       narrowed-above (cond (holds s p) m (shared m (alone limit s p))) ps
       (cond_ind (λ x. T (subset s x)) (holds s p) m (shared m (alone limit s p)) (λ _. h) (λ _. shared-greatest s m (alone limit s p) h (alone-above p)))
 
-  narrowed_in : (m u free : ℕ) (qs ps : List (List ℕ)) → T (subset u m) → Fits limit s free qs u → T (all (holds u) ps)
+  narrowed_in : (m u free : ℕ) (qs ps : List (List ℕ)) → T (subset u m) → Fits limit s free qs u → T (list_all (holds u) ps)
       → T (subset u (narrowed limit s m ps))
   unfolding narrowed
   narrowed_in m u free qs [] h f a = h
   narrowed_in m u free qs (p ∷ ps) h f a =
       narrowed_in (cond (holds s p) m (shared m (alone limit s p))) u free qs ps
       (cond_ind (λ x. T (subset u x)) (holds s p) m (shared m (alone limit s p)) (λ _. h)
-      (λ n. shared-greatest u m (alone limit s p) h (fits-alone free u p qs f (both_l (holds u p) (all (holds u) ps) a) n)))
-      f (both_r (holds u p) (all (holds u) ps) a)
+      (λ n. shared-greatest u m (alone limit s p) h (fits-alone free u p qs f (both_l (holds u p) (list_all (holds u) ps) a) n)))
+      f (both_r (holds u p) (list_all (holds u) ps) a)
 
   narrowed_part : (m : ℕ) (ps : List (List ℕ)) → T (subset (narrowed limit s m ps) m)
   unfolding narrowed
@@ -132,11 +133,11 @@ module _ (limit s : ℕ) (last : ones s + 1 ≡ limit) where
       (cond_ind (λ x. T (subset x m)) (holds s p) m (shared m (alone limit s p)) (λ _. subset_refl m) (λ _. shared-left m (alone limit s p)))
 
   narrowed-holds : (m : ℕ) (ps : List (List ℕ)) (c : ℕ) → ones c ≡ 1 → (T (subset c s) → ⊥) → T (subset c (narrowed limit s m ps))
-      → T (all (holds (set_union s c)) ps)
+      → T (list_all (holds (set_union s c)) ps)
   unfolding narrowed
   narrowed-holds m [] c e f h = tt
   narrowed-holds m (p ∷ ps) c e f h =
-      both (holds (set_union s c) p) (all (holds (set_union s c)) ps)
+      both (holds (set_union s c) p) (list_all (holds (set_union s c)) ps)
       (cond_ind (λ x. T (subset c x) → T (holds (set_union s c) p)) (holds s p) m (shared m (alone limit s p))
       (λ k _. holds_mono s (set_union s c) p (union_left s c) k)
       (λ _ i. alone-holds p c e f (subset_trans c (shared m (alone limit s p)) (alone limit s p) i (shared-right m (alone limit s p))))
@@ -148,14 +149,14 @@ module _ (limit s : ℕ) (last : ones s + 1 ≡ limit) where
 
   -- ---- one name is left of those to try
 
-  pub one-all : (c : ℕ) (ps : List (List ℕ)) → ones c ≡ 1 → T (all (holds (set_union s c)) ps) → narrowed limit s (set_union s c) ps ≡ set_union s c
+  pub one-all : (c : ℕ) (ps : List (List ℕ)) → ones c ≡ 1 → T (list_all (holds (set_union s c)) ps) → narrowed limit s (set_union s c) ps ≡ set_union s c
   one-all c ps one h =
       let m = set_union s c in
       let fits : Fits limit s c ps m =
       record { above = union_left s c; within = subset_refl m; few = omega (arith, ones-union s c, one); holding = h } in
       subset_antisym (narrowed limit s m ps) m (narrowed_part m ps) (narrowed_in m m c ps ps (subset_refl m) fits h)
 
-  pub one_none : (c : ℕ) (ps : List (List ℕ)) → ones c ≡ 1 → (T (subset c s) → ⊥) → (T (all (holds (set_union s c)) ps) → ⊥)
+  pub one_none : (c : ℕ) (ps : List (List ℕ)) → ones c ≡ 1 → (T (subset c s) → ⊥) → (T (list_all (holds (set_union s c)) ps) → ⊥)
       → narrowed limit s (set_union s c) ps ≡ s
   one_none c ps one apart f =
       let m = set_union s c in
@@ -174,7 +175,7 @@ module _ (limit s : ℕ) (last : ones s + 1 ≡ limit) where
     -- a set that fits is more than s
     fits_more : (u : ℕ) → Fits limit s free (p ∷ ps) u → s ≡ u → ⊥
     fits_more u f e =
-        T_not (holds s p) left_false (subst (λ (x : ℕ). T (holds x p)) (sym e) (both_l (holds u p) (all (holds u) ps) f.holding))
+        T_not (holds s p) left_false (subst (λ (x : ℕ). T (holds x p)) (sym e) (both_l (holds u p) (list_all (holds u) ps) f.holding))
 
     -- no name does alone
     pub last_none : names ≡ s → Best enough limit s free (p ∷ ps) best best

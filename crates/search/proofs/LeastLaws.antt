@@ -12,14 +12,15 @@ use lib.Dec.{T, ltb, ltb→lt}
 use lib.ListN.{get_or, take}
 use Rattle.numbers.specs.Numbers.{tab}
 use Rattle.numbers.proofs.NumberLaws.{length-tab, get_or-tab}
-use Rattle.predicates.specs.Lists.{keep, In}
+use Rattle.std.specs.List.{filter}
+use Rattle.predicates.specs.Lists.{In}
 use Rattle.predicates.specs.Predicates.{holds}
 use Rattle.predicates.proofs.ListLaws.{all_in, all_out, keep_in, keep_out, map_in, map_out}
 use Rattle.search.specs.code.Search.{Rows, Fits, Best, RowsFit, row_terms, pred_at, preds}
 use Rattle.names.specs.Sets.{no_set}
 use Rattle.search.specs.code.LeftEnds.{outside, no_end, Next, IsEnd, Unbroken, Ready, LeastSet, needs}
-use Rattle.predicates.proofs.IndexLaws.{in_take, take_in, at_in}
-use Rattle.search.proofs.StretchLaws.{out_empty, under_floor, stretch-is_end, stretches_room, stretch-needs, all_explains}
+use Rattle.predicates.proofs.IndexLaws.{in_take, at_in}
+use Rattle.search.proofs.StretchLaws.{in_order, out_empty, under_floor, stretch-is_end, stretches_room, stretch-needs, all_explains}
 
 -- r is the least of the sets W, or no set
 pub record LeastOf (W : ℕ → Type 0) (r : ℕ) : Type 0 where
@@ -102,7 +103,7 @@ module _ (n rows : ℕ) (lefts rights : List ℕ) (table : Rows) (order : List �
 
   -- no set makes the entries true, which every end needs
   module _ (ready : Ready n rows lefts rights table order) (r : ℕ)
-      (b : Best no_set limit 0 free (map (row_terms table) (keep (λ k. ltb k n) (take rows order))) no_set r) (h : no_set ≤ r) where
+      (b : Best no_set limit 0 free (map (row_terms table) (filter (λ k. ltb k n) (take rows order))) no_set r) (h : no_set ≤ r) where
     entries-first : (ps : List (List ℕ)) → ((k : ℕ) → k < rows → k < n → In (row_terms table k) ps) → (u : ℕ) → Fits limit 0 free ps u → no_set ≤ u
     entries-first ps there u f =
         ⊎_elim (λ l. le_trans h l) (λ l. absurd (omega arith))
@@ -110,11 +111,11 @@ module _ (n rows : ℕ) (lefts rights : List ℕ) (table : Rows) (order : List �
           above = f.above;
           within = f.within;
           few = f.few;
-          holding = all_in (holds u) (map (row_terms table) (keep (λ k. ltb k n) (take rows order))) (λ p m.
-              go p (map_out (row_terms table) (keep (λ k. ltb k n) (take rows order)) p m));
+          holding = all_in (holds u) (map (row_terms table) (filter (λ k. ltb k n) (take rows order))) (λ p m.
+              go p (map_out (row_terms table) (filter (λ k. ltb k n) (take rows order)) p m));
         }))
       where
-        go : (p : List ℕ) → (k : ℕ) × In k (keep (λ i. ltb i n) (take rows order)) × (p ≡ row_terms table k) → T (holds u p)
+        go : (p : List ℕ) → (k : ℕ) × In k (filter (λ i. ltb i n) (take rows order)) × (p ≡ row_terms table k) → T (holds u p)
         go p w =
             let v = keep_out (λ (i : ℕ). ltb i n) (take rows order) w.0 w.1 in
             let j = in_take rows order w.0 v.0 in
@@ -128,13 +129,13 @@ module _ (n rows : ℕ) (lefts rights : List ℕ) (table : Rows) (order : List �
           from = inl refl;
           low = omega arith;
           all = entries-first (preds rows order table) (λ k l e.
-              let j = ready.present k l in
+              let j = in_take rows order k (in_order n rows lefts rights table order ready k l) in
               let terms : ℕ → List ℕ = λ i. row_terms table (get_or order i 0) in
               let at : get_or (tab rows terms) j.0 [] ≡ row_terms table k = get_or-tab rows j.0 terms [] j.1 ∙ ap (row_terms table) (sym j.2) in
               rw at at (at_in (tab rows terms) [] j.0 (rw length-tab j.1)));
           each = λ i a c. entries-first (needs rows lefts rights table order (get_or lefts i 0)) (λ k l e.
-              map_in (row_terms table) (keep (outside lefts rights (get_or lefts i 0)) (take rows order)) k
-              (keep_in (outside lefts rights (get_or lefts i 0)) (take rows order) k (take_in rows order ready.ordered (ready.present k l))
+              map_in (row_terms table) (filter (outside lefts rights (get_or lefts i 0)) (take rows order)) k
+              (keep_in (outside lefts rights (get_or lefts i 0)) (take rows order) k (in_order n rows lefts rights table order ready k l)
               (out_empty n rows lefts rights table order ready (get_or lefts i 0) k e)));
         }
 

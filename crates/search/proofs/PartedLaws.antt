@@ -1,7 +1,7 @@
 -- Terms of one name as one mask, and the other terms apart.
 -- The idea: a set makes a term of one name true where it shares a name with it, so that all of them together are one mask to share a name with; and
 -- with one name left to add, each of them is a name that does. No contract cites this file. Assumes nothing.
-use Prim.Native.Nat.{ℕ, ◌+◌, ◌-◌, ◌*◌, ◌≤◌, ◌<◌}
+use Prim.Native.Nat.{ℕ, ◌+◌, ◌≤◌, ◌<◌}
 use mathlib.Core.Path.{◌≡◌, refl, sym, ap, subst, ◌∙◌}
 use mathlib.Core.Logic.{◌⊎◌, inl, inr}
 use mathlib.Core.Bool.{true, not, cond}
@@ -10,19 +10,19 @@ use native.Mathlib.Omega.{arith}
 use borrow.Author.Tests.{le-leb}
 use lib.Dec.{T, T_not, eqb→eq, leb}
 use lib.Count.{ones}
-use lib.ListN.{get_or, take, drop, length-drop}
-use lib.Seq.{length-take-le, take-add, drop-drop, drop_at}
 use Rattle.names.specs.Sets.{subset, set_union}
 use Rattle.names.specs.code.Parts.{shared}
 use Rattle.names.proofs.SetLaws.{test_ext, digit-union, digits_ext, subset-empty, subset_out, subset_trans, union_left, union_right, union_left_comm, ones-empty, ones-union, union-none}
 use Rattle.names.proofs.PartLaws.{shared-greatest}
-use Rattle.predicates.specs.Lists.{In, keep}
+use Rattle.std.specs.List.{filter}
+use Rattle.predicates.specs.Lists.{In}
 use Rattle.predicates.specs.Predicates.{holds}
 use Rattle.predicates.specs.code.Marks.{singles}
 use Rattle.predicates.proofs.ListLaws.{T_true, T_false, split, cond_ind, keep_in, keep_out}
 use Rattle.predicates.proofs.PredicateLaws.{holds_in, holds_out}
 use Rattle.predicates.proofs.MarkLaws.{singles-holds}
-use Rattle.search.specs.code.Search.{Rows, row_width, gather, alone, is_single, row_terms, Parted, several}
+use Rattle.search.specs.declared.rows.Row.{Row}
+use Rattle.search.specs.code.Search.{gather, alone, is_single, terms_of, rests_of, PartedRow, several}
 
 -- ---- one term
 
@@ -53,10 +53,10 @@ module _ (p : List ℕ) (s : ℕ) where
   pub holds_miss : shared s (singles p) ≡ 0 → holds s p ≡ holds s (several p)
   unfolding several
   holds_miss z =
-      test_ext (holds s p) (holds s (keep (λ t. not (is_single t)) p))
+      test_ext (holds s p) (holds s (filter (λ t. not (is_single t)) p))
       (λ h. let w = holds_out s p h in
-      holds_in s (keep (λ t. not (is_single t)) p) w.0 (keep_in (λ t. not (is_single t)) p w.0 w.1 (other w.0 w.1 w.2 (split (is_single w.0)))) w.2)
-      (λ h. let w = holds_out s (keep (λ t. not (is_single t)) p) h in
+      holds_in s (filter (λ t. not (is_single t)) p) w.0 (keep_in (λ t. not (is_single t)) p w.0 w.1 (other w.0 w.1 w.2 (split (is_single w.0)))) w.2)
+      (λ h. let w = holds_out s (filter (λ t. not (is_single t)) p) h in
       holds_in s p w.0 (keep_out (λ t. not (is_single t)) p w.0 w.1).0 w.2)
     where
       other : (t : ℕ) → In t p → T (subset t s) → T (is_single t) ⊎ T (not (is_single t)) → T (not (is_single t))
@@ -100,7 +100,7 @@ module _ (limit s : ℕ) where
         m = singles p
 
         q : List ℕ
-        q = keep (λ v. not (is_single v)) p
+        q = filter (λ v. not (is_single v)) p
 
         x : ℕ
         x = gather (set_union s m) limit s q
@@ -117,7 +117,7 @@ module _ (limit s : ℕ) where
             dropped ∙ sym (gather_base t (set_union s m) q) ∙ ap (λ (d : ℕ). gather d limit s q) (union_left_comm t s m)
 
         go : T (is_single t) ⊎ T (not (is_single t))
-            → gather s limit s (t ∷ p) ≡ gather (set_union s (cond (is_single t) (set_union t m) m)) limit s (keep (λ v. not (is_single v)) (t ∷ p))
+            → gather s limit s (t ∷ p) ≡ gather (set_union s (cond (is_single t) (set_union t m) m)) limit s (filter (λ v. not (is_single v)) (t ∷ p))
         go (inl one) = rw (T_true (is_single t) one, fits one, rest) joined
         go (inr n) = rw (T_false (is_single t) n, rest) refl
 
@@ -126,54 +126,24 @@ module _ (limit s : ℕ) where
     gather-parted [] = sym (union-none s)
     gather-parted (t ∷ p) = parted_next t p (gather-parted p)
 
--- ---- a row of the table
+-- ---- a row
 
-module _ (table : Rows) (k s : ℕ) (w : Parted table k) where
-  abbrev row : List ℕ
-  row = row_terms table k
+module _ (r : Row) (s : ℕ) (w : PartedRow r) (x : ℕ) (e : x ≡ shared s r.singles) where
+  pub row_hit : 0 < x → holds s (terms_of r) ≡ true
+  row_hit h = holds_hit (terms_of r) s (omega (arith, e, ap (λ (m : ℕ). shared s m) w.one))
 
-  pub row_hit : (x : ℕ) → x ≡ shared s (get_or table.singles k 0) → 0 < x → holds s row ≡ true
-  row_hit x e h = holds_hit row s (omega (arith, e, ap (λ (m : ℕ). shared s m) w.one))
-
-  module _ (x : ℕ) (e : x ≡ shared s (get_or table.singles k 0)) (h : x ≤ 0) (at end : ℕ)
-      (a : at ≡ k * row_width + get_or table.counts k 0 - get_or table.several k 0) (b : end ≡ k * row_width + get_or table.counts k 0) where
-    missed : shared s (singles row) ≡ 0
+  module _ (h : x ≤ 0) where
+    missed : shared s (singles (terms_of r)) ≡ 0
     missed = omega (arith, e, ap (λ (m : ℕ). shared s m) w.one)
 
-    part : take (end - at) (drop at table.masks) ≡ several row
-    part =
-        let few = w.fewer in
-        let width : end - at ≡ rests = omega arith in
-        let place : at ≡ k * row_width + before = omega arith in
-        ap (λ (n : ℕ). take n (drop at table.masks)) width ∙ ap (λ (n : ℕ). take rests (drop n table.masks)) place
-        ∙ ap (take rests) (sym (drop-drop before (k * row_width) table.masks)) ∙ sym last ∙ w.more
-      where
-        rests : ℕ
-        rests = get_or table.several k 0
+    pub row_miss : holds s (rests_of r) ≡ holds s (terms_of r)
+    row_miss = ap (holds s) w.more ∙ sym (holds_miss (terms_of r) s missed)
 
-        before : ℕ
-        before = get_or table.counts k 0 - rests
-
-        here : List ℕ
-        here = drop (k * row_width) table.masks
-
-        last : drop before row ≡ take rests (drop before here)
-        last =
-            let whole : get_or table.counts k 0 ≡ before + rests = omega (arith, w.fewer) in
-            ap (λ (n : ℕ). drop before (take n here)) whole ∙ ap (drop before) (take-add before rests here)
-            ∙ drop_at (take before here) (take rests (drop before here)) before
-            (length-take-le before here (omega (arith, w.long, w.fewer, length-drop (k * row_width) table.masks)))
-
-    pub row_miss : holds s (take (end - at) (drop at table.masks)) ≡ holds s row
-    row_miss = ap (holds s) part ∙ sym (holds_miss row s missed)
-
-    row-gather : gather (set_union s (get_or table.singles k 0)) (ones s + 1) s (take (end - at) (drop at table.masks)) ≡ alone (ones s + 1) s row
+    row-gather : gather (set_union s r.singles) (ones s + 1) s (rests_of r) ≡ alone (ones s + 1) s (terms_of r)
     row-gather =
-        ap (λ (m : ℕ). gather (set_union s m) (ones s + 1) s (take (end - at) (drop at table.masks))) w.one
-        ∙ ap (gather (set_union s (singles row)) (ones s + 1) s) part ∙ sym (gather-parted (ones s + 1) s refl row)
+        ap (λ (m : ℕ). gather (set_union s m) (ones s + 1) s (rests_of r)) w.one
+        ∙ ap (gather (set_union s (singles (terms_of r))) (ones s + 1) s) w.more ∙ sym (gather-parted (ones s + 1) s refl (terms_of r))
 
-    pub row-narrow : (names r : ℕ)
-        → r ≡ cond (holds s (take (end - at) (drop at table.masks))) names
-        (shared names (gather (set_union s (get_or table.singles k 0)) (ones s + 1) s (take (end - at) (drop at table.masks))))
-        → r ≡ cond (holds s row) names (shared names (alone (ones s + 1) s row))
-    row-narrow names r e = rw (row_miss, row-gather) at e
+    pub row-narrow : (names v : ℕ) → v ≡ cond (holds s (rests_of r)) names (shared names (gather (set_union s r.singles) (ones s + 1) s (rests_of r)))
+        → v ≡ cond (holds s (terms_of r)) names (shared names (alone (ones s + 1) s (terms_of r)))
+    row-narrow names v e = rw (row_miss, row-gather) at e

@@ -15,7 +15,7 @@ use lib.ListN.{length}
 use Rattle.names.specs.Sets.{subset, set_union, minus}
 use Rattle.names.proofs.SetLaws.{subset_refl, subset_trans, subset_le, union_left, union_right, union-least}
 use Rattle.names.proofs.PartLaws.{minus-subset, subset-same, one_more, minus_free}
-use Rattle.predicates.specs.Lists.{all}
+use Rattle.std.specs.List.{list_all}
 use Rattle.predicates.specs.Predicates.{holds}
 use Rattle.predicates.proofs.ListLaws.{both, both_l, both_r, or_cases, or_l, or_r, T_true, T_false, split, cond_ind}
 use Rattle.predicates.proofs.PredicateLaws.{holds_mono}
@@ -24,28 +24,28 @@ use Rattle.search.specs.code.Search.{Fits, Best, skipped}
 -- ---- predicates that s makes true are passed
 
 -- u holds s, so what s makes true u makes true
-skipped-all : (s u : ℕ) (ps : List (List ℕ)) → T (subset s u) → all (holds u) (skipped s ps) ≡ all (holds u) ps
+skipped-all : (s u : ℕ) (ps : List (List ℕ)) → T (subset s u) → list_all (holds u) (skipped s ps) ≡ list_all (holds u) ps
 unfolding skipped
 skipped-all s u [] h = refl
 skipped-all s u (p ∷ ps) h =
     let rest = skipped-all s u ps h in
-    cond_ind (λ qs. all (holds u) qs ≡ all (holds u) (p ∷ ps)) (holds s p) (skipped s ps) (p ∷ ps)
+    cond_ind (λ qs. list_all (holds u) qs ≡ list_all (holds u) (p ∷ ps)) (holds s p) (skipped s ps) (p ∷ ps)
     (λ t. rw (T_true (holds u p) (holds_mono s u p h t)) rest) (λ _. refl)
 
 -- where some predicate is left, s does not make all true; where none is, it does
-pub skipped-some : (s : ℕ) (ps qs : List (List ℕ)) (p : List ℕ) → p ∷ qs ≡ skipped s ps → all (holds s) ps ≡ false
+pub skipped-some : (s : ℕ) (ps qs : List (List ℕ)) (p : List ℕ) → p ∷ qs ≡ skipped s ps → list_all (holds s) ps ≡ false
 unfolding skipped
 skipped-some s [] qs p e = absurd (omega (arith, ap length e))
 skipped-some s (v ∷ ps) qs p e = go (split (holds s v)) (skipped-some s ps qs p)
   where
-    go : T (holds s v) ⊎ T (not (holds s v)) → (p ∷ qs ≡ skipped s ps → all (holds s) ps ≡ false) → all (holds s) (v ∷ ps) ≡ false
+    go : T (holds s v) ⊎ T (not (holds s v)) → (p ∷ qs ≡ skipped s ps → list_all (holds s) ps ≡ false) → list_all (holds s) (v ∷ ps) ≡ false
     go (inl t) f = rw (T_true (holds s v) t) (f (rw (T_true (holds s v) t) at e))
     go (inr n) f = rw (T_false (holds s v) n)
 
-pub skipped-none : (s : ℕ) (ps : List (List ℕ)) → [] ≡ skipped s ps → all (holds s) ps ≡ true
-skipped-none s ps e = sym (skipped-all s s ps (subset_refl s)) ∙ ap (all (holds s)) (sym e)
+pub skipped-none : (s : ℕ) (ps : List (List ℕ)) → [] ≡ skipped s ps → list_all (holds s) ps ≡ true
+skipped-none s ps e = sym (skipped-all s s ps (subset_refl s)) ∙ ap (list_all (holds s)) (sym e)
 
-fits_other : (limit s free u : ℕ) (ps qs : List (List ℕ)) → all (holds u) ps ≡ all (holds u) qs → Fits limit s free ps u → Fits limit s free qs u
+fits_other : (limit s free u : ℕ) (ps qs : List (List ℕ)) → list_all (holds u) ps ≡ list_all (holds u) qs → Fits limit s free ps u → Fits limit s free qs u
 fits_other limit s free u ps qs e f =
     record { above = f.above; within = f.within; few = f.few; holding = subst (λ (b : Bool). T b) e f.holding }
 
@@ -81,33 +81,33 @@ module _ (enough limit s free best : ℕ) where
   best_full p ps n h =
       best_none (p ∷ ps) (λ u f.
       let same : s ≡ u = subset-same s u f.above (le_trans f.few h) in
-      T_not (holds s p) n (subst (λ (x : ℕ). T (holds x p)) (sym same) (both_l (holds u p) (all (holds u) ps) f.holding)))
+      T_not (holds s p) n (subst (λ (x : ℕ). T (holds x p)) (sym same) (both_l (holds u p) (list_all (holds u) ps) f.holding)))
 
 -- ---- one term of a predicate after the other
 
 module _ (enough limit s free : ℕ) (ps : List (List ℕ)) where
   pub terms-none : (best : ℕ) → Best enough limit s free ([] ∷ ps) best best
   unfolding holds
-  terms-none best = best_none enough limit s free best ([] ∷ ps) (λ u f. both_l (holds u []) (all (holds u) ps) f.holding)
+  terms-none best = best_none enough limit s free best ([] ∷ ps) (λ u f. both_l (holds u []) (list_all (holds u) ps) f.holding)
 
   module _ (t : ℕ) (ts : List ℕ) where
     -- the set holds this term or one of the others
-    first_or : (u : ℕ) → T (all (holds u) ((t ∷ ts) ∷ ps)) → T (subset t u) ⊎ T (all (holds u) (ts ∷ ps))
+    first_or : (u : ℕ) → T (list_all (holds u) ((t ∷ ts) ∷ ps)) → T (subset t u) ⊎ T (list_all (holds u) (ts ∷ ps))
     unfolding holds
     first_or u h =
-        let rest = both_r (holds u (t ∷ ts)) (all (holds u) ps) h in
-        ⊎_elim (λ k. inl k) (λ k. inr (both (holds u ts) (all (holds u) ps) k rest))
-        (or_cases (subset t u) (holds u ts) (both_l (holds u (t ∷ ts)) (all (holds u) ps) h))
+        let rest = both_r (holds u (t ∷ ts)) (list_all (holds u) ps) h in
+        ⊎_elim (λ k. inl k) (λ k. inr (both (holds u ts) (list_all (holds u) ps) k rest))
+        (or_cases (subset t u) (holds u ts) (both_l (holds u (t ∷ ts)) (list_all (holds u) ps) h))
 
-    later : (u : ℕ) → T (all (holds u) (ts ∷ ps)) → T (all (holds u) ((t ∷ ts) ∷ ps))
+    later : (u : ℕ) → T (list_all (holds u) (ts ∷ ps)) → T (list_all (holds u) ((t ∷ ts) ∷ ps))
     unfolding holds
     later u h =
-        both (holds u (t ∷ ts)) (all (holds u) ps) (or_r (subset t u) (holds u ts) (both_l (holds u ts) (all (holds u) ps) h))
-        (both_r (holds u ts) (all (holds u) ps) h)
+        both (holds u (t ∷ ts)) (list_all (holds u) ps) (or_r (subset t u) (holds u ts) (both_l (holds u ts) (list_all (holds u) ps) h))
+        (both_r (holds u ts) (list_all (holds u) ps) h)
 
-    now : (u : ℕ) → T (subset t u) → T (all (holds u) ps) → T (all (holds u) ((t ∷ ts) ∷ ps))
+    now : (u : ℕ) → T (subset t u) → T (list_all (holds u) ps) → T (list_all (holds u) ((t ∷ ts) ∷ ps))
     unfolding holds
-    now u k h = both (holds u (t ∷ ts)) (all (holds u) ps) (or_l (subset t u) (holds u ts) k) h
+    now u k h = both (holds u (t ∷ ts)) (list_all (holds u) ps) (or_l (subset t u) (holds u ts) k) h
 
     fits-later : (free' u : ℕ) → T (subset free' free) → Fits limit s free' (ts ∷ ps) u → Fits limit s free ((t ∷ ts) ∷ ps) u
     fits-later free' u l f =
@@ -141,7 +141,7 @@ module _ (enough limit s free : ℕ) (ps : List (List ℕ)) where
               (union-least s free (set_union (set_union s t) free)
               (subset_trans s (set_union s t) (set_union (set_union s t) free) (union_left s t) (union_left (set_union s t) free)) (union_right (set_union s t) free));
           few = f.few;
-          holding = both_r (holds u (t ∷ ts)) (all (holds u) ps) f.holding;
+          holding = both_r (holds u (t ∷ ts)) (list_all (holds u) ps) f.holding;
         }
 
     fits_back : (u : ℕ) → T (subset t (set_union s free)) → Fits limit (set_union s t) free ps u → Fits limit s free ((t ∷ ts) ∷ ps) u
@@ -174,7 +174,7 @@ module _ (enough limit s free : ℕ) (ps : List (List ℕ)) where
             least = λ u f. pick u f (first_or u f.holding) (split (subset t u));
           }
         where
-          pick : (u : ℕ) → Fits limit s free ((t ∷ ts) ∷ ps) u → T (subset t u) ⊎ T (all (holds u) (ts ∷ ps))
+          pick : (u : ℕ) → Fits limit s free ((t ∷ ts) ∷ ps) u → T (subset t u) ⊎ T (list_all (holds u) (ts ∷ ps))
               → T (subset t u) ⊎ T (not (subset t u)) → (r ≤ u) ⊎ (r < enough)
           pick u f w (inl k) = ⊎_elim (λ e. inl (le_trans c.low e)) (λ e. absurd (omega arith)) (b.least u (fits_on u f k))
           pick u f (inl k) (inr n) = absurd (T_not (subset t u) n k)

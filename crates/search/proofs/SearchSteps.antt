@@ -1,7 +1,7 @@
 -- One turn of each loop and call of the search, over the predicates in the flat arrays.
 -- The idea: the predicates from a place on are the next one and the rest (`rest_next`), so each turn is a law by sets, for one predicate or one
 -- term, said of the arrays. No contract cites this file. Assumes nothing.
-use Prim.Native.Nat.{ℕ, suc, ◌+◌, ◌-◌, ◌*◌, ◌≤◌, ◌<◌, min}
+use Prim.Native.Nat.{ℕ, suc, ◌+◌, ◌-◌, ◌≤◌, ◌<◌, min}
 use mathlib.Core.Path.{◌≡◌, refl, sym, ap, subst, ◌∙◌}
 use mathlib.Core.Logic.{◌⊎◌, inl, inr}
 use mathlib.Core.Bool.{Bool, true, false, not, ◌&&◌, cond}
@@ -12,7 +12,7 @@ use native.Mathlib.Omega.{arith}
 use borrow.Author.Tests.{le-leb, lt-leb, le-ltb, lt-ltb}
 use lib.Dec.{T, T_not, not_T, leb, leb→le, le→leb, ltb, nltb→le, eqb, eqb→eq}
 use lib.Count.{ones}
-use lib.ListN.{length, get_or, take, drop, drop_of_length-le}
+use lib.ListN.{length, get_or, drop, drop_of_length-le}
 use lib.Seq.{drop-cons}
 use Rattle.numbers.specs.Numbers.{tab}
 use Rattle.numbers.proofs.NumberLaws.{above_zero, length-tab, get_or-tab}
@@ -22,10 +22,11 @@ use Rattle.names.proofs.SetLaws.{subset_le, subset_refl, subset_trans, subset_an
 use Rattle.names.proofs.PartLaws.{shared-greatest, minus_add, minus-apart, subset-same, least_name_in, least_name-one, added, adds_none, adds_some, ones_added}
 use Rattle.predicates.specs.Predicates.{holds}
 use Rattle.predicates.proofs.ListLaws.{both, both_l, both_r, true_T, T_true, T_false, split, cond_ind}
-use Rattle.predicates.specs.Lists.{all, In}
+use Rattle.std.specs.List.{list_all}
+use Rattle.predicates.specs.Lists.{In}
 use Rattle.predicates.proofs.PredicateLaws.{holds_in}
 use Rattle.predicates.proofs.LoopLaws.{drop_next}
-use Rattle.search.specs.code.Search.{Rows, row_width, Fits, Best, Trying, skipped, gather, alone, narrowed, row_terms, pred_at, preds}
+use Rattle.search.specs.code.Search.{Rows, Fits, Best, Trying, skipped, gather, alone, narrowed, row_terms, pred_at, preds}
 use Rattle.search.proofs.LastLaws.{alone-above, narrowed_stop, narrowed-above, one-all, one_none, last_found, last_none}
 use Rattle.search.proofs.SearchLaws.{terms-none, skipped-some, skipped-none, best-skipped, best-done, best_full, terms_skip, terms_stop, terms_on, terms_bar}
 
@@ -72,23 +73,11 @@ module _ (n : ℕ) (listed : List ℕ) (table : Rows) where
 
   -- a set that alone is left to try: it leaves the predicate at place k false, or none
   module _ (u best j k : ℕ) (e : rest k ≡ skipped u (rest j)) where
-    pub only_not : k < n → best ≡ cond (all (holds u) (rest j)) (min u best) best
+    pub only_not : k < n → best ≡ cond (list_all (holds u) (rest j)) (min u best) best
     only_not h = rw (skipped-some u (rest j) (rest (k + 1)) (pred_at listed table k) (sym (rest_next k h) ∙ e))
 
-    pub only_all : n ≤ k → (r : ℕ) → r ≡ min u best → r ≡ cond (all (holds u) (rest j)) (min u best) best
+    pub only_all : n ≤ k → (r : ℕ) → r ≡ min u best → r ≡ cond (list_all (holds u) (rest j)) (min u best) best
     only_all h r g = rw (skipped-none u (rest j) (sym (rest-none k h) ∙ e)) g
-
--- the part of the array from `at` to `end`, where the code found the terms to stand
-pub row_part : (table : Rows) (row at end : ℕ) → at ≡ row * row_width → end ≡ row * row_width + get_or table.counts row 0
-    → take (end - at) (drop at table.masks) ≡ row_terms table row
-row_part table row at end a b =
-    let width : end - at ≡ get_or table.counts row 0 = omega arith in
-    ap (λ (w : ℕ). take w (drop at table.masks)) width ∙ ap (λ (x : ℕ). take (get_or table.counts row 0) (drop x table.masks)) a
-
-pub pred_part : (listed : List ℕ) (table : Rows) (j at end : ℕ) → at ≡ get_or listed j 0 * row_width
-    → end ≡ get_or listed j 0 * row_width + get_or table.counts (get_or listed j 0) 0 → take (end - at) (drop at table.masks) ≡ pred_at listed table j
-unfolding pred_at
-pred_part listed table j = row_part table (get_or listed j 0)
 
 -- the first of the predicates, if there is one, is left false
 abbrev FirstFalse : ℕ → List (List ℕ) → Type 0
@@ -124,43 +113,37 @@ module _ (n : ℕ) (listed : List ℕ) (table : Rows) (s i k : ℕ) (e : rest n 
         (subst (λ (ps : List (List ℕ)). Best enough limit s free ps best best) (sym (rest_next n listed table k h))
         (best_full enough limit s free best (pred_at listed table k) (rest n listed table (k + 1)) (next_false h) few))
 
-    pub step_terms : (r at end : ℕ) → k < n → at ≡ get_or listed k 0 * row_width
-        → end ≡ get_or listed k 0 * row_width + get_or table.counts (get_or listed k 0) 0
-        → Best enough limit s free (take (end - at) (drop at table.masks) ∷ rest n listed table (k + 1)) best r
-        → Best enough limit s free (rest n listed table i) best r
-    step_terms r at end h p q b =
+    pub step_terms : (r : ℕ) (p : List ℕ) → k < n → p ≡ row_terms table (get_or listed k 0)
+        → Best enough limit s free (p ∷ rest n listed table (k + 1)) best r → Best enough limit s free (rest n listed table i) best r
+    unfolding pred_at
+    step_terms r p h q b =
         step_back r
         (subst (λ (ps : List (List ℕ)). Best enough limit s free ps best r) (sym (rest_next n listed table k h))
-        (subst (λ (ts : List ℕ). Best enough limit s free (ts ∷ rest n listed table (k + 1)) best r) (pred_part listed table k at end p q) b))
+        (subst (λ (ts : List ℕ). Best enough limit s free (ts ∷ rest n listed table (k + 1)) best r) q b))
 
 -- ---- the term step
 
-module _ (enough limit s free best : ℕ) (masks : List ℕ) (at end : ℕ) (ps : List (List ℕ)) where
-  term_none : end ≤ at → Best enough limit s free (take (end - at) (drop at masks) ∷ ps) best best
+module _ (enough limit s free best : ℕ) (p : List ℕ) (at : ℕ) (ps : List (List ℕ)) where
+  term_none : length p ≤ at → Best enough limit s free (drop at p ∷ ps) best best
   term_none h =
-      let width : end - at ≡ 0 = omega arith in
-      let none : take (end - at) (drop at masks) ≡ [] = ap (λ (w : ℕ). take w (drop at masks)) width in
-      subst (λ (ts : List ℕ). Best enough limit s free (ts ∷ ps) best best) (sym none) (terms-none enough limit s free ps best)
+      subst (λ (ts : List ℕ). Best enough limit s free (ts ∷ ps) best best) (sym (drop_of_length-le p {i = at} h)) (terms-none enough limit s free ps best)
 
-  module _ (h : at < end) (k : end ≤ length masks) where
+  module _ (h : at < length p) where
     abbrev t : ℕ
-    t = get_or masks at 0
+    t = get_or p at 0
 
     abbrev ts : List ℕ
-    ts = take (end - (at + 1)) (drop (at + 1) masks)
+    ts = drop (at + 1) p
 
-    first : take (end - at) (drop at masks) ≡ t ∷ ts
-    first =
-        let width : end - at ≡ suc (end - (at + 1)) = omega arith in
-        let next : drop at masks ≡ t ∷ drop (at + 1) masks = drop_next masks at (omega arith) in
-        rw (width, next)
+    first : drop at p ≡ t ∷ ts
+    first = drop_next p at h
 
-    back : (r : ℕ) → Best enough limit s free ((t ∷ ts) ∷ ps) best r → Best enough limit s free (take (end - at) (drop at masks) ∷ ps) best r
+    back : (r : ℕ) → Best enough limit s free ((t ∷ ts) ∷ ps) best r → Best enough limit s free (drop at p ∷ ps) best r
     back r b = subst (λ (us : List ℕ). Best enough limit s free (us ∷ ps) best r) (sym first) b
 
     -- the term is not worth a try
     term_skip : (r : ℕ) → subset t (set_union s free) && (ltb (set_union s t) best && leb (ones (set_union s t)) limit) ≡ false
-        → Best enough limit s free (ts ∷ ps) best r → Best enough limit s free (take (end - at) (drop at masks) ∷ ps) best r
+        → Best enough limit s free (ts ∷ ps) best r → Best enough limit s free (drop at p ∷ ps) best r
     term_skip r e b =
         back r (terms_skip enough limit s free ps t ts best r (λ u f m. high u f m (split (ltb (set_union s t) best))) b)
       where
@@ -179,13 +162,13 @@ module _ (enough limit s free best : ℕ) (masks : List ℕ) (at end : ℕ) (ps 
       room : T (subset t (set_union s free))
       room = both_l (subset t (set_union s free)) (ltb (set_union s t) best && leb (ones (set_union s t)) limit) (true_T _ w)
 
-      term_stop : found < enough → Best enough limit s free (take (end - at) (drop at masks) ∷ ps) best found
+      term_stop : found < enough → Best enough limit s free (drop at p ∷ ps) best found
       term_stop l = back found (terms_stop enough limit s free ps t ts best found room b l)
 
       term_on : (free' r : ℕ) → enough ≤ found → free' ≡ cond (eqb (ones (set_union s t)) (ones s + 1)) (minus free t) free
-          → Best enough limit s free' (ts ∷ ps) found r → Best enough limit s free (take (end - at) (drop at masks) ∷ ps) best r
+          → Best enough limit s free' (ts ∷ ps) found r → Best enough limit s free (drop at p ∷ ps) best r
       term_on free' r l e c =
-          cond_ind (λ x. Best enough limit s x (ts ∷ ps) found r → Best enough limit s free (take (end - at) (drop at masks) ∷ ps) best r)
+          cond_ind (λ x. Best enough limit s x (ts ∷ ps) found r → Best enough limit s free (drop at p ∷ ps) best r)
           (eqb (ones (set_union s t)) (ones s + 1)) (minus free t) free
           (λ o d. back r (terms_bar enough limit s free ps t ts best found room b r l (eqb→eq (ones (set_union s t)) (ones s + 1) o) d))
           (λ _ d. back r (terms_on enough limit s free ps t ts best found room b r l d))
@@ -193,28 +176,28 @@ module _ (enough limit s free best : ℕ) (masks : List ℕ) (at end : ℕ) (ps 
 
 -- ---- one term after the other
 
-module _ (enough limit s free : ℕ) (whole : List (List ℕ)) (best : ℕ) (masks : List ℕ) (ps : List (List ℕ)) (end at free' found : ℕ)
-    (w : Trying enough limit s free whole best masks ps end at free' found) where
-  pub trying_none : end ≤ at → Best enough limit s free whole best found
-  trying_none h = w found (term_none enough limit s free' found masks at end ps h)
+module _ (enough limit s free : ℕ) (whole : List (List ℕ)) (best : ℕ) (p : List ℕ) (ps : List (List ℕ)) (at free' found : ℕ)
+    (w : Trying enough limit s free whole best (drop at p) ps free' found) where
+  pub trying_none : length p ≤ at → Best enough limit s free whole best found
+  trying_none h = w found (term_none enough limit s free' found p at ps h)
 
-  module _ (h : at < end) (k : end ≤ length masks) where
+  module _ (h : at < length p) where
     abbrev here : ℕ
-    here = get_or masks at 0
+    here = get_or p at 0
 
     abbrev worthwhile : Bool
     worthwhile = subset here (set_union s free') && (ltb (set_union s here) found && leb (ones (set_union s here)) limit)
 
-    pub trying_skip : worthwhile ≡ false → Trying enough limit s free whole best masks ps end (at + 1) free' found
-    trying_skip e r b = w r (term_skip enough limit s free' found masks at end ps h k r e b)
+    pub trying_skip : worthwhile ≡ false → Trying enough limit s free whole best (drop (at + 1) p) ps free' found
+    trying_skip e r b = w r (term_skip enough limit s free' found p at ps h r e b)
 
     module _ (next : ℕ) (e : worthwhile ≡ true) (b : Best enough limit (set_union s here) free' ps found next) where
       pub trying_stop : next < enough → Best enough limit s free whole best next
-      trying_stop l = w next (term_stop enough limit s free' found masks at end ps h k next e b l)
+      trying_stop l = w next (term_stop enough limit s free' found p at ps h next e b l)
 
       pub trying_on : (rest : ℕ) → enough ≤ next → rest ≡ cond (eqb (ones (set_union s here)) (ones s + 1)) (minus free' here) free'
-          → Trying enough limit s free whole best masks ps end (at + 1) rest next
-      trying_on rest l q r d = w r (term_on enough limit s free' found masks at end ps h k next e b rest r l q d)
+          → Trying enough limit s free whole best (drop (at + 1) p) ps rest next
+      trying_on rest l q r d = w r (term_on enough limit s free' found p at ps h next e b rest r l q d)
 
 -- ---- whether a term is worth a try, and what is free then
 
@@ -340,9 +323,9 @@ module _ (n : ℕ) (listed : List ℕ) (table : Rows) (limit s free k best : ℕ
 
   -- one name is left at place j: s with it makes the predicates from there on true, or nothing does
   pub last_one : (j m v u : ℕ) → names ≡ narrowed limit s m (rest n listed table j) → T (subset s m) → (m ≡ s → ⊥) → v ≡ minus m s
-      → leb (ones v) 1 ≡ true → u ≡ set_union s v → (r : ℕ) → r ≡ cond (all (holds u) (rest n listed table j)) (min u best) best → (enough : ℕ)
+      → leb (ones v) 1 ≡ true → u ≡ set_union s v → (r : ℕ) → r ≡ cond (list_all (holds u) (rest n listed table j)) (min u best) best → (enough : ℕ)
       → Best enough limit s free (rest n listed table k) best r
-  last_one j m v u e i f a b d r g enough = go (split (all (holds u) ps))
+  last_one j m v u e i f a b d r g enough = go (split (list_all (holds u) ps))
     where
       ps : List (List ℕ)
       ps = rest n listed table j
@@ -365,12 +348,12 @@ module _ (n : ℕ) (listed : List ℕ) (table : Rows) (limit s free k best : ℕ
       least : v ≡ least_name v
       least = sym (subset-same (least_name v) v (least_name_in v) (omega (arith, one, least_name-one v some)))
 
-      go : T (all (holds u) ps) ⊎ T (not (all (holds u) ps)) → Best enough limit s free (rest n listed table k) best r
+      go : T (list_all (holds u) ps) ⊎ T (not (list_all (holds u) ps)) → Best enough limit s free (rest n listed table k) best r
       go (inl t) =
-          let all_true = subst (λ (x : ℕ). T (all (holds x) ps)) d t in
+          let all_true = subst (λ (x : ℕ). T (list_all (holds x) ps)) d t in
           last-least m v v u r (here ∙ one-all limit s few v ps one all_true ∙ sym whole) f a least d
-          (g ∙ rw (T_true (all (holds u) ps) t)) enough
+          (g ∙ rw (T_true (list_all (holds u) ps) t)) enough
       go (inr k') =
-          let none = one_none limit s few v ps one apart (λ t. T_not (all (holds u) ps) k' (subst (λ (x : ℕ). T (all (holds x) ps)) (sym d) t)) in
-          subst (λ (x : ℕ). Best enough limit s free (rest n listed table k) best x) (sym (g ∙ rw (T_false (all (holds u) ps) k')))
+          let none = one_none limit s few v ps one apart (λ t. T_not (list_all (holds u) ps) k' (subst (λ (x : ℕ). T (list_all (holds x) ps)) (sym d) t)) in
+          subst (λ (x : ℕ). Best enough limit s free (rest n listed table k) best x) (sym (g ∙ rw (T_false (list_all (holds u) ps) k')))
           (over (here ∙ none) enough)

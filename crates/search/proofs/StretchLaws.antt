@@ -2,26 +2,31 @@
 -- The idea: the last end of a stretch needs the fewest predicates; so where no set explains it, none explains any end of the stretch. And a set that
 -- explains an end explains those before it, down to the latest left end of the rows that it leaves false. No contract cites this file. Assumes nothing.
 use Prim.Native.Nat.{ℕ, ◌+◌, ◌-◌, ◌≤◌, ◌<◌}
-use mathlib.Core.Path.{◌≡◌, sym, ap, subst, ◌∙◌}
+use mathlib.Core.Path.{◌≡◌, refl, sym, ap, subst, ◌∙◌}
 use mathlib.Core.Logic.{◌⊎◌, inl, inr, ⊎_elim}
 use mathlib.Core.Bool.{not}
 use mathlib.Core.List.{List, []}
 use native.Mathlib.Decide.{dec_lt, dec_le}
 use native.Mathlib.Omega.{arith}
 use borrow.Author.Tests.{lt-ltb}
-use lib.Dec.{T, T_not, ltb, ltb→lt}
-use lib.ListN.{get_or, take}
+use lib.Dec.{T, T_not, eqb, eqb→eq, ltb, ltb→lt}
+use lib.ListN.{length, get_or, take}
 use Rattle.numbers.specs.Numbers.{tab}
 use Rattle.numbers.proofs.NumberLaws.{length-tab, get_or-tab}
 use Rattle.names.specs.Sets.{set_union, no_set}
 use Rattle.names.proofs.SetLaws.{subset_le}
 use Rattle.names.proofs.PartLaws.{union_add}
-use Rattle.predicates.specs.Lists.{keep, In}
+use Rattle.std.proofs.Common.{Option, None, Some, IsSome}
+use Rattle.std.specs.List.{filter}
+use Rattle.predicates.specs.Lists.{In}
 use Rattle.predicates.specs.Predicates.{holds}
-use Rattle.predicates.proofs.ListLaws.{true_T, or_l, or_r, or_cases, all_in, all_out, keep_in, keep_out, map_in, map_out}
+use Rattle.predicates.proofs.ListLaws.{true_T, or_l, or_r, or_cases, all_in, all_out, any_out, keep_in, keep_out, map_in, map_out}
 use Rattle.search.specs.code.Search.{Rows, Fits, Best, row_terms, pred_at, preds}
-use Rattle.search.specs.code.LeftEnds.{outside, no_end, Next, Last, IsEnd, Unbroken, Latest, Ready, needs, FirstEnd, FirstStretch, Unexplained}
-use Rattle.predicates.proofs.IndexLaws.{in_take, at_in, take_in}
+use Rattle.search.specs.code.Tables.{FirstIn}
+use Rattle.search.specs.declared.stretches.Table.{Table}
+use Rattle.search.specs.declared.stretches.Reached.{Reached}
+use Rattle.search.specs.code.LeftEnds.{outside, no_end, Next, Last, IsEnd, Unbroken, Latest, Ready, needs, FirstEnd, FirstStretch, Unexplained, lefts_of, rights_of}
+use Rattle.predicates.proofs.IndexLaws.{in_take, at_in}
 use Rattle.search.proofs.EndSteps.{outside-test}
 
 -- ---- rows that lack an instant
@@ -68,6 +73,11 @@ module _ (n rows : ℕ) (lefts rights : List ℕ) (table : Rows) (order : List �
       go (yes a) = out_left lefts rights x k a
       go (no a) = out_right lefts rights x k (omega (arith, ready.empty k h))
 
+  -- row k is in the order
+  pub in_order : (k : ℕ) → k < rows → In k (take rows order)
+  in_order k h =
+      let r = any_out (λ x. eqb k x) (take rows order) (ready.present k h) in rw (eqb→eq k r.0 r.2) r.1
+
   pub end_below : (x : ℕ) → IsEnd n rows lefts x → x < no_end
   end_below x e = omega (arith, e.3, ready.below e.0 e.2)
 
@@ -107,10 +117,10 @@ module _ (n rows : ℕ) (lefts rights : List ℕ) (table : Rows) (order : List �
           within = f.within;
           few = f.few;
           holding = all_in (holds u) (needs rows lefts rights table order y) (λ p m.
-              go p (map_out (row_terms table) (keep (outside lefts rights y) (take rows order)) p m));
+              go p (map_out (row_terms table) (filter (outside lefts rights y) (take rows order)) p m));
         }
       where
-        go : (p : List ℕ) → (k : ℕ) × In k (keep (outside lefts rights y) (take rows order)) × (p ≡ row_terms table k) → T (holds u p)
+        go : (p : List ℕ) → (k : ℕ) × In k (filter (outside lefts rights y) (take rows order)) × (p ≡ row_terms table k) → T (holds u p)
         go p w =
             let k = w.0 in
             let there = keep_out (outside lefts rights y) (take rows order) k w.1 in
@@ -119,7 +129,7 @@ module _ (n rows : ℕ) (lefts rights : List ℕ) (table : Rows) (order : List �
             rw w.2
             (⊎_elim
             (λ o. all_out (holds u) (needs rows lefts rights table order x) f.holding (row_terms table k)
-            (map_in (row_terms table) (keep (outside lefts rights x) (take rows order)) k (keep_in (outside lefts rights x) (take rows order) k there.0 o)))
+            (map_in (row_terms table) (filter (outside lefts rights x) (take rows order)) k (keep_in (outside lefts rights x) (take rows order) k there.0 o)))
             (λ h. h) (more k row there.1))
 
     -- what makes all predicates true explains every instant
@@ -131,13 +141,13 @@ module _ (n rows : ℕ) (lefts rights : List ℕ) (table : Rows) (order : List �
           within = f.within;
           few = f.few;
           holding = all_in (holds u) (needs rows lefts rights table order x) (λ p m.
-              go p (map_out (row_terms table) (keep (outside lefts rights x) (take rows order)) p m));
+              go p (map_out (row_terms table) (filter (outside lefts rights x) (take rows order)) p m));
         }
       where
         terms : ℕ → List ℕ
         terms j = row_terms table (get_or order j 0)
 
-        go : (p : List ℕ) → (k : ℕ) × In k (keep (outside lefts rights x) (take rows order)) × (p ≡ row_terms table k) → T (holds u p)
+        go : (p : List ℕ) → (k : ℕ) × In k (filter (outside lefts rights x) (take rows order)) × (p ≡ row_terms table k) → T (holds u p)
         go p w =
             let there = keep_out (outside lefts rights x) (take rows order) w.0 w.1 in
             let j = in_take rows order w.0 there.0 in
@@ -168,11 +178,15 @@ module _ (n rows : ℕ) (lefts rights : List ℕ) (table : Rows) (order : List �
       stretch_part z a b = record { rising = a; clear = λ k c d e. stretch.clear k c d (omega arith) }
 
     module _ (small : free < no_set) where
+      -- a set that explains an instant is one
+      pub explains_below : (x u : ℕ) → Explains x u → u < no_set
+      explains_below x u f = omega (arith, subset_le u (set_union 0 free) f.within, union_add 0 free)
+
       -- a search that found no set
       pub no_set_lem : (x r : ℕ) → Best no_set limit 0 free (needs rows lefts rights table order x) no_set r → no_set ≤ r
           → (u : ℕ) → Explains x u → ⊥
       no_set_lem x r b h u g =
-          let low : u < no_set = omega (arith, subset_le u (set_union 0 free) g.within, union_add 0 free) in
+          let low = explains_below x u g in
           ⊎_elim (λ e. absurd (omega arith)) (λ e. absurd (omega arith)) (b.least u g)
 
       -- ---- one stretch after the other
@@ -218,7 +232,7 @@ module _ (n rows : ℕ) (lefts rights : List ℕ) (table : Rows) (order : List �
     unfolding needs
     needed_true x u k f h o =
         all_out (holds u) (needs rows lefts rights table order x) f.holding (row_terms table k)
-        (map_in (row_terms table) (keep (outside lefts rights x) (take rows order)) k (keep_in (outside lefts rights x) (take rows order) k (take_in rows order ready.ordered (ready.present k h)) o))
+        (map_in (row_terms table) (filter (outside lefts rights x) (take rows order)) k (keep_in (outside lefts rights x) (take rows order) k (in_order k h) o))
 
     module _ (x u l e : ℕ) (f : Explains x u) (end : IsEnd n rows lefts x) (latest : Latest n rows lefts table u l)
         (next : Next lefts n rows l e) where
@@ -255,7 +269,7 @@ module _ (n rows : ℕ) (lefts rights : List ℕ) (table : Rows) (order : List �
       -- no end before this one is explained
       back_first : Unexplained n rows lefts rights table order limit free end → FirstEnd n rows lefts rights table order limit free end set
       back_first before =
-          let low : set < no_set = omega (arith, subset_le set (set_union 0 free) f.within, union_add 0 free) in
+          let low = explains_below small end set f in
           record {
             found = λ _. (is-end.0, is-end.1, is-end.2, is-end.3, f);
             others = λ k a b c. before k a b (⊎_elim (λ z. absurd (omega arith)) (λ l. l) c);
@@ -281,13 +295,20 @@ module _ (n rows : ℕ) (lefts rights : List ℕ) (table : Rows) (order : List �
 
 -- no left end behind it belongs to the stretch: a right end would stand between
 pub stretch-last : (n rows : ℕ) (lefts rights : List ℕ) (x roof r : ℕ) → Next rights n rows x roof → Last lefts n rows x roof r
-    → ((k : ℕ) → get_or lefts k 0 ≤ no_end) → (y : ℕ) → IsEnd n rows lefts y → Unbroken n rows rights x y → y ≤ r
+    → ((k : ℕ) → k < rows → get_or lefts k 0 < no_end) → (y : ℕ) → IsEnd n rows lefts y → Unbroken n rows rights x y → y ≤ r
 stretch-last n rows lefts rights x roof r next last fits y (k, a, b, e) u = omega (arith, last.most k a b (omega (arith, e, under next.one)))
   where
     under : (roof ≡ no_end) ⊎ ((j : ℕ) × (n ≤ j) × (j < rows) × (roof ≡ get_or rights j 0) × (x ≤ roof)) → y ≤ roof
-    under (inl z) = omega (arith, fits k)
+    under (inl z) = omega (arith, e, fits k b)
     under (inr w) = go (dec_lt roof y)
       where
         go : Dec (roof < y) → y ≤ roof
         go (no l) = omega arith
         go (yes l) = absurd (omega (arith, u.clear w.0 w.1 w.2 (omega (arith, w.3)), w.3, w.4))
+
+-- where a set is sure to be found, there is an end
+pub first_some : (t : Table) (limit free : ℕ) (o : Option Reached) → FirstIn t limit free o
+    → ((end set : ℕ) → FirstEnd t.entries (length t.rows.now) (lefts_of t.ends.now) (rights_of t.ends.now) t.rows.now t.order.now limit free end set
+    → set < no_set) → IsSome o
+first_some t limit free None w f = absurd (omega (arith, f 0 no_set w))
+first_some t limit free (Some r) w f = refl

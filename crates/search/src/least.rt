@@ -1,103 +1,68 @@
 // The least set of failed names of all (document 01, "Fewest failures"): over the left ends, and over every predicate where there is no end.
 ghost use Rattle.std.specs.Prelude.{◌≡◌, ◌≤◌, length};
-ghost use Rattle.search.specs.code.Search.{Rows, rows_of};
-ghost use Rattle.search.specs.code.LeftEnds.{Ready, LeastSet};
+ghost use Rattle.search.specs.code.Tables.{LeastIn, LeastSetIn};
 
-// The least set within the limit that explains every claim, or those whose interval lacks the left end of one of rows n to `rows`; 2^29, the
-// mask of no set, where there is none. Of each stretch of ends the last is tried, which needs the fewest claims; where there is an end, every claim
-// is more than it needs. The search lists rows in `listed`; what it leaves there is free.
-fn least_set(
-    lefts: &[u64],
-    rights: &[u64],
-    counts: &[u32],
-    masks: &[u32],
-    several: &[u32],
-    singles: &[u32],
-    order: &[u32],
-    listed: &mut [u32],
-    n: usize,
-    rows: usize,
-    limit: u32,
-    free: u32,
-) -> u32
-    requires { (let t : Rows = rows_of counts.now masks.now several.now singles.now in
-        Ready n rows lefts.now rights.now t order.now × (rows ≤ length listed.old)) }
-    ensures fact { (let t : Rows = rows_of counts.now masks.now several.now singles.now in
-        LeastSet n rows lefts.now rights.now t order.now limit free result) }
-    ensures listed_len_unchanged { length listed.new ≡ length listed.old }
-{
-    if n == rows {
-        return super::search::predicate_step(
-            order,
-            counts,
-            masks,
-            several,
-            singles,
-            rows,
-            limit,
-            0,
-            0,
-            0,
-            free,
-            names::NO_SET,
-        );
-    }
-    let mut best: u32 = names::NO_SET;
-    let mut floor: u64 = 0;
-    loop {
-        let from = super::stretches::next_end(lefts, n, rows, floor);
-        if from == super::NO_END {
-            return best;
+use super::search::Search;
+use super::stretches::Table;
+
+impl<'a> Table<'a> {
+    // The least set within the limit that explains every claim, or those whose interval lacks some left end; 2^29, the mask of no set, where
+    // there is none, as the search has it. Of each stretch of ends the last is tried, which needs the fewest claims; where there is an end,
+    // every claim is more than it needs. The search lists rows in `listed`; what it leaves there is free.
+    // No range is gone over: each stretch tells where the next begins.
+    fn least_set(&self, listed: &mut [u32], limit: u32, free: u32) -> u32
+        requires { length self.now.rows.now ≤ length listed.old }
+        ensures fact { LeastSetIn self.now limit free result }
+        ensures listed_len_unchanged { length listed.new ≡ length listed.old }
+    {
+        let rows = self.rows.len();
+        if self.entries == rows {
+            let search = Search {
+                rows: self.rows,
+                listed: &self.order[..rows],
+                limit,
+                enough: 0,
+            };
+            return search.predicate_step(0, 0, free, names::NO_SET);
         }
-        let x = super::stretches::stretch_end(lefts, rights, n, rows, from);
-        let m = super::stretches::list_outside(order, rows, lefts, rights, x, listed);
-        best = super::search::predicate_step(
-            listed, counts, masks, several, singles, m, limit, 0, 0, 0, free, best,
-        );
-        floor = x + 1;
+        let mut best: u32 = names::NO_SET;
+        let mut floor: u64 = 0;
+        while let Some(from) = self.next_left(floor) {
+            let x = self.stretch_end(from);
+            let m = self.list_outside(x, listed);
+            let search = Search {
+                rows: self.rows,
+                listed: &listed[..m],
+                limit,
+                enough: 0,
+            };
+            best = search.predicate_step(0, 0, free, best);
+            floor = x + 1;
+        }
+        best
     }
-}
 
-// The same set. Every end needs the entries, so where no set within the limit explains these, no end is tried. What is left in `listed` is free.
-pub fn least_within(
-    lefts: &[u64],
-    rights: &[u64],
-    counts: &[u32],
-    masks: &[u32],
-    several: &[u32],
-    singles: &[u32],
-    order: &[u32],
-    listed: &mut [u32],
-    n: usize,
-    rows: usize,
-    limit: u32,
-    free: u32,
-) -> u32
-    requires { (let t : Rows = rows_of counts.now masks.now several.now singles.now in
-        Ready n rows lefts.now rights.now t order.now × (rows ≤ length listed.old)) }
-    ensures fact { (let t : Rows = rows_of counts.now masks.now several.now singles.now in
-        LeastSet n rows lefts.now rights.now t order.now limit free result) }
-    ensures listed_len_unchanged { length listed.new ≡ length listed.old }
-{
-    let known = super::stretches::list_entries(order, rows, n, listed);
-    let some = super::search::predicate_step(
-        listed,
-        counts,
-        masks,
-        several,
-        singles,
-        known,
-        limit,
-        names::NO_SET,
-        0,
-        0,
-        free,
-        names::NO_SET,
-    );
-    if names::NO_SET <= some {
-        return names::NO_SET;
+    // The same set, if there is one. Every end needs the entries, so where no set within the limit explains these, no end is tried. What is left in
+    // `listed` is free.
+    pub fn least_within(&self, listed: &mut [u32], limit: u32, free: u32) -> Option<u32>
+        requires { length self.now.rows.now ≤ length listed.old }
+        ensures fact { LeastIn self.now limit free result }
+        ensures listed_len_unchanged { length listed.new ≡ length listed.old }
+    {
+        let known = self.list_entries(listed);
+        let search = Search {
+            rows: self.rows,
+            listed: &listed[..known],
+            limit,
+            enough: names::NO_SET,
+        };
+        if names::NO_SET <= search.predicate_step(0, 0, free, names::NO_SET) {
+            return None;
+        }
+        let set = self.least_set(listed, limit, free);
+        if names::NO_SET <= set {
+            return None;
+        }
+        Some(set)
     }
-    least_set(
-        lefts, rights, counts, masks, several, singles, order, listed, n, rows, limit, free,
-    )
 }

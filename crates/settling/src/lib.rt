@@ -1,193 +1,136 @@
-// The four steps of one receipt, one after the other, on the held data in columns and the entries in a table, and how much they leave.
+// The four steps of one receipt, one after the other, on the held data in rows and the entries in a table, and how much they leave.
 // Every function here is proved, and the crate assumes nothing of its own.
 #![tactic(auto)]
 
-ghost use Rattle.std.specs.Prelude.{◌≡◌, [], ◌∷◌, ◌+◌, ◌*◌, ◌≤◌, ◌<◌, max, length, set, T};
-ghost use Rattle.std.proofs.lemmas.List.Edits.{sets};
-ghost use Rattle.numbers.specs.Numbers.{tab};
+ghost use Rattle.std.specs.Prelude.{◌≡◌, [], ◌∷◌, ◌+◌, ◌≤◌, ◌<◌, max, length, map, take, filter, T, All, IfSome};
 ghost use Rattle.predicates.specs.Predicates.{implies};
 ghost use Rattle.ends.specs.Ends.{BothSplit};
-ghost use Rattle.ends.specs.code.Columns.{with_end};
-ghost use Rattle.state.specs.Layout.{state_size, datum_terms, entries_most, entry_terms, entry_count, store_of};
+ghost use Rattle.state.specs.Layout.{state_size, datum_terms, entry_terms, entry_count, store_of};
 ghost use Rattle.state.specs.code.Tables.{rows_most};
 ghost use Rattle.state.specs.Form.{in_form};
-ghost use Rattle.state.specs.code.Tables.{Columns, Table, table_from, columns, TableFits, ColumnsFit, EntriesStand};
-ghost use Rattle.state.specs.code.Tables.{entries_in, datum_of, datum_in, data_in, store_in};
-ghost use Rattle.entries.specs.code.Marks.{Marked, Left};
-ghost use Rattle.settling.specs.code.Rows.{DataLeft, live_below, with_term};
+ghost use Rattle.state.specs.code.Tables.{table_from, TableFits, HeldFits, EntriesStand};
+ghost use Rattle.state.specs.code.Tables.{has_terms, terms_of, datum_of, datum_in, data_in, store_in};
+ghost use Rattle.entries.specs.code.Rows.{known, Room, Kept};
+ghost use Rattle.settling.specs.code.Rows.{DataLeft, live, with_term};
 ghost use Rattle.steps.specs.Steps.{learnt, met, without, stored, settled};
 
 use ends::Ends;
+use entries::tables::Entries;
+use state::holding::Held;
 use steps::Rows;
 
-// Puts a datum last, into row h.
-pub fn add_datum(
-    lefts: &mut [u64],
-    rights: &mut [u64],
-    held: &mut [u32],
-    terms: &mut [u32],
-    h: usize,
-    new: Ends,
-    p: &[u32],
-)
-    requires { ColumnsFit (h + 1) (columns lefts.old rights.old held.old terms.old) × (length p.now ≤ datum_terms) }
-    ensures lefts_after { lefts.new ≡ with_end lefts.old h new.left }
-    ensures rights_after { rights.new ≡ with_end rights.old h new.right }
-    ensures held_after { held.new ≡ set held.old h (length p.now) }
-    ensures terms_after { terms.new ≡ sets terms.old (h * datum_terms) p.now }
+// Steps 3 and 4: the new datum is met with the oldest under its predicate, and stored behind the first h rows unless a held one betters it. Answers
+// how many rows of data there are now.
+fn place(held: &mut [Held], h: usize, new: Ends, p: &[u32]) -> usize
+    requires fit { All HeldFits (take h held.old) × (h < length held.old) }
+    requires p_nonzero { (0 < length p.now) × (length p.now ≤ datum_terms) × BothSplit new }
+    ensures fact { (result ≤ h + 1) × All HeldFits (take result held.new) × DataLeft (take h held.old) held.new }
+    ensures data_after { data_in (take result held.new)
+        ≡ stored (met (datum_of new p.now) (data_in (take h held.old))) (without p.now (data_in (take h held.old))) }
 {
-    entries::tables::add_row(held, terms, h, state::DATUM_TERMS, p);
-    ends::column::put(lefts, h, new.left);
-    ends::column::put(rights, h, new.right);
-}
-
-// Steps 3 and 4: the new datum is met with the oldest under its predicate, and stored unless a held one betters it. Answers how many rows of data
-// there are now.
-fn place(
-    lefts: &mut [u64],
-    rights: &mut [u64],
-    held: &mut [u32],
-    terms: &mut [u32],
-    h: usize,
-    new: Ends,
-    p: &[u32],
-) -> usize
-    requires columns_fit { ColumnsFit (h + 1) (columns lefts.old rights.old held.old terms.old) }
-    requires p_nonzero { (0 < length p.now) × (length p.now ≤ datum_terms) × (h ≤ rows_most) × BothSplit new }
-    ensures fact { (let c : Columns = columns lefts.new rights.new held.new terms.new in
-        (result ≤ h + 1) × ColumnsFit result c
-        × DataLeft h (columns lefts.old rights.old held.old terms.old) c) }
-    ensures terms_after { (let old : Columns = columns lefts.old rights.old held.old terms.old in
-        data_in result (columns lefts.new rights.new held.new terms.new)
-        ≡ stored (met (datum_of new p.now) (data_in h old)) (without p.now (data_in h old))) }
-{
-    let ends = steps::steps::meet(lefts, rights, held, terms, h, new, p);
-    if steps::steps::bettered(lefts, rights, held, terms, h, ends, p) {
+    let rows = &mut held[..h];
+    let ends = steps::steps::meet(rows, new, p);
+    if steps::steps::bettered(rows, ends, p) {
         return h;
     }
-    steps::steps::drop_bettered(lefts, rights, held, terms, h, ends, p);
-    add_datum(lefts, rights, held, terms, h, ends, p);
+    steps::steps::drop_bettered(rows, ends, p);
+    held[h] = Held::new(ends, p);
     h + 1
 }
 
 // Step 1: after a violation the blamed name is placed as an entry, which implies p, so that there is nothing else to learn; else what the new
-// datum and the held data teach. Answers how many rows of entries there are now.
-fn learn(
-    lefts: &[u64],
-    rights: &[u64],
-    held: &[u32],
-    terms: &[u32],
-    new: Ends,
-    p: &[u32],
-    s: &[u8],
-    counts: &mut [u32],
-    masks: &mut [u32],
-    marks: &mut [u32],
-    rows: Rows,
-    blame: u32,
-) -> usize
-    requires columns_fit { ColumnsFit rows.held (columns lefts.now rights.now held.now terms.now) }
-    requires state_size_in_bounds { (state_size ≤ length s.now) × (rows.known ≤ entries_most) }
-    requires table_fits { TableFits entry_terms (rows.known + max 1 rows.held) (table_from rows.known s.now counts.old masks.old) }
-    requires p_nonzero { (0 < length p.now) × (length p.now ≤ datum_terms) × (rows.known + max 1 rows.held ≤ length marks.old) × BothSplit new }
-    requires marked { Marked rows.known (table_from rows.known s.now counts.old masks.old) marks.old }
-    requires t { (blame ≡ 0 → ⊥) → T (implies (blame ∷ []) p.now) }
-    ensures fact { (let t : Table = table_from rows.known s.now counts.new masks.new in
-        (result ≤ rows.known + max 1 rows.held) × TableFits entry_terms result t × Marked result t marks.new
-        × Left rows.known counts.old counts.new) }
-    ensures masks_after { (let c : Columns = columns lefts.now rights.now held.now terms.now in
-        let old : Table = table_from rows.known s.now counts.old masks.old in
-        entries_in result (table_from rows.known s.now counts.new masks.new)
-        ≡ learnt (datum_of new p.now) (tab rows.held (datum_in c)) (with_term blame (entries_in rows.known old))) }
+// datum and the held data teach.
+fn learn(held: &[Held], new: Ends, p: &[u32], entries: &mut Entries<'_>, blame: Option<u32>)
+    requires fit { All HeldFits held.now × BothSplit new }
+    requires room { Room (max 1 (length held.now)) entries.old }
+    requires p_nonzero { (0 < length p.now) × (length p.now ≤ datum_terms) }
+    requires t { IfSome blame (λ t. T (implies (t ∷ []) p.now)) }
+    ensures kept { Kept entries.old entries.new × (entries.new.n ≤ entries.old.n + max 1 (length held.now)) }
+    ensures same_arrays { (entries.new.counts.ghost_name ≡ entries.old.counts.ghost_name)
+        × (entries.new.masks.ghost_name ≡ entries.old.masks.ghost_name) × (entries.new.marks.ghost_name ≡ entries.old.marks.ghost_name) }
+    ensures entries_after { known entries.new ≡ learnt (datum_of new p.now) (map datum_in held.now) (with_term blame (known entries.old)) }
 {
-    if blame != 0 {
-        return entries::tables::learn_term(s, rows.known, counts, masks, marks, rows.known, blame);
+    match blame {
+        Some(term) => entries.learn_term(term),
+        None => steps::steps::learn_all(held, new, p, entries),
     }
-    steps::steps::learn_all(
-        lefts, rights, held, terms, new, p, s, counts, masks, marks, rows,
-    )
 }
 
 // The four steps: what the new datum teaches, what the entries explain, and what becomes of it. The entries stay in the state's bytes; they are
 // marked first, since many predicates are held against them. After a violation of the sender's clock `blame` is its name as a term, which
-// implies p; else it is 0. Answers how many rows there are now. What stands in the arrays for rows without terms (a datum that is not stored,
-// say), and behind the last row, is free.
+// implies p. Answers how many rows there are now. What stands in the arrays for rows without terms (a datum that is not stored,
+// say), and behind the last row, is free. The caller's arrays come one by one, since the caller of a struct of loans would learn nothing of them.
 pub fn settle(
-    lefts: &mut [u64],
-    rights: &mut [u64],
-    held: &mut [u32],
-    terms: &mut [u32],
+    held: &mut [Held],
     new: Ends,
     p: &[u32],
     s: &[u8],
     counts: &mut [u32],
     masks: &mut [u32],
     rows: Rows,
-    blame: u32,
+    blame: Option<u32>,
 ) -> Rows
-    requires columns_fit { ColumnsFit (rows.held + 1) (columns lefts.old rights.old held.old terms.old) }
+    requires fit { All HeldFits (take rows.held held.old) × (rows.held < length held.old) × BothSplit new }
     requires state_size_in_bounds { (state_size ≤ length s.now) × T (in_form s.now) × (rows.known ≡ entry_count s.now) }
     requires table_fits { TableFits entry_terms (rows.known + max 1 rows.held) (table_from rows.known s.now counts.old masks.old) }
-    requires p_nonzero { (0 < length p.now) × (length p.now ≤ datum_terms) × (rows.known + max 1 rows.held ≤ rows_most) × BothSplit new }
-    requires t { (blame ≡ 0 → ⊥) → T (implies (blame ∷ []) p.now) }
-    requires c_value { (let c : Columns = columns lefts.old rights.old held.old terms.old in
-        tab rows.held (datum_in c) ≡ data_in rows.held c) }
+    requires p_nonzero { (0 < length p.now) × (length p.now ≤ datum_terms) × (rows.known + max 1 rows.held ≤ rows_most) }
+    requires t { IfSome blame (λ t. T (implies (t ∷ []) p.now)) }
+    requires all_held { map datum_in (take rows.held held.old) ≡ data_in (take rows.held held.old) }
     ensures held_bound { (result.held ≤ rows.held + 1) × (result.known ≤ rows.known + max 1 rows.held)
-        × (length lefts.new ≡ length lefts.old) × (length rights.new ≡ length rights.old)
-        × (length held.new ≡ length held.old) × (length terms.new ≡ length terms.old)
-        × (length counts.new ≡ length counts.old) × (length masks.new ≡ length masks.old) }
-    ensures fact { (let c : Columns = columns lefts.new rights.new held.new terms.new in
-        ColumnsFit result.held c
-        × DataLeft rows.held (columns lefts.old rights.old held.old terms.old) c) }
+        × (length held.new ≡ length held.old) × (length counts.new ≡ length counts.old) × (length masks.new ≡ length masks.old) }
+    ensures fact { All HeldFits (take result.held held.new) × DataLeft (take rows.held held.old) held.new }
     ensures table_fits_2 { TableFits entry_terms result.known (table_from rows.known s.now counts.new masks.new)
         × EntriesStand s.now counts.new }
-    ensures masks_after { (let c : Columns = columns lefts.new rights.new held.new terms.new in
-        let old : Columns = columns lefts.old rights.old held.old terms.old in
-        store_in result.held c result.known (table_from rows.known s.now counts.new masks.new)
+    ensures store_after { store_in (take result.held held.new) result.known (table_from rows.known s.now counts.new masks.new)
         ≡ settled (datum_of new p.now)
-        (record { held = data_in rows.held old; entries = with_term blame (store_of s.now).entries })) }
+        (record { held = data_in (take rows.held held.old); entries = with_term blame (store_of s.now).entries }) }
 {
     let h = rows.held;
     let first = rows.known;
     let mut marks = [0u32; state::ROWS_MOST];
     entries::tables::mark_rows(s, first, counts, &mut marks);
-    let known = learn(
-        lefts, rights, held, terms, new, p, s, counts, masks, &mut marks, rows, blame,
-    );
-    steps::steps::drop_explained(held, terms, h, s, first, counts, masks, &marks, known);
-    if entries::tables::explained(s, first, counts, masks, &marks, known, p) {
+    let mut entries = Entries {
+        state: s,
+        first,
+        counts,
+        masks,
+        marks: &mut marks,
+        n: first,
+    };
+    learn(&held[..h], new, p, &mut entries, blame);
+    steps::steps::drop_explained(&mut held[..h], &entries);
+    let known = entries.n;
+    if entries.explained(p) {
         return Rows { held: h, known };
     }
-    let held_rows = place(lefts, rights, held, terms, h, new, p);
     Rows {
-        held: held_rows,
+        held: place(held, h, new, p),
         known,
     }
 }
 
-// How many of the first n rows have terms.
-fn live(counts: &[u32], n: usize) -> usize
-    requires { n ≤ length counts.now }
-    ensures { (result ≡ live_below n counts.now) × (result ≤ n) }
+// How many rows have terms.
+fn live_rows(held: &[Held]) -> usize
+    ensures { result ≡ length (filter (λ r. has_terms (terms_of r)) held.now) }
 {
-    let mut rows: usize = 0;
-    let mut i: usize = 0;
-    while i < n {
-        if counts[i] != 0 {
-            rows += 1;
-        }
-        i += 1;
-    }
-    rows
+    held.iter().filter(|row| row.is_live()).count()
+}
+
+// How many counts of terms are not zero.
+// It and `live_rows` are one-line chains over two types: a trait for both would be longer.
+#[tactic(auto, unfolding(crate::specs::code::Rows::live))]
+fn live(counts: &[u32]) -> usize
+    ensures { result ≡ live counts.now }
+{
+    counts.iter().filter(|count| **count != 0).count()
 }
 
 // How many rows of data and of entries have terms: what a receipt leaves, before a byte of it is written.
-pub fn count(held: &[u32], counts: &[u32], rows: Rows) -> Rows
-    requires { (rows.held ≤ length held.now) × (rows.known ≤ length counts.now) }
-    ensures { (result.held ≡ live_below rows.held held.now) × (result.known ≡ live_below rows.known counts.now) }
+pub fn count(held: &[Held], counts: &[u32]) -> Rows
+    ensures { (result.held ≡ length (data_in held.now)) × (result.known ≡ live counts.now) }
 {
     Rows {
-        held: live(held, rows.held),
-        known: live(counts, rows.known),
+        held: live_rows(held),
+        known: live(counts),
     }
 }

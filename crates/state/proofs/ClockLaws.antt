@@ -9,7 +9,8 @@ use lib.Dec.{T, eqb, eqb→eq}
 use lib.ListN.{length, get_or}
 use Rattle.numbers.specs.Numbers.{num, bytes, tab, Bytes}
 use Rattle.numbers.proofs.NumberLaws.{bytes-num, length-bytes, tab_ext}
-use Rattle.predicates.specs.Lists.{all, all_below}
+use Rattle.std.specs.List.{list_all}
+use Rattle.predicates.specs.Lists.{all_below}
 use Rattle.predicates.proofs.ListLaws.{both_l, both_r}
 use Rattle.predicates.proofs.IndexLaws.{all_get_or, below_in}
 use Rattle.clocks.specs.declared.Triple.{Triple}
@@ -152,7 +153,7 @@ saved_part at s t b h = go (eqb (num at 4 s) 0) refl t ∙ place_part at s b h
 -- ---- the places of all names
 
 -- what stands at them is read, and in form
-pub clocks_in : (cs : List Saved) (s : List ℕ) → length cs ≡ clocks_most → T (all saved_ok cs) → At clocks_at (joined saved_bytes cs) s
+pub clocks_in : (cs : List Saved) (s : List ℕ) → length cs ≡ clocks_most → T (list_all saved_ok cs) → At clocks_at (joined saved_bytes cs) s
     → (tab clocks_most (λ i. saved_at (clock_place i) s) ≡ cs) × T (all_below clocks_most (λ i. place_fits (clock_place i) s))
 clocks_in cs s e t k = (
   tab_ext nothing clocks_most _ cs e (λ i l. (each i l).0),

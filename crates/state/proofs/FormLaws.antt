@@ -15,7 +15,8 @@ use lib.ListN.{length, get_or, drop, replicate, length-append, length-replicate,
 use lib.Seq.{take_at, drop_at, length-take-le}
 use Rattle.numbers.specs.Numbers.{num, bytes, tab, Bytes, bytes_of}
 use Rattle.numbers.proofs.NumberLaws.{bytes-num, length-bytes, length-tab, tab_ext}
-use Rattle.predicates.specs.Lists.{all, all_below, padded}
+use Rattle.std.specs.List.{list_all}
+use Rattle.predicates.specs.Lists.{all_below, padded}
 use Rattle.predicates.proofs.ListLaws.{both, both_l, both_r, true_T}
 use Rattle.ends.specs.Ends.{million, count, count_of, BothSplit}
 use Rattle.ends.specs.declared.Ends.{Ends}
@@ -42,7 +43,7 @@ zeros_in at k to s e h =
 pub zeros_out : (at k to : ℕ) (s : List ℕ) → to ≡ at + k → to ≤ length s → T (is_zero at to s) → part at k s ≡ zeros k
 unfolding is_zero
 zeros_out at k to s e h t =
-    let all_of : T (all (λ b. eqb b 0) (part at k s)) = rw (e, slice_part at k s) at t in
+    let all_of : T (list_all (λ b. eqb b 0) (part at k s)) = rw (e, slice_part at k s) at t in
     all_zero (part at k s) all_of ∙ rw (length_part at k s (omega arith))
 
 module _ {A : Type 0} (f : A → List ℕ) (size cap at : ℕ) where
@@ -55,7 +56,7 @@ module _ {A : Type 0} (f : A → List ℕ) (size cap at : ℕ) where
       let behind = zeros_out (at + n * size) ((cap - n) * size) (at + cap * size) s (omega arith) k t in
       rw (e, part_add at (n * size) ((cap - n) * size) s, behind, joined-tab f size at n g s each)
 
-  module _ (p : A → Bool) (sized : (x : A) → T (p x) → length (f x) ≡ size) (xs : List A) (t : T (all p xs)) (h : length xs ≤ cap) where
+  module _ (p : A → Bool) (sized : (x : A) → T (p x) → length (f x) ≡ size) (xs : List A) (t : T (list_all p xs)) (h : length xs ≤ cap) where
     pub length_filled : length (joined f xs ++ zeros ((cap - length xs) * size)) ≡ cap * size
     length_filled =
         rw (length-append, length-replicate, length-joined f p size sized xs t) (sym (sizes_add cap (length xs) size h))
@@ -105,8 +106,8 @@ module _ (own width at : ℕ) (p s : List ℕ) (w : width ≤ 16) (t : T (terms_
   unfolding row_bytes masks_at padded is_word terms_fit
   row-masks =
       let ws = padded width p in
-      let terms : T (all (term_fits own) p) = search (both_l, both_r) depth 9 in
-      let each : T (all is_word ws) =
+      let terms : T (list_all (term_fits own) p) = search (both_l, both_r) depth 9 in
+      let each : T (list_all is_word ws) =
       all_append is_word p _ (all_mono (term_fits own) is_word p (term_word own) terms) (all_replicate is_word (width - length p) 0 tt) in
       let here : At (at + 4) (joined (bytes 4) ws) s =
       rw bytes_of-joined at (at_then 4 at (bytes 4 (length p)) (bytes_of ws) s (length-bytes 4 (length p)) h) in
@@ -144,7 +145,7 @@ module _ (own width at : ℕ) (s : List ℕ) (t : T (row_fits own width at s)) w
   row-padded =
       let n = num at 4 s in
       let ms = masks_at width at s in
-      let unused : T (all (λ v. eqb v 0) (drop n ms)) = search (both_l, both_r) depth 9 in
+      let unused : T (list_all (λ v. eqb v 0) (drop n ms)) = search (both_l, both_r) depth 9 in
       let long : length (drop n ms) ≡ width - n = length-drop n ms ∙ rw length-tab in
       let rest : zeros (width - n) ≡ drop n ms = sym (all_zero (drop n ms) unused ∙ rw long) in
       rw (length-row_at, rest) (take-append-drop n ms)
@@ -292,3 +293,6 @@ module _ (e : Ends) (split : BothSplit e) where
   pub ordered-both : (a b : Bool) → a ≡ ltb (count_of e.right) (count_of e.left) → b ≡ ltb (count_of e.right) end_limit
       → (not a && b) ≡ leb (count_of e.left) (count_of e.right) && ltb (count_of e.right) end_limit
   ordered-both a b p q = rw (p, q, not_precedes)
+
+-- what the tests of a datum's ends tell
+pub ruleset datum_tests = (left-fails, right-fails, ends_fit)

@@ -13,7 +13,8 @@ use lib.ListN.{length, get_or, take, drop, get_or-append, length-append, length-
 use lib.Seq.{slice, take-nil, take-add, take_at, drop_at, drop-drop, get_or-drop, length-take-le}
 use Rattle.numbers.specs.Numbers.{num, bytes, tab, bytes_of}
 use Rattle.numbers.proofs.NumberLaws.{num-bytes, length-bytes, length-bytes_of, tab_ext}
-use Rattle.predicates.specs.Lists.{all, padded}
+use Rattle.std.specs.List.{list_all}
+use Rattle.predicates.specs.Lists.{padded}
 use Rattle.predicates.proofs.ListLaws.{both, both_l, both_r}
 use Rattle.epochs.specs.Epochs.{epochs_most, epochs_in}
 use Rattle.state.specs.Model.{Datum}
@@ -23,14 +24,14 @@ use Rattle.predicates.proofs.IndexLaws.{all_append}
 -- ---- tests over all elements
 
 module _ {A : Type 0} where
-  pub all-tab : (f : A → Bool) (n : ℕ) (g : ℕ → A) → ((i : ℕ) → i < n → T (f (g i))) → T (all f (tab n g))
+  pub all-tab : (f : A → Bool) (n : ℕ) (g : ℕ → A) → ((i : ℕ) → i < n → T (f (g i))) → T (list_all f (tab n g))
   unfolding tab
   all-tab f zero g h = tt
   all-tab f (suc n) g h =
       all_append f (tab n g) (g n ∷ []) (all-tab f n g (λ i k. h i (omega arith))) (both (f (g n)) true (h n (omega arith)) tt)
 
 -- a list of zeros alone
-pub all_zero : (l : List ℕ) → T (all (λ b. eqb b 0) l) → l ≡ zeros (length l)
+pub all_zero : (l : List ℕ) → T (list_all (λ b. eqb b 0) l) → l ≡ zeros (length l)
 all_zero [] t = refl
 all_zero (b ∷ l) t =
     let e : b ≡ 0 = eqb→eq b 0 (both_l (eqb b 0) _ t) in
@@ -101,22 +102,22 @@ module _ {A : Type 0} (f : A → List ℕ) where
 
   -- elements of one size
   module _ (p : A → Bool) (size : ℕ) (sized : (x : A) → T (p x) → length (f x) ≡ size) where
-    pub length-joined : (xs : List A) → T (all p xs) → length (joined f xs) ≡ length xs * size
+    pub length-joined : (xs : List A) → T (list_all p xs) → length (joined f xs) ≡ length xs * size
     unfolding joined
     length-joined [] t = rw zero-mul
     length-joined (x ∷ xs) t =
-        rw (length-append, sized x (both_l (p x) (all p xs) t), length-joined xs (both_r (p x) (all p xs) t), suc-mul) (omega arith)
+        rw (length-append, sized x (both_l (p x) (list_all p xs) t), length-joined xs (both_r (p x) (list_all p xs) t), suc-mul) (omega arith)
 
     -- element i stands i sizes on
-    pub at_joined : (d : A) (at i : ℕ) (xs : List A) (s : List ℕ) → T (all p xs) → i < length xs → At at (joined f xs) s
+    pub at_joined : (d : A) (at i : ℕ) (xs : List A) (s : List ℕ) → T (list_all p xs) → i < length xs → At at (joined f xs) s
         → At (at + i * size) (f (get_or xs i d)) s
     unfolding joined
     at_joined d at i [] s t k h = absurd (omega arith)
     at_joined d at zero (x ∷ xs) s t k h = rw (zero-mul, add-zero) (at_first_lem at (f x) (joined f xs) s h)
     at_joined d at (suc i) (x ∷ xs) s t k h =
-        let rest = at_then size at (f x) (joined f xs) s (sized x (both_l (p x) (all p xs) t)) h in
+        let rest = at_then size at (f x) (joined f xs) s (sized x (both_l (p x) (list_all p xs) t)) h in
         let e : at + suc i * size ≡ at + size + i * size = rw suc-mul (omega arith) in
-        rw e (at_joined d (at + size) i xs s (both_r (p x) (all p xs) t) (omega arith) rest)
+        rw e (at_joined d (at + size) i xs s (both_r (p x) (list_all p xs) t) (omega arith) rest)
 
 -- ---- length
 

@@ -5,8 +5,7 @@ use mathlib.Core.Path.{◌≡◌, refl, sym, ap, ◌∙◌}
 use mathlib.Core.List.{List, ◌++◌}
 use native.Mathlib.Nat.{add-zero}
 use native.Mathlib.Omega.{arith}
-use lib.ListN.{length, take, drop}
-use lib.Seq.{take-length}
+use lib.ListN.{length, drop}
 use Rattle.predicates.specs.Lists.{padded}
 use Rattle.numbers.specs.Numbers.{num, bytes, put, bytes_of}
 use Rattle.numbers.proofs.NumberLaws.{length-bytes, put_then, length-bytes_of, bytes_of-append}
@@ -16,7 +15,7 @@ use Rattle.ends.proofs.EndLaws.{count-whole, count_millionths}
 use Rattle.state.specs.Layout.{zeros, row_bytes, datum_bytes, datum_terms, datum_place, row_in}
 use Rattle.state.specs.code.Tables.{datum_of, ends_at, with_ends}
 use Rattle.state.proofs.LayoutLaws.{At, num-drop, length-row}
-use Rattle.state.proofs.PutLaws.{drop-put, put_stands}
+use Rattle.state.proofs.PutLaws.{drop-put, put_stands, put_swap}
 
 -- ---- a row
 
@@ -30,14 +29,14 @@ bytes_of-zeros (suc k) =
 
 -- the count, the terms behind it, and zeros up to the width
 pub row_put : (width at : ℕ) (ts s a b c : List ℕ) → length ts ≤ width → a ≡ put at (bytes 4 (length ts)) s
-    → b ≡ put (at + 4) (bytes_of (take (length ts) ts)) a
+    → b ≡ put (at + 4) (bytes_of ts) a
     → c ≡ put (at + 4 + length ts * 4) (zeros (at + 4 + width * 4 - (at + 4 + length ts * 4))) b → c ≡ put at (row_bytes width ts) s
 unfolding row_bytes padded
 row_put width at ts s a b c h p q r =
     let n = length ts in
     let left : at + 4 + width * 4 - (at + 4 + n * 4) ≡ (width - n) * 4 = omega arith in
     let masks : c ≡ put (at + 4) (bytes_of ts ++ zeros ((width - n) * 4)) a =
-    put_then (n * 4) (at + 4) (at + 4 + n * 4) (bytes_of ts) (zeros ((width - n) * 4)) a b c (length-bytes_of ts) refl (rw take-length at q) (rw left at r) in
+    put_then (n * 4) (at + 4) (at + 4 + n * 4) (bytes_of ts) (zeros ((width - n) * 4)) a b c (length-bytes_of ts) refl q (rw left at r) in
     rw (bytes_of-append ts (zeros (width - n)), bytes_of-zeros (width - n))
     (put_then 4 at (at + 4) (bytes 4 n) (bytes_of ts ++ zeros ((width - n) * 4)) s a c (length-bytes 4 n) refl p masks)
 
@@ -65,6 +64,19 @@ datum-put at e ts s a b c d f split few p q r v w =
       count_millionths e.right.whole e.right.millionths split.1,
     )
     (put_then 8 at (at + 8) (bytes 8 e.left.whole) (right ++ (row ++ (low ++ high))) s a f (length-bytes 8 e.left.whole) refl p behind)
+
+-- the row first, and then the ends around it
+pub datum_written : (i : ℕ) (e : Ends) (ts s : List ℕ) → BothSplit e → length ts ≤ datum_terms
+    → with_ends i e (put (datum_place i + row_in) (row_bytes datum_terms ts) s) ≡ put (datum_place i) (datum_bytes (datum_of e ts)) s
+unfolding with_ends
+datum_written i e ts s split few =
+    let at = datum_place i in
+    let left = bytes 8 e.left.whole in
+    let right = bytes 8 e.right.whole in
+    let row = row_bytes datum_terms ts in
+    let first = put_swap at (at + 16) left row s (omega (arith, length-bytes 8 e.left.whole)) in
+    let second = put_swap (at + 8) (at + 16) right row (put at left s) (omega (arith, length-bytes 8 e.right.whole)) in
+    datum-put at e ts s _ _ _ _ _ split few refl refl (rw first second) refl refl
 
 -- other ends, where the row stands
 pub ends-put : (i : ℕ) (e : Ends) (ts s : List ℕ) → BothSplit e → length ts ≤ datum_terms → At (datum_place i + row_in) (row_bytes datum_terms ts) s

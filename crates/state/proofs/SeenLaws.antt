@@ -6,10 +6,11 @@ use mathlib.Core.Bool.{false}
 use mathlib.Core.List.{List, [], ◌++◌, append-nil}
 use native.Mathlib.Omega.{arith}
 use lib.Dec.{T, not_T, leb→le, eqb, eqb→eq, ltb, ltb→lt}
-use lib.ListN.{length, get_or, take, drop, drop_of_length-le, get_or-append}
+use lib.ListN.{length, get_or, take, drop, get_or-append}
 use lib.Seq.{drop_at}
 use Rattle.numbers.specs.Numbers.{num, tab}
-use Rattle.predicates.specs.Lists.{all, padded}
+use Rattle.std.specs.List.{list_all}
+use Rattle.predicates.specs.Lists.{padded}
 use Rattle.predicates.specs.Predicates.{is_normal, is_true}
 use Rattle.predicates.proofs.ListLaws.{both_l, both_r, any_out, all_out, T_false}
 use Rattle.predicates.proofs.PredicateLaws.{true_first}
@@ -22,7 +23,7 @@ use Rattle.state.proofs.FormLaws.{row_le, length-row_at, row-padded}
 use Rattle.state.proofs.StoreLaws.{length-masks}
 
 -- terms that fit leave a predicate open
-pub fits_untrue : (own : ℕ) (p : List ℕ) → T (all (term_fits own) p) → is_true p ≡ false
+pub fits_untrue : (own : ℕ) (p : List ℕ) → T (list_all (term_fits own) p) → is_true p ≡ false
 unfolding term_fits is_true
 fits_untrue own p t =
     T_false (is_true p) (not_T (is_true p) (λ h.
@@ -52,10 +53,10 @@ module _ (own width at : ℕ) (s : List ℕ) (t : T (row_fits own width at s)) w
       true_first w (withdraw-normal r (row_at width at s)) some ∙ ap (λ (x : ℕ). eqb x 0) (sym (get_or-append w (zeros (width - length w)) 0 0 some))
 
   -- its masks have been read, and are withdrawn or left
-  module _ (row₀ row : List ℕ) (e : length row₀ ≡ width) (q : row ≡ tab width (λ k. num (at + 4 + k * 4) 4 s) ++ drop width row₀) where
+  module _ (row : List ℕ) (q : row ≡ tab width (λ k. num (at + 4 + k * 4) 4 s)) where
     row_read : row ≡ masks_at width at s
     unfolding masks_at
-    row_read = q ∙ ap (λ (l : List ℕ). masks_at width at s ++ l) (drop_of_length-le row₀ {i = width} (omega arith)) ∙ append-nil (masks_at width at s)
+    row_read = q
 
     pub seen_read : (r n : ℕ) → r ≡ 0 → n ≡ num at 4 s
         → ((n ≡ length (withdraw r (row_at width at s))) × (n ≤ width)) × (row ≡ padded width (withdraw r (row_at width at s)))

@@ -11,7 +11,8 @@ use lib.Dec.{T, leb, leb→le, ltb→lt, eqb, eqb→eq}
 use lib.ListN.{length, get_or, take, drop, set, length-set, take-append-drop}
 use Rattle.numbers.specs.Numbers.{num, put, tab, Bytes}
 use Rattle.numbers.proofs.NumberLaws.{bytes-num, put_front, length-bytes, length-tab, get_or-tab}
-use Rattle.predicates.specs.Lists.{all, all_below}
+use Rattle.std.specs.List.{list_all}
+use Rattle.predicates.specs.Lists.{all_below}
 use Rattle.predicates.proofs.ListLaws.{both, both_l, both_r}
 use Rattle.epochs.specs.Epochs.{epoch_most, epochs_most, epochs_in}
 use Rattle.epochs.proofs.EpochLaws.{length_known, known_slice}
@@ -45,14 +46,14 @@ pub record OkState (st : State) : Type 0 where
   pub own_le : st.head.own ≤ name_most
   pub drift_le : st.head.drift ≤ drift_most
   pub reading_lt : st.head.reading < reading_limit
-  pub held : T (all (datum_ok st.head.own) st.store.held)
-  pub entries : T (all (terms_fit st.head.own 16) st.store.entries)
+  pub held : T (list_all (datum_ok st.head.own) st.store.held)
+  pub entries : T (list_all (terms_fit st.head.own 16) st.store.entries)
   pub held_le : length st.store.held ≤ 16
   pub entries_le : length st.store.entries ≤ 32
   pub clocks-all : length st.head.clocks ≡ clocks_most
-  pub clocks : T (all saved_ok st.head.clocks)
+  pub clocks : T (list_all saved_ok st.head.clocks)
   pub epochs-all : length st.head.epochs ≡ epochs_most
-  pub epochs : T (all (λ e. leb e epoch_most) st.head.epochs)
+  pub epochs : T (list_all (λ e. leb e epoch_most) st.head.epochs)
 
 pub state_out : (st : State) → T (state_ok st) → OkState st
 unfolding state_ok head_ok store_ok counts_ok
@@ -170,7 +171,7 @@ module _ (st : State) (t : T (state_ok st)) where
   encode_form rest = state-form (state_bytes st ++ rest) (rest, refl)
 
 -- nothing is asked of the elements
-all_true : {A : Type 0} (xs : List A) → T (all (λ x. true) xs)
+all_true : {A : Type 0} (xs : List A) → T (list_all (λ x. true) xs)
 all_true [] = tt
 all_true (x ∷ xs) = all_true xs
 
@@ -341,7 +342,7 @@ pub epochs_fit_lem : (s : List ℕ) → T (in_form s) → (n : ℕ) → get_or (
 unfolding in_form epochs_fit
 epochs_fit_lem s t n = all_places (epochs_in epochs_at s) (search (both_l, both_r) depth 9) n
   where
-    all_places : (es : List ℕ) → T (all (λ e. leb e epoch_most) es) → (n : ℕ) → get_or es n 0 ≤ epoch_most
+    all_places : (es : List ℕ) → T (list_all (λ e. leb e epoch_most) es) → (n : ℕ) → get_or es n 0 ≤ epoch_most
     all_places [] k n = omega arith
     all_places (e ∷ es) k zero = leb→le e epoch_most (both_l (leb e epoch_most) _ k)
     all_places (e ∷ es) k (suc n) = all_places es (both_r (leb e epoch_most) _ k) n
@@ -350,3 +351,14 @@ epochs_fit_lem s t n = all_places (epochs_in epochs_at s) (search (both_l, both_
 pub own-fits : (s : List ℕ) → T (in_form s) → num own_at 4 s ≤ name_most
 unfolding state_of head_of
 own-fits s t = (state_out (state_of s) (form_ok s t)).own_le
+
+pub drift-fits : (s : List ℕ) → T (in_form s) → num drift_at 4 s ≤ drift_most
+unfolding state_of head_of
+drift-fits s t = (state_out (state_of s) (form_ok s t)).drift_le
+
+pub reading-fits : (s : List ℕ) → T (in_form s) → num reading_at 8 s < reading_limit
+unfolding state_of head_of
+reading-fits s t = (state_out (state_of s) (form_ok s t)).reading_lt
+
+-- the ranges of the head's numbers
+pub ruleset head_ranges = (own-fits, drift-fits, reading-fits, held_count_le, entry_count_le)

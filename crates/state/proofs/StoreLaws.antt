@@ -1,39 +1,38 @@
--- Moving data and entries between a state's bytes and flat arrays (`store`): the turns of its loops, and what the arrays hold of the bytes.
+-- Moving data and entries between a state's bytes and arrays (`store`): the turns of its loops, and what the arrays hold of the bytes.
 -- The idea: `Column` says that a loop has filled the front of an array, and `Written` that it has stored elements of one size one behind the
 -- other; each has the laws `-none`, `-next` and `-done`. What stands in the arrays is then read off the equations that the contracts give.
 -- No contract cites this file. Assumes nothing.
 use Prim.Native.Nat.{ℕ, zero, suc, ◌+◌, ◌*◌, ◌-◌, ◌≤◌, ◌<◌}
 use mathlib.Core.Path.{◌≡◌, refl, sym, ap, ◌∙◌}
 use mathlib.Core.Bool.{Bool, true, false}
-use mathlib.Core.List.{List, [], ◌∷◌, ◌++◌, append-nil}
+use mathlib.Core.List.{List, [], ◌∷◌, ◌++◌, append-nil, map, map-append}
 use mathlib.Core.Logic.{inl, inr, ⊎_elim}
 use native.Mathlib.Nat.{zero-add, suc-mul, eq-or-lt_of_le}
 use native.Mathlib.Numerals.{add-one}
 use native.Mathlib.Omega.{arith}
 use native.Mathlib.Decide.{dec_lt}
 use lib.Dec.{T, leb, leb→le, le→leb, eqb, eqb→eq, eqb_refl}
-use lib.ListN.{length, get_or, take, drop, set, length-append, length-take, length-drop, length-set, length-replicate, get_or-append}
+use lib.ListN.{length, get_or, take, drop, set, length-append, length-take, length-drop, length-set, length-replicate, get_or-append, take-append-drop}
+use Rattle.std.specs.Prelude.{All}
+use Rattle.std.proofs.lemmas.List.{take_more, get_or_past, get_or-take, length-take-le}
 use lib.Seq.{take-append-le, drop_at, drop-drop, get_or-append-add, get_or-drop}
 use Rattle.numbers.specs.Numbers.{num, bytes, put, tab, Bytes}
-use Rattle.numbers.proofs.NumberLaws.{length-bytes, num-put-apart, length-put, put_then, put_front, length-tab, get_or-tab, tab_next}
-use Rattle.predicates.specs.Lists.{all, keep}
-use Rattle.predicates.proofs.ListLaws.{all_keep, both_l, both_r, keep_all}
+use Rattle.numbers.proofs.NumberLaws.{length-bytes, num-put-apart, length-put, put_then, put_front, length-tab, get_or-tab, put-append}
+use Rattle.std.specs.List.{list_all, filter}
+use Rattle.predicates.proofs.ListLaws.{all_keep, both, both_l, both_r, keep_all}
 use Rattle.state.specs.Layout.{state_size, held_at, known_at, data_at, data_most, datum_size, datum_terms, entries_at, entries_most, entry_size, entry_terms, data_bytes, entries_bytes, datum_place, entry_place, held_count, entry_count, zeros, joined, datum_bytes, entry_bytes, masks_at, row_at, datum_at, entry_at, store_of, own_at, row_in}
 use Rattle.state.specs.Form.{is_zero, data_fit, entries_fit, in_form, datum_ok, terms_fit}
 use Rattle.state.proofs.LayoutLaws.{all-tab, At, num-drop, length-joined, at_joined, length-datum, length_entry}
 use Rattle.state.proofs.PutLaws.{zero_behind, joined-last, put_swap, put_stands, drop-put}
 use Rattle.state.proofs.StateLaws.{held_count_le, entry_count_le, form-datum, datum_at_ok, length-datum_at, entry_at_ok, length-entry_at, datum_stands, entry_stands}
-use Rattle.state.specs.code.Tables.{Table, Columns, table_of, table, columns, entry_masks, table_from, TableFits, ColumnsFit, row_of, has_terms, entries_in, datum_in, data_in, ends_at, DataStand, EntriesStand}
-use Rattle.state.specs.Model.{datum}
-use Rattle.numbers.proofs.NumberLaws.{tab_suc, tab_cong}
+use Rattle.state.specs.declared.holding.Held.{Held}
+use Rattle.state.specs.code.Tables.{Table, table, entry_masks, table_from, TableFits, HeldFits, row_of, has_terms, entries_in, terms_of, datum_in, data_in, ends_at, datum_row, DataStand, DataInPlace, EntriesStand}
+use Rattle.numbers.proofs.NumberLaws.{tab_suc, tab_cong, map-tab}
 use Rattle.predicates.proofs.ListLaws.{keep_append}
-use Rattle.state.proofs.RowLaws.{row-lent, row-empty}
+use Rattle.state.proofs.RowLaws.{row-empty}
 use Rattle.state.proofs.RowLaws.{row_full, table-room}
 use Rattle.state.specs.Model.{Datum}
 use Rattle.state.proofs.FormLaws.{length_filled, ends_split}
-use Rattle.ends.specs.declared.End.{End}
-use Rattle.ends.specs.Ends.{million, count_of, Split, BothSplit}
-use Rattle.ends.specs.code.Columns.{end_numbers, end_in, with_end, AllSplit}
 
 -- ---- a loop that fills the front of an array
 
@@ -47,9 +46,10 @@ unfolding tab put
 column_none f s = record { long = refl; stored = refl }
 
 pub column_next : (f : ℕ → ℕ) (i v : ℕ) (s₀ s : List ℕ) → v ≡ f i → Column f i s₀ s → Column f (i + 1) s₀ (set s i v)
+unfolding tab put
 column_next f i v s₀ s e w =
     let place : i ≡ 0 + i = omega arith in
-    record { long = length-set s i v ∙ w.long; stored = tab_next f 0 i i v s₀ s place e w.stored }
+    record { long = length-set s i v ∙ w.long; stored = rw (add-one, put-append i 0 (tab i f) (f i ∷ []) s₀ (length-tab i f), ← place, e, w.stored) }
 
 pub column_done : (f : ℕ → ℕ) (n i : ℕ) (s₀ s : List ℕ) → i ≤ n → n ≤ i → n ≤ length s₀ → Column f i s₀ s → s ≡ tab n f ++ drop n s₀
 column_done f n i s₀ s h k l w =
@@ -88,74 +88,38 @@ module _ {A : Type 0} (f : A → List ℕ) where
         let swap = put_swap at k (joined f xs) (f x) s₀ (omega (arith, w.sized)) in
         w.stored ∙ ap (λ (l : List ℕ). put at (joined f xs) l) (sym q) ∙ swap ∙ ap (λ (l : List ℕ). put k (f x) l) (sym w.stored)
 
--- ---- rows of one size, read
-
--- the first i rows stand at the front, one behind the other; the rest is as it was
-abbrev pub Laid : {A : Type 0} → (A → List ℕ) → ℕ → (ℕ → A) → ℕ → List ℕ → List ℕ → Type 0
-Laid g size f i s₀ s = Written g size 0 (tab i f) i s₀ s
-
-module _ {A : Type 0} (g : A → List ℕ) (size : ℕ) (f : ℕ → A) where
-  pub laid_none : (s : List ℕ) → Laid g size f 0 s s
-  unfolding tab
-  laid_none s = written_none g size 0 s
-
-  pub laid_next : (i : ℕ) (s₀ s u : List ℕ) → length (g (f i)) ≡ size → u ≡ put (i * size) (g (f i)) s → Laid g size f i s₀ s → Laid g size f (i + 1) s₀ u
-  laid_next i s₀ s u e q w = rw (tab_suc i f) (written_next g size 0 (tab i f) (f i) i (i * size) s₀ s u e (omega arith) q w)
-
-  pub laid_done : (n i : ℕ) (s₀ s : List ℕ) → i ≤ n → n ≤ i → n * size ≤ length s₀ → Laid g size f i s₀ s
-      → s ≡ joined g (tab n f) ++ drop (n * size) s₀
-  laid_done n i s₀ s h k l w =
-      let done : i ≡ n = omega arith in
-      let z : Laid g size f n s₀ s = rw done at w in
-      z.stored ∙ put_front (n * size) (joined g (tab n f)) s₀ z.sized l
+-- ---- rows, read
 
 pub length-masks : (width at : ℕ) (s : List ℕ) → length (masks_at width at s) ≡ width
 unfolding masks_at
 length-masks width at s = length-tab width (λ j. num (at + 4 + j * 4) 4 s)
 
--- one row, read into a fresh array
-pub masks-fresh : (at : ℕ) (s : List ℕ) → put 0 (masks_at entry_terms at s) (zeros entry_terms) ≡ masks_at entry_terms at s
-masks-fresh at s =
-    let row = masks_at entry_terms at s in
-    put_front entry_terms row (zeros entry_terms) (length-masks entry_terms at s) (omega arith) ∙ append-nil row
-
--- one end more of a column
-pub end_laid : (f : ℕ → End) (i : ℕ) (e : End) (l₀ l u : List ℕ) → e ≡ f i → u ≡ with_end l i e → Laid end_numbers 2 f i l₀ l
-    → Laid end_numbers 2 f (i + 1) l₀ u
-unfolding put
-end_laid f i e l₀ l u p q w = laid_next end_numbers 2 f i l₀ l u refl (q ∙ rw (p, add-one)) w
-
 -- ---- the rows that have terms, written
 
 module _ {A : Type 0} (g : A → Bool) (r : ℕ → A) where
-  pub kept_next_lem : (i : ℕ) → g (r i) ≡ true → keep g (tab (i + 1) r) ≡ keep g (tab i r) ++ (r i ∷ [])
+  pub kept_next_lem : (i : ℕ) → g (r i) ≡ true → filter g (tab (i + 1) r) ≡ filter g (tab i r) ++ (r i ∷ [])
   kept_next_lem i e = rw (tab_suc i r, keep_append g (tab i r) (r i ∷ []), e)
 
-  pub kept_skip : (i : ℕ) → g (r i) ≡ false → keep g (tab (i + 1) r) ≡ keep g (tab i r)
-  kept_skip i e = rw (tab_suc i r, keep_append g (tab i r) (r i ∷ []), e) (append-nil (keep g (tab i r)))
+  pub kept_skip : (i : ℕ) → g (r i) ≡ false → filter g (tab (i + 1) r) ≡ filter g (tab i r)
+  kept_skip i e = rw (tab_suc i r, keep_append g (tab i r) (r i ∷ []), e) (append-nil (filter g (tab i r)))
 
   -- fewer rows, no more kept
-  pub kept_le : (n i : ℕ) → i ≤ n → length (keep g (tab i r)) ≤ length (keep g (tab n r))
+  pub kept_le : (n i : ℕ) → i ≤ n → length (filter g (tab i r)) ≤ length (filter g (tab n r))
   unfolding tab
   kept_le zero i h = let e : i ≡ 0 = omega arith in rw e (omega arith)
   kept_le (suc n) i h =
-      let more = ap length (keep_append g (tab n r) (r n ∷ [])) ∙ length-append (keep g (tab n r)) (keep g (r n ∷ [])) in
+      let more = ap length (keep_append g (tab n r) (r n ∷ [])) ∙ length-append (filter g (tab n r)) (filter g (r n ∷ [])) in
       ⊎_elim (λ (e : i ≡ suc n). rw e (omega arith)) (λ (k : i < suc n). omega (arith, more, kept_le n i (omega arith))) (eq-or-lt_of_le h)
 
 -- there is room for one more
-pub kept-room : {A : Type 0} (g : A → Bool) (f : ℕ → A) (n i m r : ℕ) → i < n → g (f i) ≡ true → r ≡ length (keep g (tab i f))
-    → length (keep g (tab n f)) ≤ m → r < m
+pub kept-room : {A : Type 0} (g : A → Bool) (f : ℕ → A) (n i m r : ℕ) → i < n → g (f i) ≡ true → r ≡ length (filter g (tab i f))
+    → length (filter g (tab n f)) ≤ m → r < m
 kept-room g f n i m r h e p l =
-    omega (arith, l, p, kept_le g f n (i + 1) (omega arith), ap length (kept_next_lem g f i e), length-append (keep g (tab i f)) (f i ∷ []))
+    omega (arith, l, p, kept_le g f n (i + 1) (omega arith), ap length (kept_next_lem g f i e), length-append (filter g (tab i f)) (f i ∷ []))
 
 length-row_le : (w i : ℕ) (counts masks : List ℕ) → get_or counts i 0 ≤ w → length (row_of w (table counts masks) i) ≤ w
 unfolding row_of
 length-row_le w i counts masks h = omega (arith, length-take (get_or counts i 0) (drop (i * w) masks))
-
--- a row of the table, as the part of the array that is lent
-pub length_part_le : (w n i : ℕ) (counts masks : List ℕ) → TableFits w n (table counts masks)
-    → length (take (i * w + get_or counts i 0 - i * w) (drop (i * w) masks)) ≤ w
-length_part_le w n i counts masks t = rw (row-lent w i counts masks) (length-row_le w i counts masks (t.narrow i))
 
 -- a row of the table has terms, or it has been given up
 module _ (w n i : ℕ) (counts masks : List ℕ) (t : TableFits w n (table counts masks)) (h : i < n) where
@@ -185,41 +149,54 @@ module _ (n i : ℕ) (counts masks : List ℕ) (t : TableFits 16 n (table counts
   unfolding entries_in
   entries-room m k l = kept-room has_terms (row_of entry_terms (table counts masks)) n i m r h (row-live 16 n i counts masks t h k) w.counted l
 
+-- the data in rows, one list behind another, and in one row
+pub data-append : (a b : List Held) → data_in (a ++ b) ≡ data_in a ++ data_in b
+unfolding data_in
+data-append a b = ap (λ (l : List Datum). filter (λ d. has_terms d.terms) l) (map-append datum_in a b) ∙ keep_append (λ d. has_terms d.terms) (map datum_in a) (map datum_in b)
+
+pub data-live : (x : Held) → has_terms (terms_of x) ≡ true → data_in (x ∷ []) ≡ datum_in x ∷ []
+unfolding data_in
+data-live x e = rw e
+
+pub data-gone : (x : Held) → has_terms (terms_of x) ≡ false → data_in (x ∷ []) ≡ []
+unfolding data_in
+data-gone x e = rw e
+
 -- a turn of the loop that writes data
-module _ (n i : ℕ) (lefts rights counts masks : List ℕ) (t : ColumnsFit n (columns lefts rights counts masks)) (h : i < n) (r : ℕ) (s₀ s : List ℕ)
-    (w : Written datum_bytes 60 24 (data_in i (columns lefts rights counts masks)) r s₀ s) where
-  data_next : (u : List ℕ) → 0 < get_or counts i 0
-      → u ≡ put (datum_place r) (datum_bytes (datum_in (columns lefts rights counts masks) i)) s
-      → Written datum_bytes 60 24 (data_in (i + 1) (columns lefts rights counts masks)) (r + 1) s₀ u
-  unfolding data_in datum_in
-  data_next u k q =
-      rw (kept_next_lem (λ d. has_terms d.terms) (datum_in (columns lefts rights counts masks)) i (row-live 8 n i counts masks t.table h k))
-      (written_next datum_bytes 60 24 (data_in i (columns lefts rights counts masks)) (datum_in (columns lefts rights counts masks) i) r (datum_place r) s₀ s u
-      (length-datum (datum_in (columns lefts rights counts masks) i) (length-row_le 8 i counts masks (t.table.narrow i))) refl q w)
+module _ (c : List Held) (i : ℕ) (d : Held) (h : i < length c) where
+  data_more : data_in (take (i + 1) c) ≡ data_in (take i c) ++ data_in (get_or c i d ∷ [])
+  data_more = ap data_in (take_more c i d h) ∙ data-append (take i c) (get_or c i d ∷ [])
 
-  -- the datum is stored from the part of the array that is lent, or left where it stands
-  pub datum-stored : (u : List ℕ) (a b : ℕ) → a ≡ end_in lefts i → b ≡ end_in rights i → 0 < get_or counts i 0
-      → u ≡ put (datum_place r) (datum_bytes (datum a b (take (i * 8 + get_or counts i 0 - i * 8) (drop (i * 8) masks)))) s
-      → Written datum_bytes 60 24 (data_in (i + 1) (columns lefts rights counts masks)) (r + 1) s₀ u
-  unfolding datum_in
-  datum-stored u a b e f k q = data_next u k (rw (e, f, row-lent 8 i counts masks) at q)
+  data_le : length (data_in (take (i + 1) c)) ≤ length (data_in c)
+  data_le =
+      let e : data_in c ≡ data_in (take (i + 1) c) ++ data_in (drop (i + 1) c) =
+      ap data_in (sym (take-append-drop (i + 1) c)) ∙ data-append (take (i + 1) c) (drop (i + 1) c) in
+      omega (arith, ap length e, length-append (data_in (take (i + 1) c)) (data_in (drop (i + 1) c)))
 
-  pub datum_stays : 0 < get_or counts i 0 → i ≤ r → r ≤ i → put (datum_place i) (datum_bytes (datum_in (columns lefts rights counts masks) i)) s₀ ≡ s₀
-      → Written datum_bytes 60 24 (data_in (i + 1) (columns lefts rights counts masks)) (r + 1) s₀ s
-  datum_stays k l m q =
-      let e : i ≡ r = omega arith in
-      let d = datum_in (columns lefts rights counts masks) i in
-      let stands : put (datum_place r) (datum_bytes d) s₀ ≡ s₀ = ap (λ (j : ℕ). put (datum_place j) (datum_bytes d) s₀) (sym e) ∙ q in
-      data_next s k (written_stands datum_bytes 60 24 (data_in i (columns lefts rights counts masks)) d r (datum_place r) s₀ s refl stands w)
+  module _ (r : ℕ) (s₀ s : List ℕ) (w : Written datum_bytes 60 24 (data_in (take i c)) r s₀ s) where
+    pub data_skip : has_terms (terms_of (get_or c i d)) ≡ false → Written datum_bytes 60 24 (data_in (take (i + 1) c)) r s₀ s
+    data_skip e = rw (data_more, data-gone (get_or c i d) e, append-nil) w
 
-  pub data_skip : get_or counts i 0 ≤ 0 → Written datum_bytes 60 24 (data_in (i + 1) (columns lefts rights counts masks)) r s₀ s
-  unfolding data_in datum_in
-  data_skip k = rw (kept_skip (λ d. has_terms d.terms) (datum_in (columns lefts rights counts masks)) i (row_gone 8 n i counts masks t.table h k)) w
+    module _ (live : has_terms (terms_of (get_or c i d)) ≡ true) where
+      pub data_room : (m : ℕ) → length (data_in c) ≤ m → r < m
+      data_room m l =
+          let e : data_in (take (i + 1) c) ≡ data_in (take i c) ++ (datum_in (get_or c i d) ∷ []) = data_more ∙ ap (λ (l : List Datum). data_in (take i c) ++ l) (data-live (get_or c i d) live) in
+          omega (arith, data_le, w.counted, ap length e, length-append (data_in (take i c)) (datum_in (get_or c i d) ∷ []))
 
-  pub data_room : (m : ℕ) → 0 < get_or counts i 0 → length (data_in n (columns lefts rights counts masks)) ≤ m → r < m
-  unfolding data_in datum_in
-  data_room m k l =
-      kept-room (λ d. has_terms d.terms) (datum_in (columns lefts rights counts masks)) n i m r h (row-live 8 n i counts masks t.table h k) w.counted l
+      pub data_next : (u : List ℕ) → length (terms_of (get_or c i d)) ≤ 8 → u ≡ put (datum_place r) (datum_bytes (datum_in (get_or c i d))) s
+          → Written datum_bytes 60 24 (data_in (take (i + 1) c)) (r + 1) s₀ u
+      data_next u few q =
+          rw (data_more, data-live (get_or c i d) live)
+          (written_next datum_bytes 60 24 (data_in (take i c)) (datum_in (get_or c i d)) r (datum_place r) s₀ s u
+          (length-datum (datum_in (get_or c i d)) few) refl q w)
+
+      pub datum_stays : length (terms_of (get_or c i d)) ≤ 8 → i ≤ r → r ≤ i → put (datum_place i) (datum_bytes (datum_in (get_or c i d))) s₀ ≡ s₀
+          → Written datum_bytes 60 24 (data_in (take (i + 1) c)) (r + 1) s₀ s
+      datum_stays few k l q =
+          let e : i ≡ r = omega arith in
+          let x = datum_in (get_or c i d) in
+          let stands : put (datum_place r) (datum_bytes x) s₀ ≡ s₀ = ap (λ (j : ℕ). put (datum_place j) (datum_bytes x) s₀) (sym e) ∙ q in
+          data_next s few (written_stands datum_bytes 60 24 (data_in (take i c)) x r (datum_place r) s₀ s refl stands w)
 
 -- ---- how many bytes the rows take
 
@@ -230,13 +207,20 @@ narrow_datum d = leb (length d.terms) datum_terms
 narrow_entry : List ℕ → Bool
 narrow_entry p = leb (length p) entry_terms
 
-pub length-data_in : (n : ℕ) (c : Columns) → TableFits datum_terms n (table_of c) → length (data_in n c) ≤ data_most
-    → length (data_bytes (data_in n c)) ≡ data_most * datum_size
-unfolding data_bytes data_in datum_in narrow_datum
-length-data_in n c t h =
-    length_filled datum_bytes datum_size data_most data_at narrow_datum (λ d k. length-datum d (leb→le (length d.terms) datum_terms k)) (data_in n c)
-    (all_keep narrow_datum (λ d. has_terms d.terms) (tab n (datum_in c))
-    (all-tab narrow_datum n (datum_in c) (λ i k. le→leb _ datum_terms (length-row_le datum_terms i c.counts c.masks (t.narrow i))))) h
+-- each of fitting rows has at most 8 terms
+pub length-terms : (r : Held) → HeldFits r → length (terms_of r) ≤ datum_terms
+length-terms r f = omega (arith, length-take r.count r.terms, f.narrow)
+
+all-narrow : (c : List Held) → All HeldFits c → T (list_all narrow_datum (map datum_in c))
+unfolding narrow_datum
+all-narrow [] t = tt
+all-narrow (r ∷ c) t = both _ _ (le→leb _ datum_terms (length-terms r (t 0 r (omega arith)))) (all-narrow c (λ k d h. t (suc k) d (omega arith)))
+
+pub length-data_in : (c : List Held) → All HeldFits c → length (data_in c) ≤ data_most → length (data_bytes (data_in c)) ≡ data_most * datum_size
+unfolding data_bytes data_in narrow_datum
+length-data_in c t h =
+    length_filled datum_bytes datum_size data_most data_at narrow_datum (λ d k. length-datum d (leb→le (length d.terms) datum_terms k)) (data_in c)
+    (all_keep narrow_datum (λ d. has_terms d.terms) (map datum_in c) (all-narrow c t)) h
 
 pub length-entries_in : (n : ℕ) (t : Table) → TableFits entry_terms n t → length (entries_in n t) ≤ entries_most
     → length (entries_bytes (entries_in n t)) ≡ entries_most * entry_size
@@ -269,7 +253,7 @@ length_column f n s₀ s = length_front (tab n f) n s₀ s (length-tab n f)
 
 -- the masks of n rows, all of one width
 module _ (width n : ℕ) (place : ℕ → ℕ) (s : List ℕ) where
-  masks-wide : T (all (λ l. eqb (length l) width) (tab n (λ i. masks_at width (place i) s)))
+  masks-wide : T (list_all (λ l. eqb (length l) width) (tab n (λ i. masks_at width (place i) s)))
   masks-wide =
       all-tab (λ l. eqb (length l) width) n (λ i. masks_at width (place i) s) (λ i h. rw (length-masks width (place i) s) (eqb_refl width))
 
@@ -308,64 +292,6 @@ module _ (width n : ℕ) (place : ℕ → ℕ) (s c₀ rest c m : List ℕ) (p :
       small : (i : ℕ) → Dec (i < n) → get_or c i 0 ≤ width
       small i (yes l) = omega (arith, column_front (λ j. num (place j) 4 s) n i c₀ c p l, few i l)
       small i (no l) = omega (arith, front_rest (tab n (λ j. num (place j) 4 s)) n c₀ c (length-tab n (λ j. num (place j) 4 s)) p i (omega arith), t.narrow i)
-
--- n ends that were read into a column
-module _ (f : ℕ → End) (n : ℕ) (l₀ l : List ℕ) (e : l ≡ joined end_numbers (tab n f) ++ drop (n * 2) l₀) where
-  two_each : T (all (λ x. true) (tab n f))
-  two_each = all-tab (λ x. true) n f (λ i h. tt)
-
-  length-ends : length (joined end_numbers (tab n f)) ≡ n * 2
-  length-ends = length-joined end_numbers (λ x. true) 2 (λ x t. refl) (tab n f) two_each ∙ rw length-tab
-
-  numbers-read : (i : ℕ) → i < n → (get_or l (i * 2) 0 ≡ (f i).whole) × (get_or l (i * 2 + 1) 0 ≡ (f i).millionths)
-  numbers-read i h =
-      let there = rw (zero-add, get_or-tab n i f (f 0) h) at (at_joined end_numbers (λ x. true) 2 (λ x t. refl) (f 0) 0 i (tab n f) l two_each (omega (arith, length-tab n f)) (drop (n * 2) l₀, e)) in
-      let first : i * 2 ≡ i * 2 + 0 = omega arith in (
-        ap (λ (k : ℕ). get_or l k 0) first ∙ sym (get_or-drop (i * 2) l 0 0) ∙ rw there.1,
-        sym (get_or-drop (i * 2) l 1 0) ∙ rw there.1,
-      )
-
-  end_read : (i : ℕ) → i < n → end_in l i ≡ count_of (f i)
-  end_read i h = let k = numbers-read i h in rw (k.0, k.1)
-
-  ends-long : n * 2 ≤ length l₀ → length l ≡ length l₀
-  ends-long = length_front (joined end_numbers (tab n f)) (n * 2) l₀ l length-ends e
-
-  split_read : ((i : ℕ) → i < n → Split (f i)) → AllSplit l₀ → AllSplit l
-  split_read new old i = go (dec_lt i n)
-    where
-      go : Dec (i < n) → get_or l (i * 2 + 1) 0 < million
-      go (yes h) = omega (arith, (numbers-read i h).1, new i h)
-      go (no h) = omega (arith, front_rest (joined end_numbers (tab n f)) (n * 2) l₀ l length-ends e (i * 2 + 1) (omega arith), old i)
-
--- n data that were read
-module _ (n : ℕ) (s l₀ r₀ c₀ m₀ l r c m : List ℕ) (e : l ≡ joined end_numbers (tab n (λ i. (ends_at s i).left)) ++ drop (n * 2) l₀)
-    (f : r ≡ joined end_numbers (tab n (λ i. (ends_at s i).right)) ++ drop (n * 2) r₀) (split : (i : ℕ) → i < n → BothSplit (ends_at s i)) (p : c ≡ tab n (λ i. num (datum_place i + row_in) 4 s) ++ drop n c₀)
-    (q : m ≡ joined (λ x. x) (tab n (λ i. masks_at datum_terms (datum_place i + row_in) s)) ++ drop (n * 8) m₀)
-    (few : (i : ℕ) → i < n → num (datum_place i + row_in) 4 s ≤ 8) where
-  datum-read : (i : ℕ) → i < n → datum_in (columns l r c m) i ≡ datum_at s i
-  unfolding datum_in datum_at ends_at
-  datum-read i h =
-      rw (
-        end_read (λ k. (ends_at s k).left) n l₀ l e i h,
-        end_read (λ k. (ends_at s k).right) n r₀ r f i h,
-        rows-read 8 n (λ k. datum_place k + row_in) s c₀ (drop (n * 8) m₀) c m p q few i h,
-      )
-
-  pub data_read : tab n (datum_in (columns l r c m)) ≡ tab n (datum_at s)
-  data_read = tab_cong n (datum_in (columns l r c m)) (datum_at s) datum-read
-
-  pub columns-read : (k : ℕ) → n ≤ k → ColumnsFit k (columns l₀ r₀ c₀ m₀) → ColumnsFit k (columns l r c m)
-  columns-read k h t =
-      let long : length m ≡ length m₀ =
-      length_front (joined (λ x. x) (tab n (λ i. masks_at datum_terms (datum_place i + row_in) s))) (n * 8) m₀ m (length-rows 8 n (λ i. datum_place i + row_in) s) q (omega (arith, t.table.long)) in
-      record {
-        table = table-read 8 n (λ i. datum_place i + row_in) s c₀ (drop (n * 8) m₀) c m p q few k m₀ h long t.table;
-        lefts-long = omega (arith, t.lefts-long, ends-long (λ i. (ends_at s i).left) n l₀ l e (omega (arith, t.lefts-long)));
-        rights-long = omega (arith, t.rights-long, ends-long (λ i. (ends_at s i).right) n r₀ r f (omega (arith, t.rights-long)));
-        lefts_split = split_read (λ i. (ends_at s i).left) n l₀ l e (λ i j. (split i j).0) t.lefts_split;
-        rights_split = split_read (λ i. (ends_at s i).right) n r₀ r f (λ i j. (split i j).1) t.rights_split;
-      }
 
 -- ---- entries whose terms stand in the bytes, and those behind them
 
@@ -437,6 +363,23 @@ module _ (first n i : ℕ) (s₀ counts masks : List ℕ) (t : TableFits 16 n (t
       entries_next n i counts (entry_masks first s₀ ++ masks) t h r s₀ s w s k
       (written_stands entry_bytes 68 984 (entries_in i (table_from first s₀ counts masks)) row r (entry_place r) s₀ s refl stands w)
 
+-- ---- the counts of the first n rows, lent alone
+
+module _ (w n : ℕ) (counts masks : List ℕ) where
+  pub table-front : TableFits w n (table counts masks) → TableFits w n (table (take n counts) masks)
+  table-front t =
+      record { counted = omega (arith, t.counted, length-take-le n counts t.counted); long = t.long; narrow = λ i. go i (dec_lt i n) }
+    where
+      go : (i : ℕ) → Dec (i < n) → get_or (take n counts) i 0 ≤ w
+      go i (yes h) = rw (get_or-take n counts i 0 h) (t.narrow i)
+      go i (no h) = rw (get_or_past (take n counts) i 0 (omega (arith, length-take n counts))) (omega arith)
+
+pub entries-front : (n : ℕ) (counts masks : List ℕ) → entries_in n (table (take n counts) masks) ≡ entries_in n (table counts masks)
+unfolding entries_in row_of
+entries-front n counts masks =
+    ap (λ (l : List (List ℕ)). filter has_terms l)
+    (tab_cong n (row_of entry_terms (table (take n counts) masks)) (row_of entry_terms (table counts masks)) (λ i h. rw (get_or-take n counts i 0 h)))
+
 -- ---- fresh arrays
 
 zero_at : (n i : ℕ) → get_or (zeros n) i 0 ≡ 0
@@ -456,16 +399,6 @@ pub table_awaiting : (first n j : ℕ) (s masks : List ℕ) → n ≤ j → n * 
 table_awaiting first n j s masks g h =
     let t = table-fresh 16 n j (n * 16) g (omega arith) in
     record { counted = t.counted; long = omega (arith, length-append (entry_masks first s) masks, length-entry_masks first s); narrow = t.narrow }
-
-pub columns-fresh : (n a b j k : ℕ) → n * 2 ≤ a → n * 2 ≤ b → n ≤ j → n * 8 ≤ k → ColumnsFit n (columns (zeros a) (zeros b) (zeros j) (zeros k))
-columns-fresh n a b j k e f g h =
-    record {
-      table = table-fresh 8 n j k g h;
-      lefts-long = omega (arith, length-zeros a);
-      rights-long = omega (arith, length-zeros b);
-      lefts_split = λ i. omega (arith, zero_at a (i * 2 + 1));
-      rights_split = λ i. omega (arith, zero_at b (i * 2 + 1));
-    }
 
 -- ---- a state in form
 
@@ -490,26 +423,25 @@ module _ (s : List ℕ) (t : T (in_form s)) where
       omega (arith, leb→le (length (entry_at s i)) 16 (search (both_l, both_r) depth 9), length-entry_at s t i k)
 
   -- data that are as the bytes have them stand in their places
-  pub data_stand : Bytes s → state_size ≤ length s → (c : Columns) → DataStand s c → (n : ℕ) → n ≡ held_count s
-      → (i : ℕ) → i < n → (get_or c.counts i 0 ≡ 0 → ⊥) → put (datum_place i) (datum_bytes (datum_in c i)) s ≡ s
-  data_stand b l c d n e i h f =
+  pub data_stand : Bytes s → state_size ≤ length s → (c : List Held) → DataStand s c → (n : ℕ) → n ≡ held_count s → DataInPlace n s c
+  data_stand b l c d n e i x h j f =
       let k : i < held_count s = omega arith in
-      rw (d i k f) (put_stands (datum_place i) (datum_bytes (datum_at s i)) s (datum_stands s t b l i k))
+      rw (d i x k j f) (put_stands (datum_place i) (datum_bytes (datum_at s i)) s (datum_stands s t b l i k))
 
   -- when data have been written in front of the entries, their places are as they were
-  module _ (h : ℕ) (c : Columns) (u : List ℕ) (f : TableFits datum_terms h (table_of c)) (l : length (data_in h c) ≤ data_most)
-      (e : u ≡ put held_at (bytes 4 (length (data_in h c))) (put data_at (data_bytes (data_in h c)) s)) where
+  module _ (c : List Held) (u : List ℕ) (f : All HeldFits c) (l : length (data_in c) ≤ data_most)
+      (e : u ≡ put held_at (bytes 4 (length (data_in c))) (put data_at (data_bytes (data_in c)) s)) where
     behind_stays : (at : ℕ) → entries_at ≤ at → drop at u ≡ drop at s
     behind_stays at k =
         ap (λ (x : List ℕ). drop at x) e
-        ∙ drop-put at held_at (bytes 4 (length (data_in h c))) (put data_at (data_bytes (data_in h c)) s) (omega (arith, length-bytes 4 (length (data_in h c))))
-        ∙ drop-put at data_at (data_bytes (data_in h c)) s (omega (arith, length-data_in h c f l))
+        ∙ drop-put at held_at (bytes 4 (length (data_in c))) (put data_at (data_bytes (data_in c)) s) (omega (arith, length-bytes 4 (length (data_in c))))
+        ∙ drop-put at data_at (data_bytes (data_in c)) s (omega (arith, length-data_in c f l))
 
     known_stays : entry_count u ≡ entry_count s
     known_stays =
         ap (λ (x : List ℕ). num known_at 4 x) e
-        ∙ num-put-apart 4 held_at known_at (bytes 4 (length (data_in h c))) (put data_at (data_bytes (data_in h c)) s) (inr (omega (arith, length-bytes 4 (length (data_in h c)))))
-        ∙ num-put-apart 4 data_at known_at (data_bytes (data_in h c)) s (inl (omega arith))
+        ∙ num-put-apart 4 held_at known_at (bytes 4 (length (data_in c))) (put data_at (data_bytes (data_in c)) s) (inr (omega (arith, length-bytes 4 (length (data_in c)))))
+        ∙ num-put-apart 4 data_at known_at (data_bytes (data_in c)) s (inl (omega arith))
 
     module _ (n : ℕ) (a : n ≡ entry_count u) where
       pub rest_stays : (n ≤ entries_most) × T (is_zero (entry_place n) (entry_place entries_most) u)
@@ -561,34 +493,38 @@ module _ (n : ℕ) (s : List ℕ) (t : T (in_form s)) (a : n ≡ entry_count s) 
   unfolding entry_masks
   table_standing k h f = table-read 16 n entry_place s c₀ m c (entry_masks n s ++ m) p refl entries-few k (entry_masks n s ++ m) h refl f
 
-module _ (n : ℕ) (s : List ℕ) (t : T (in_form s)) (a : n ≡ held_count s) (l₀ r₀ c₀ m₀ l r c m : List ℕ)
-    (e : l ≡ joined end_numbers (tab n (λ i. (ends_at s i).left)) ++ drop (n * 2) l₀) (f : r ≡ joined end_numbers (tab n (λ i. (ends_at s i).right)) ++ drop (n * 2) r₀)
-    (p : c ≡ tab n (λ i. num (datum_place i + row_in) 4 s) ++ drop n c₀)
-    (q : m ≡ joined (λ x. x) (tab n (λ i. masks_at datum_terms (datum_place i + row_in) s)) ++ drop (n * 8) m₀) where
-  data_few : (i : ℕ) → i < n → num (datum_place i + row_in) 4 s ≤ 8
+-- the data of a state in form, read into rows: each fits, and none has been given up
+module _ (s : List ℕ) (t : T (in_form s)) where
+  row_standing_lem : (i : ℕ) → datum_in (datum_row s i) ≡ datum_at s i
+  unfolding datum_row datum_at ends_at row_at
+  row_standing_lem i = refl
+
+  data_few : (i : ℕ) → i < held_count s → num (datum_place i + row_in) 4 s ≤ 8
   unfolding datum_ok terms_fit
-  data_few i h =
-      let k : i < held_count s = omega arith in
+  data_few i k =
       let ok = datum_at_ok s t i k in
       omega (arith, leb→le (length (datum_at s i).terms) 8 (search (both_l, both_r) depth 9), length-datum_at s t i k)
 
-  data_split : (i : ℕ) → i < n → BothSplit (ends_at s i)
-  data_split i h = ends_split (num own_at 4 s) s i (form-datum s t i (omega arith))
+  pub row-fits : (i : ℕ) → i < held_count s → HeldFits (datum_row s i)
+  unfolding datum_row
+  row-fits i h = record { narrow = data_few i h; split = ends_split (num own_at 4 s) s i (form-datum s t i h) }
 
-  -- the rows are the held data, and none has been given up
-  pub data_rows : tab n (datum_in (columns l r c m)) ≡ (store_of s).held
+  pub rows-fit : (n : ℕ) → n ≤ held_count s → All HeldFits (tab n (datum_row s))
+  rows-fit n h k d l =
+      let e : k < n = omega (arith, length-tab n (datum_row s)) in
+      rw (get_or-tab n k (datum_row s) d e) (row-fits k (omega arith))
+
+  -- the rows are the held data
+  pub data_rows : map datum_in (tab (held_count s) (datum_row s)) ≡ (store_of s).held
   unfolding store_of
-  data_rows = rw (data_read n s l₀ r₀ c₀ m₀ l r c m e f data_split p q data_few, a)
+  data_rows = map-tab datum_in (held_count s) (datum_row s) ∙ tab_cong (held_count s) (λ i. datum_in (datum_row s i)) (datum_at s) (λ i h. row_standing_lem i)
 
-  pub datum_standing : (i : ℕ) → i < n → datum_in (columns l r c m) i ≡ datum_at s i
-  datum_standing = datum-read n s l₀ r₀ c₀ m₀ l r c m e f data_split p q data_few
+  pub data_standing : DataStand s (tab (held_count s) (datum_row s))
+  data_standing i x h j f = ap datum_in (get_or-tab (held_count s) i (datum_row s) x h) ∙ row_standing_lem i
 
-  pub data_form : data_in n (columns l r c m) ≡ (store_of s).held
+  pub data_form : data_in (tab (held_count s) (datum_row s)) ≡ (store_of s).held
   unfolding data_in store_of datum_ok
   data_form =
       let some-terms : (i : ℕ) → i < held_count s → T (has_terms (datum_at s i).terms) =
       λ i h. let ok = datum_at_ok s t i h in fits-some (num own_at 4 s) datum_terms (datum_at s i).terms (search (both_l, both_r) depth 9) in
       rw data_rows (keep_all (λ d. has_terms d.terms) (tab (held_count s) (datum_at s)) (all-tab (λ d. has_terms d.terms) (held_count s) (datum_at s) some-terms))
-
-  pub data_columns : (k : ℕ) → n ≤ k → ColumnsFit k (columns l₀ r₀ c₀ m₀) → ColumnsFit k (columns l r c m)
-  data_columns = columns-read n s l₀ r₀ c₀ m₀ l r c m e f data_split p q data_few

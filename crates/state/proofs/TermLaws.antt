@@ -12,7 +12,8 @@ use lib.ListN.{length, get_or, take, drop, drop_of_length-le, length-drop}
 use lib.Seq.{take_all}
 use Rattle.names.specs.Sets.{subset, set_union, has, no_set}
 use Rattle.names.proofs.SetLaws.{test_ext, subset_trans, union_left, union_right, has-empty, has_mono, has_not_union}
-use Rattle.predicates.specs.Lists.{any, all, In}
+use Rattle.std.specs.List.{list_any, list_all}
+use Rattle.predicates.specs.Lists.{In}
 use Rattle.predicates.specs.Predicates.{precedes, is_normal}
 use Rattle.predicates.proofs.ListLaws.{both, both_l, both_r, true_T, T_false, split, any_out, any_in, all_in, all_out}
 use Rattle.predicates.proofs.LoopLaws.{drop_next}
@@ -34,15 +35,15 @@ pub record Tested (own : ℕ) (p : List ℕ) (i next names : ℕ) : Type 0 where
 module _ (own : ℕ) where
   -- in normal form, and each term fits
   fitting : List ℕ → Bool
-  fitting p = is_normal p && all (term_fits own) p
+  fitting p = is_normal p && list_all (term_fits own) p
 
   -- what is said of t and the terms behind it, by its parts
-  fitting_out : (t : ℕ) (q : List ℕ) → T (fitting (t ∷ q)) → T (all (λ u. precedes t u) q) × T (fitting q) × T (term_fits own t)
+  fitting_out : (t : ℕ) (q : List ℕ) → T (fitting (t ∷ q)) → T (list_all (λ u. precedes t u) q) × T (fitting q) × T (term_fits own t)
   unfolding is_normal fitting
   fitting_out t q h =
-      let normal = both_l (all (λ u. precedes t u) q && is_normal q) _ h in
-      let fits = both_r (all (λ u. precedes t u) q && is_normal q) _ h in
-      (both_l (all (λ u. precedes t u) q) _ normal, both (is_normal q) _ (both_r (all (λ u. precedes t u) q) _ normal) (both_r (term_fits own t) _ fits), both_l (term_fits own t) _ fits)
+      let normal = both_l (list_all (λ u. precedes t u) q && is_normal q) _ h in
+      let fits = both_r (list_all (λ u. precedes t u) q && is_normal q) _ h in
+      (both_l (list_all (λ u. precedes t u) q) _ normal, both (is_normal q) _ (both_r (list_all (λ u. precedes t u) q) _ normal) (both_r (term_fits own t) _ fits), both_l (term_fits own t) _ fits)
 
   fitting_drop : (p : List ℕ) (i : ℕ) → T (fitting p) → T (fitting (drop i p))
   fitting_drop p zero h = h
@@ -72,42 +73,42 @@ module _ (own : ℕ) where
     whole : T (fitting p) → T (fitting (t ∷ drop i p))
     whole h = rw here at (fitting_drop p (i - 1) h)
 
-    pub tested_high : next ≤ t → is_normal p && all (term_fits own) p ≡ false
+    pub tested_high : next ≤ t → is_normal p && list_all (term_fits own) p ≡ false
     unfolding term_fits is_normal fitting
     tested_high h = none (fitting p) (λ k. go (fitting_out t (drop i p) (whole k)) w.first)
       where
-        go : T (all (λ u. precedes t u) (drop i p)) × T (fitting (drop i p)) × T (term_fits own t) → (next ≡ no_set) ⊎ In next (drop i p) → ⊥
+        go : T (list_all (λ u. precedes t u) (drop i p)) × T (fitting (drop i p)) × T (term_fits own t) → (next ≡ no_set) ⊎ In next (drop i p) → ⊥
         go f (inl z) = let l = ltb→lt t no_set (both_l (ltb t no_set) _ (both_r (ltb 0 t) _ f.2)) in omega (arith, l)
         go f (inr m) = let l = ltb→lt t next (both_l (ltb t next) _ (all_out (λ u. precedes t u) (drop i p) f.0 next m)) in omega (arith, l)
 
-    module _ (r : Bool) (c : r ≡ any (λ u. subset t u) (take (length p - i) (drop i p))) where
-      behind : any (λ u. subset t u) (drop i p) ≡ r
-      behind = ap (λ (q : List ℕ). any (λ u. subset t u) q) (sym (take_all (length p - i) (drop i p) (omega (arith, length-drop i p)))) ∙ sym c
+    module _ (r : Bool) (c : r ≡ list_any (λ u. subset t u) (take (length p - i) (drop i p))) where
+      behind : list_any (λ u. subset t u) (drop i p) ≡ r
+      behind = ap (λ (q : List ℕ). list_any (λ u. subset t u) q) (sym (take_all (length p - i) (drop i p) (omega (arith, length-drop i p)))) ∙ sym c
 
-      pub tested_inside : r ≡ true → is_normal p && all (term_fits own) p ≡ false
+      pub tested_inside : r ≡ true → is_normal p && list_all (term_fits own) p ≡ false
       unfolding is_normal fitting
       tested_inside k =
           none (fitting p) (λ h.
           let m = any_out (λ u. subset t u) (drop i p) (true_T _ (behind ∙ k)) in
           T_not (subset t m.0) (both_r (ltb t m.0) _ (all_out (λ u. precedes t u) (drop i p) (fitting_out t (drop i p) (whole h)).0 m.0 m.1)) m.2)
 
-      pub contained-none : r ≡ false → any (λ u. subset t u) (drop i p) ≡ false
+      pub contained-none : r ≡ false → list_any (λ u. subset t u) (drop i p) ≡ false
       contained-none k = behind ∙ k
 
     -- a name that none of the others has
-    pub apart_none : subset t names ≡ false → any (λ u. subset t u) (drop i p) ≡ false
+    pub apart_none : subset t names ≡ false → list_any (λ u. subset t u) (drop i p) ≡ false
     apart_none k =
-        none (any (λ u. subset t u) (drop i p)) (λ h.
+        none (list_any (λ u. subset t u) (drop i p)) (λ h.
         let m = any_out (λ u. subset t u) (drop i p) h in
         subst (λ (b : Bool). T b) k (subset_trans t m.0 names m.2 (w.inside m.0 m.1)))
 
-    pub tested_next : t < next → any (λ u. subset t u) (drop i p) ≡ false → Tested own p (i - 1) t (set_union names t)
+    pub tested_next : t < next → list_any (λ u. subset t u) (drop i p) ≡ false → Tested own p (i - 1) t (set_union names t)
     unfolding is_normal
     tested_next l k =
         let low : t < no_set = go w.first in
         record {
           within = omega (arith, w.within);
-          normal = rw here (both (all (λ u. precedes t u) (drop i p)) _
+          normal = rw here (both (list_all (λ u. precedes t u) (drop i p)) _
               (all_in (λ u. precedes t u) (drop i p) (λ u m. both (ltb t u) _ (lt→ltb t u (omega (arith, (w.above u m).0)))
               (not_T (subset t u) (λ h. subst (λ (b : Bool). T b) k (any_in (λ u. subset t u) (drop i p) u m h)))))
               w.normal);
@@ -137,7 +138,7 @@ module _ (own : ℕ) where
             old (inl y) = let m = w.owned y in (m.0, inr m.1, m.2)
             old (inr z) = absurd (T_not (has own (set_union names t)) (has_not_union own names t z n) h)
 
-  pub tested_done : (p : List ℕ) (i next names : ℕ) → Tested own p i next names → i ≤ 0 → ltb 0 next && not (has own names) ≡ is_normal p && all (term_fits own) p
+  pub tested_done : (p : List ℕ) (i next names : ℕ) → Tested own p i next names → i ≤ 0 → ltb 0 next && not (has own names) ≡ is_normal p && list_all (term_fits own) p
   unfolding term_fits fitting
   tested_done p i next names v z =
       let zeroth : i ≡ 0 = omega arith in

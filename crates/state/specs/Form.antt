@@ -5,7 +5,8 @@ use Rattle.std.specs.Prelude.{ℕ, ◌+◌, Bool, ◌&&◌, not, List, length, d
 use Rattle.std.proofs.Math.Seq.{slice}
 use Rattle.numbers.specs.Numbers.{num}
 use Rattle.names.specs.Sets.{no_set, has}
-use Rattle.predicates.specs.Lists.{all, all_below}
+use Rattle.std.specs.List.{list_all}
+use Rattle.predicates.specs.Lists.{all_below}
 use Rattle.predicates.specs.Predicates.{is_normal}
 use Rattle.ends.specs.Ends.{million}
 use Rattle.epochs.specs.Epochs.{epoch_most, epochs_most, epochs_in}
@@ -25,19 +26,20 @@ term_fits own t = ltb 0 t && (ltb t no_set && not (has own t))
 
 -- a predicate of 1 to `width` terms: "a datum has 1 to 8 terms, an entry 1 to 16"
 unfoldable pub terms_fit : ℕ → ℕ → List ℕ → Bool
-terms_fit own width p = leb 1 (length p) && (leb (length p) width && (is_normal p && all (term_fits own) p))
+terms_fit own width p = leb 1 (length p) && (leb (length p) width && (is_normal p && list_all (term_fits own) p))
 
 -- ---- the bytes
 
 -- every byte from `from` up to `to` is zero
 unfoldable pub is_zero : ℕ → ℕ → List ℕ → Bool
-is_zero from to s = all (λ b. eqb b 0) (slice from to s)
+is_zero from to s = list_all (λ b. eqb b 0) (slice from to s)
 
 -- the row at `at`: its count, the terms in use, and zeros in the masks that are not
 unfoldable pub row_fits : ℕ → ℕ → ℕ → List ℕ → Bool
 row_fits own width at s =
     leb 1 (num at 4 s) && (leb (num at 4 s) width
-    && (is_normal (row_at width at s) && (all (term_fits own) (row_at width at s) && all (λ t. eqb t 0) (drop (num at 4 s) (masks_at width at s)))))
+    && (is_normal (row_at width at s)
+    && (list_all (term_fits own) (row_at width at s) && list_all (λ t. eqb t 0) (drop (num at 4 s) (masks_at width at s)))))
 
 -- millionths "0 to 999,999" (document 02, W-205), "left at most right", both with their millionths, and none above 2^58 − 1
 unfoldable pub datum_fits : ℕ → List ℕ → ℕ → Bool
@@ -70,7 +72,7 @@ clocks_fit s = all_below clocks_most (λ i. place_fits (clock_place i) s)
 
 -- each epoch is one, "0 to 15", the own one too
 unfoldable pub epochs_fit : List ℕ → Bool
-epochs_fit s = all (λ e. leb e epoch_most) (epochs_in epochs_at s)
+epochs_fit s = list_all (λ e. leb e epoch_most) (epochs_in epochs_at s)
 
 -- "In form", of a buffer of at least a state's size
 unfoldable pub in_form : List ℕ → Bool
@@ -84,13 +86,13 @@ head_ok h =
     && (leb h.drift drift_most
     && (ltb h.reading reading_limit
     && (eqb (length h.clocks) clocks_most
-    && (all saved_ok h.clocks && (eqb (length h.epochs) epochs_most && all (λ e. leb e epoch_most) h.epochs)))))
+    && (list_all saved_ok h.clocks && (eqb (length h.epochs) epochs_most && list_all (λ e. leb e epoch_most) h.epochs)))))
 
 unfoldable pub datum_ok : ℕ → Datum → Bool
 datum_ok own d = leb d.left d.right && (ltb d.right end_limit && terms_fit own datum_terms d.terms)
 
 unfoldable pub store_ok : ℕ → Store → Bool
-store_ok own k = all (datum_ok own) k.held && all (terms_fit own entry_terms) k.entries
+store_ok own k = list_all (datum_ok own) k.held && list_all (terms_fit own entry_terms) k.entries
 
 unfoldable pub counts_ok : Store → Bool
 counts_ok k = leb (length k.held) data_most && leb (length k.entries) entries_most

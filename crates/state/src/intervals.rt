@@ -8,6 +8,7 @@ ghost use Rattle.state.specs.code.Tables.{ends_at, with_ends};
 use ends::{End, Ends};
 
 // The ends of the datum in place i.
+#[tactic(auto, unfolding(crate::specs::code::Tables::ends_at))]
 pub fn get(s: &[u8], i: usize) -> Ends
     requires { (state_size ≤ length s.now) × (i < data_most) }
     ensures { result ≡ ends_at s.now i }
@@ -26,6 +27,7 @@ pub fn get(s: &[u8], i: usize) -> Ends
 }
 
 // Puts other ends into the datum in place i; its terms stay.
+#[tactic(auto, unfolding(crate::specs::code::Tables::with_ends))]
 pub fn put(s: &mut [u8], i: usize, ends: Ends)
     requires { (state_size ≤ length s.old) × (i < data_most) }
     ensures { s.new ≡ with_ends i ends s.old }
@@ -49,6 +51,7 @@ pub(crate) fn ordered(e: Ends) -> bool
 }
 
 // Whether an end can be stored: it is 2^58 - 1 at most.
+#[tactic(auto, using(crate::proofs::FormLaws::last_end))]
 pub fn storable(e: End) -> bool
     requires { Split e }
     ensures { result ≡ ltb (count_of e) end_limit }

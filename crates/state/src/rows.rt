@@ -13,38 +13,36 @@ pub fn clear(s: &mut [u8], from: usize, to: usize)
     requires { to ≤ length s.old }
     ensures { s.new ≡ put from (zeros (to - from)) s.old }
 {
-    let mut i = from;
-    while i < to {
-        s[i] = 0;
-        i += 1;
+    if from < to {
+        s[from..to].fill(0);
     }
 }
 
 // Puts a predicate into the row at `at`: the count, the terms, and zeros up to the width.
+#[tactic(auto, using(crate::proofs::RowLoops::row_put))]
 fn put_row(s: &mut [u8], at: usize, width: usize, terms: &[u32])
     requires { (length terms.now ≤ width) × (width ≤ entry_terms) × (at + 4 + width * 4 ≤ length s.old) }
     ensures { s.new ≡ put at (row_bytes width terms.now) s.old }
 {
     let n = terms.len();
     numbers::put32(s, at, n as u32);
-    numbers::put_words(s, at + 4, terms, n);
+    numbers::put_words(s, at + 4, terms);
     clear(s, at + 4 + n * 4, at + 4 + width * 4);
 }
 
 // Puts a datum into place i.
+#[tactic(auto, using(crate::proofs::RowLoops::datum_written))]
 pub(crate) fn put_datum(s: &mut [u8], i: usize, ends: Ends, terms: &[u32])
     requires { (i < data_most) × (length terms.now ≤ datum_terms) × (state_size ≤ length s.old) × BothSplit ends }
     ensures { s.new ≡ put (datum_place i) (datum_bytes (datum_of ends terms.now)) s.old }
 {
-    let at = super::DATA_AT + i * super::DATUM_SIZE;
-    numbers::put64(s, at, ends.left.whole);
-    numbers::put64(s, at + super::RIGHT_IN, ends.right.whole);
-    put_row(s, at + super::ROW_IN, super::DATUM_TERMS, terms);
-    numbers::put_num(s, at + super::LEFT_MILLIONTHS_IN, 4, ends.left.millionths);
-    numbers::put_num(s, at + super::RIGHT_MILLIONTHS_IN, 4, ends.right.millionths);
+    let row = super::DATA_AT + i * super::DATUM_SIZE + super::ROW_IN;
+    put_row(s, row, super::DATUM_TERMS, terms);
+    super::intervals::put(s, i, ends);
 }
 
 // Puts an entry into place i.
+#[tactic(auto, unfolding(crate::specs::Layout::entry_bytes))]
 pub(crate) fn put_entry(s: &mut [u8], i: usize, terms: &[u32])
     requires { (i < entries_most) × (length terms.now ≤ entry_terms) × (state_size ≤ length s.old) }
     ensures { s.new ≡ put (entry_place i) (entry_bytes terms.now) s.old }

@@ -10,7 +10,8 @@ use native.Mathlib.Omega.{arith}
 use lib.Dec.{T}
 use lib.Pow.{pow-lt, pow_pos}
 use Rattle.names.proofs.SetLaws.{subset_refl}
-use Rattle.predicates.specs.Lists.{all, keep, In}
+use Rattle.std.specs.List.{list_all, filter}
+use Rattle.predicates.specs.Lists.{In}
 use Rattle.predicates.specs.Predicates.{holds, implies, is_true, is_normal, struck, normal, formed}
 use Rattle.predicates.proofs.ListLaws.{both, both_l, both_r, or_r, T_true, cond_ind, all_keep}
 use Rattle.predicates.proofs.PredicateLaws.{holds_in, holds-sum, holds-normal, implies_in, implies-normal}
@@ -47,11 +48,11 @@ explained-settled n k h = rw (learnt-none n k.held k.entries h, T_true (explaine
 
 -- ---- step 2 once more
 
-keep_twice : {A : Type 0} (f : A → Bool) (l : List A) → keep f (keep f l) ≡ keep f l
+keep_twice : {A : Type 0} (f : A → Bool) (l : List A) → filter f (filter f l) ≡ filter f l
 keep_twice f [] = refl
 keep_twice f (x ∷ l) =
     let rest = keep_twice f l in
-    cond_ind (λ m. keep f m ≡ m) (f x) (x ∷ keep f l) (keep f l) (λ t. rw (T_true (f x) t, rest)) (λ _. rest)
+    cond_ind (λ m. filter f m ≡ m) (f x) (x ∷ filter f l) (filter f l) (λ t. rw (T_true (f x) t, rest)) (λ _. rest)
 
 pub swept_twice : (k : Store) → swept (swept k) ≡ swept k
 unfolding swept unexplained
@@ -108,7 +109,7 @@ pub swept-blamed_ok : (own sender : ℕ) (k : Store) → sender ≤ name_most �
 unfolding store_ok swept blamed unexplained
 swept-blamed_ok own sender k s f h =
     let es = learn (2 ^ sender ∷ []) k.entries in
-    both (all (datum_ok own) (unexplained es k.held)) (all (terms_fit own entry_terms) es)
-    (all_keep (datum_ok own) (λ d. not (explained es d.terms)) k.held (both_l (all (datum_ok own) k.held) (all (terms_fit own entry_terms) k.entries) h))
+    both (list_all (datum_ok own) (unexplained es k.held)) (list_all (terms_fit own entry_terms) es)
+    (all_keep (datum_ok own) (λ d. not (explained es d.terms)) k.held (both_l (list_all (datum_ok own) k.held) (list_all (terms_fit own entry_terms) k.entries) h))
     (learn_all (terms_fit own entry_terms) (2 ^ sender ∷ []) k.entries (single_fit own sender s f)
-    (both_r (all (datum_ok own) k.held) (all (terms_fit own entry_terms) k.entries) h))
+    (both_r (list_all (datum_ok own) k.held) (list_all (terms_fit own entry_terms) k.entries) h))

@@ -13,7 +13,8 @@ use lib.ListN.{length, length-append}
 use lib.Pow.{pow-lt}
 use Rattle.names.specs.Sets.{has, no_set}
 use Rattle.names.proofs.SetLaws.{digit-single_other, has_out}
-use Rattle.predicates.specs.Lists.{any, all, keep, In}
+use Rattle.std.specs.List.{list_any, list_all, filter}
+use Rattle.predicates.specs.Lists.{In}
 use Rattle.predicates.specs.Predicates.{implies, is_true, normal, formed}
 use Rattle.predicates.proofs.ListLaws.{both, both_l, both_r, neither, split, cond_ind}
 use Rattle.predicates.proofs.ListLaws.{in_l, in_r, in_cases, any_in, any_out, all_out, keep_in, keep_out, all_keep, length-keep}
@@ -71,16 +72,16 @@ sum_fit own p q h k =
       each = λ t m. ⊎_elim (a.each t) (b.each t) (in_cases t p q (normal_out (p ++ q) t m));
     }
 
-pub learn_all : (f : List ℕ → Bool) (e : List ℕ) (es : List (List ℕ)) → T (f e) → T (all f es) → T (all f (learn e es))
+pub learn_all : (f : List ℕ → Bool) (e : List ℕ) (es : List (List ℕ)) → T (f e) → T (list_all f es) → T (list_all f (learn e es))
 unfolding learn
 learn_all f e es t h =
-    cond_ind (λ fs. T (all f fs)) (explained es e) es (keep (λ g. not (implies e g)) es ++ (e ∷ [])) (λ _. h)
-    (λ _. all_append f (keep (λ g. not (implies e g)) es) (e ∷ []) (all_keep f (λ g. not (implies e g)) es h) (both (f e) true t tt))
+    cond_ind (λ fs. T (list_all f fs)) (explained es e) es (filter (λ g. not (implies e g)) es ++ (e ∷ [])) (λ _. h)
+    (λ _. all_append f (filter (λ g. not (implies e g)) es) (e ∷ []) (all_keep f (λ g. not (implies e g)) es h) (both (f e) true t tt))
 
 length-learn : (e : List ℕ) (es : List (List ℕ)) → length (learn e es) ≤ length es + 1
 unfolding learn
 length-learn e es =
-    let rest = keep (λ g. not (implies e g)) es in
+    let rest = filter (λ g. not (implies e g)) es in
     cond_ind (λ fs. length fs ≤ length es + 1) (explained es e) es (rest ++ (e ∷ [])) (λ _. omega arith)
     (λ _. omega (arith, length-append rest (e ∷ []), length-keep (λ g. not (implies e g)) es))
 
@@ -94,10 +95,10 @@ learnt_ind P n (d ∷ ds) es f h =
     learnt_ind P n ds (cond (disjoint d n) (learn (normal (d.terms ++ n.terms)) es) es) (λ e fs m. f e fs (inr m))
     (cond_ind P (disjoint d n) (learn (normal (d.terms ++ n.terms)) es) es (λ c. f d es (inl refl) c h) (λ _. h))
 
-pub learnt_fit : (own : ℕ) (n : Datum) (ds : List Datum) (es : List (List ℕ)) → T (datum_ok own n) → T (all (datum_ok own) ds)
-    → T (all (terms_fit own entry_terms) es) → T (all (terms_fit own entry_terms) (learnt n ds es))
+pub learnt_fit : (own : ℕ) (n : Datum) (ds : List Datum) (es : List (List ℕ)) → T (datum_ok own n) → T (list_all (datum_ok own) ds)
+    → T (list_all (terms_fit own entry_terms) es) → T (list_all (terms_fit own entry_terms) (learnt n ds es))
 learnt_fit own n ds es o h k =
-    learnt_ind (λ fs. T (all (terms_fit own entry_terms) fs)) n ds es
+    learnt_ind (λ fs. T (list_all (terms_fit own entry_terms) fs)) n ds es
     (λ d fs m c. learn_all (terms_fit own entry_terms) (normal (d.terms ++ n.terms)) fs
     (sum_fit own d.terms n.terms (ok_datum_out own d (all_out (datum_ok own) ds h d m)).fit (ok_datum_out own n o).fit)) k
 
@@ -130,7 +131,7 @@ explained_mono es p q k h =
 pub learn-has : (e : List ℕ) (es : List (List ℕ)) → T (explained (learn e es) e)
 unfolding learn explained
 learn-has e es =
-    let rest = keep (λ g. not (implies e g)) es in
+    let rest = filter (λ g. not (implies e g)) es in
     cond_ind (λ fs. T (explained fs e)) (explained es e) es (rest ++ (e ∷ [])) (λ h. h)
     (λ _. any_in (λ g. implies g e) (rest ++ (e ∷ [])) e (in_r e rest (e ∷ []) (inl refl)) (implies_refl e))
 
@@ -142,9 +143,9 @@ learn-keeps e es p h =
     (λ _. let r = any_out (λ f. implies f p) es h in go r.0 r.1 r.2 (split (implies e r.0)))
   where
     rest : List (List ℕ)
-    rest = keep (λ g. not (implies e g)) es
+    rest = filter (λ g. not (implies e g)) es
 
-    go : (f : List ℕ) → In f es → T (implies f p) → T (implies e f) ⊎ T (not (implies e f)) → T (any (λ g. implies g p) (rest ++ (e ∷ [])))
+    go : (f : List ℕ) → In f es → T (implies f p) → T (implies e f) ⊎ T (not (implies e f)) → T (list_any (λ g. implies g p) (rest ++ (e ∷ [])))
     go f m i (inl k) = any_in (λ g. implies g p) (rest ++ (e ∷ [])) e (in_r e rest (e ∷ []) (inl refl)) (implies_trans e f p k i)
     go f m i (inr k) = any_in (λ g. implies g p) (rest ++ (e ∷ [])) f (in_l f rest (e ∷ []) (keep_in (λ g. not (implies e g)) es f m k)) i
 
@@ -182,45 +183,45 @@ same_out (t ∷ p) [] h = absurd h
 same_out (t ∷ p) (u ∷ q) h =
     ap₂ (λ x l. x ∷ l) (eqb→eq t u (both_l (eqb t u) (same p q) h)) (same_out p q (both_r (eqb t u) (same p q) h))
 
-without_all : (f : Datum → Bool) (p : List ℕ) (ds : List Datum) → T (all f ds) → T (all f (without p ds))
+without_all : (f : Datum → Bool) (p : List ℕ) (ds : List Datum) → T (list_all f ds) → T (list_all f (without p ds))
 unfolding without
 without_all f p [] h = tt
 without_all f p (d ∷ ds) h =
-    let rest = without_all f p ds (both_r (f d) (all f ds) h) in
-    cond_ind (λ cs. T (all f cs)) (same d.terms p) ds (d ∷ without p ds)
-    (λ _. both_r (f d) (all f ds) h) (λ _. both (f d) (all f (without p ds)) (both_l (f d) (all f ds) h) rest)
+    let rest = without_all f p ds (both_r (f d) (list_all f ds) h) in
+    cond_ind (λ cs. T (list_all f cs)) (same d.terms p) ds (d ∷ without p ds)
+    (λ _. both_r (f d) (list_all f ds) h) (λ _. both (f d) (list_all f (without p ds)) (both_l (f d) (list_all f ds) h) rest)
 
 -- n cut to a datum with its predicate is right, if the two have an instant in common
-met_ok : (own : ℕ) (n : Datum) (ds : List Datum) → OkDatum own n → T (all (datum_ok own) ds)
+met_ok : (own : ℕ) (n : Datum) (ds : List Datum) → OkDatum own n → T (list_all (datum_ok own) ds)
     → ((d : Datum) → In d ds → d.terms ≡ n.terms → (n.left ≤ d.right) × (d.left ≤ n.right)) → OkDatum own (met n ds)
 unfolding met meet
 met_ok own n [] o h f = o
 met_ok own n (d ∷ ds) o h f =
-    let rest = met_ok own n ds o (both_r (datum_ok own d) (all (datum_ok own) ds) h) (λ e m. f e (inr m)) in
+    let rest = met_ok own n ds o (both_r (datum_ok own d) (list_all (datum_ok own) ds) h) (λ e m. f e (inr m)) in
     cond_ind (λ c. OkDatum own c) (same d.terms n.terms) (meet d n) (met n ds)
     (λ k.
-    let c = ok_datum_out own d (both_l (datum_ok own d) (all (datum_ok own) ds) h) in
+    let c = ok_datum_out own d (both_l (datum_ok own d) (list_all (datum_ok own) ds) h) in
     let v = f d (inl refl) (same_out d.terms n.terms k) in
     record { ends = omega arith; below = omega arith; fit = o.fit })
     (λ _. rest)
 
 -- ---- step 4
 
-stored-all : (f : Datum → Bool) (n : Datum) (ds : List Datum) → T (f n) → T (all f ds) → T (all f (stored n ds))
+stored-all : (f : Datum → Bool) (n : Datum) (ds : List Datum) → T (f n) → T (list_all f ds) → T (list_all f (stored n ds))
 unfolding stored
 stored-all f n ds t h =
-    let rest = keep (λ d. not (betters n d)) ds in
-    cond_ind (λ cs. T (all f cs)) (any (λ d. betters d n) ds) ds (rest ++ (n ∷ [])) (λ _. h)
+    let rest = filter (λ d. not (betters n d)) ds in
+    cond_ind (λ cs. T (list_all f cs)) (list_any (λ d. betters d n) ds) ds (rest ++ (n ∷ [])) (λ _. h)
     (λ _. all_append f rest (n ∷ []) (all_keep f (λ d. not (betters n d)) ds h) (both (f n) true t tt))
 
 -- ---- the receipt
 
 -- steps 2 to 4 leave right data
-pub held_after_ok : (own : ℕ) (n : Datum) (ds : List Datum) (es : List (List ℕ)) → T (datum_ok own n) → T (all (datum_ok own) ds)
-    → T (all (datum_ok own) (held_after n ds (learnt n ds es)))
+pub held_after_ok : (own : ℕ) (n : Datum) (ds : List Datum) (es : List (List ℕ)) → T (datum_ok own n) → T (list_all (datum_ok own) ds)
+    → T (list_all (datum_ok own) (held_after n ds (learnt n ds es)))
 unfolding held_after unexplained
 held_after_ok own n ds es o h =
-    cond_ind (λ cs. T (all (datum_ok own) cs)) (explained fs n.terms) us (stored (met n us) (without n.terms us)) (λ _. right)
+    cond_ind (λ cs. T (list_all (datum_ok own) cs)) (explained fs n.terms) us (stored (met n us) (without n.terms us)) (λ _. right)
     (λ k. stored-all (datum_ok own) (met n us) (without n.terms us)
     (ok_datum_in own (met n us) (met_ok own n us (ok_datum_out own n o) right (λ d m e. unexplained_overlap n ds es d (old d m) e k)))
     (without_all (datum_ok own) n.terms us right))
@@ -229,9 +230,9 @@ held_after_ok own n ds es o h =
     fs = learnt n ds es
 
     us : List Datum
-    us = keep (λ d. not (explained fs d.terms)) ds
+    us = filter (λ d. not (explained fs d.terms)) ds
 
-    right : T (all (datum_ok own) us)
+    right : T (list_all (datum_ok own) us)
     right = all_keep (datum_ok own) (λ d. not (explained fs d.terms)) ds h
 
     old : (d : Datum) → In d us → In d ds
@@ -243,9 +244,9 @@ unfolding store_ok settled
 settled_ok own n k h t =
     let ds = k.held in
     let es = k.entries in
-    let held : T (all (datum_ok own) ds) = both_l (all (datum_ok own) ds) (all (terms_fit own entry_terms) es) h in
-    let entries : T (all (terms_fit own entry_terms) es) = both_r (all (datum_ok own) ds) (all (terms_fit own entry_terms) es) h in
-    both (all (datum_ok own) (settled n k).held) (all (terms_fit own entry_terms) (settled n k).entries)
+    let held : T (list_all (datum_ok own) ds) = both_l (list_all (datum_ok own) ds) (list_all (terms_fit own entry_terms) es) h in
+    let entries : T (list_all (terms_fit own entry_terms) es) = both_r (list_all (datum_ok own) ds) (list_all (terms_fit own entry_terms) es) h in
+    both (list_all (datum_ok own) (settled n k).held) (list_all (terms_fit own entry_terms) (settled n k).entries)
     (held_after_ok own n ds es t held) (learnt_fit own n ds es t held entries)
 
 -- a new datum that is true is not looked at

@@ -13,7 +13,8 @@ use Rattle.names.specs.Sets.{no_set, has, minus}
 use Rattle.names.specs.code.Parts.{shared}
 use Rattle.names.proofs.SetLaws.{subset_le, has_mono}
 use Rattle.names.proofs.PartLaws.{minus-subset}
-use Rattle.predicates.specs.Lists.{any, all, keep, In}
+use Rattle.std.specs.List.{list_any, list_all, filter}
+use Rattle.predicates.specs.Lists.{In}
 use Rattle.predicates.specs.Predicates.{is_true}
 use Rattle.predicates.proofs.ListLaws.{both, both_l, both_r, T_true, any_out, all_in, all_out, keep_out, map_out, length-keep}
 use Rattle.predicates.proofs.PredicateLaws.{not_true_full}
@@ -67,15 +68,15 @@ withdrawn_datum_ok own r d h n =
 pub withdrawn_ok : (own r : ℕ) (k : Store) → T (store_ok own k) → T (store_ok own (withdrawn r k))
 unfolding store_ok withdrawn withdrawn_data withdrawn_entries
 withdrawn_ok own r k h =
-    let ds = both_l (all (datum_ok own) k.held) _ h in
-    let es = both_r (all (datum_ok own) k.held) (all (terms_fit own entry_terms) k.entries) h in
-    both (all (datum_ok own) (keep (λ d. not (is_true d.terms)) (map (withdrawn_datum r) k.held))) _
-    (all_in (datum_ok own) (keep (λ d. not (is_true d.terms)) (map (withdrawn_datum r) k.held)) (λ d m.
+    let ds = both_l (list_all (datum_ok own) k.held) _ h in
+    let es = both_r (list_all (datum_ok own) k.held) (list_all (terms_fit own entry_terms) k.entries) h in
+    both (list_all (datum_ok own) (filter (λ d. not (is_true d.terms)) (map (withdrawn_datum r) k.held))) _
+    (all_in (datum_ok own) (filter (λ d. not (is_true d.terms)) (map (withdrawn_datum r) k.held)) (λ d m.
     let q = keep_out (λ d. not (is_true d.terms)) (map (withdrawn_datum r) k.held) d m in
     let u = map_out (withdrawn_datum r) k.held d q.0 in
     subst (λ (x : Datum). T (datum_ok own x)) (sym u.2)
     (withdrawn_datum_ok own r u.0 (all_out (datum_ok own) k.held ds u.0 u.1) (subst (λ (x : Datum). T (not (is_true x.terms))) u.2 q.1))))
-    (all_in (terms_fit own entry_terms) (keep (λ e. not (is_true e)) (map (withdraw r) k.entries)) (λ e m.
+    (all_in (terms_fit own entry_terms) (filter (λ e. not (is_true e)) (map (withdraw r) k.entries)) (λ e m.
     let q = keep_out (λ e. not (is_true e)) (map (withdraw r) k.entries) e m in
     let u = map_out (withdraw r) k.entries e q.0 in
     subst (λ (x : List ℕ). T (terms_fit own entry_terms x)) (sym u.2)
@@ -96,7 +97,7 @@ withdrawn_entries_le r k =
 
 -- ---- where nobody is withdrawn
 
-untouched : (p : List ℕ) → T (all (λ t. eqb (shared t 0) 0) p)
+untouched : (p : List ℕ) → T (list_all (λ t. eqb (shared t 0) 0) p)
 unfolding shared
 untouched [] = tt
 untouched (t ∷ p) = both (eqb (bit_and t 0) 0) _ (subst (λ (x : ℕ). T (eqb x 0)) (sym (and_zero_r t)) tt) (untouched p)
@@ -107,20 +108,20 @@ unfolding is_true term_fits
 fit_stays own width p h =
     let o = ok_terms_out own width p h in (
       withdraw-none 0 p o.norm (untouched p),
-      not_T (any (λ t. eqb t 0) p) (λ k.
+      not_T (list_any (λ t. eqb t 0) p) (λ k.
           let u = any_out (λ t. eqb t 0) p k in
           let full = ltb→lt 0 u.0 (both_l (ltb 0 u.0) _ (o.each u.0 u.1)) in
           omega (arith, full, eqb→eq u.0 0 u.2)),
     )
 
 -- elements that stay and pass are all there
-keep-map : {A : Type 0} (f : A → A) (p : A → Bool) (l : List A) → ((x : A) → In x l → (f x ≡ x) × T (p x)) → keep p (map f l) ≡ l
+keep-map : {A : Type 0} (f : A → A) (p : A → Bool) (l : List A) → ((x : A) → In x l → (f x ≡ x) × T (p x)) → filter p (map f l) ≡ l
 keep-map f p [] h = refl
 keep-map f p (x ∷ l) h =
     let a = h x (inl refl) in
     rw (a.0, T_true (p x) a.1, keep-map f p l (λ y m. h y (inr m)))
 
-pub withdrawn_data-none : (own : ℕ) (ds : List Datum) → T (all (datum_ok own) ds) → withdrawn_data 0 ds ≡ ds
+pub withdrawn_data-none : (own : ℕ) (ds : List Datum) → T (list_all (datum_ok own) ds) → withdrawn_data 0 ds ≡ ds
 unfolding withdrawn_data
 withdrawn_data-none own ds h =
     keep-map (withdrawn_datum 0) (λ d. not (is_true d.terms)) ds (λ d m.
@@ -130,8 +131,8 @@ withdrawn_data-none own ds h =
 pub withdrawn-none : (own : ℕ) (k : Store) → T (store_ok own k) → withdrawn 0 k ≡ k
 unfolding store_ok withdrawn withdrawn_entries
 withdrawn-none own k h =
-    let ds = both_l (all (datum_ok own) k.held) _ h in
-    let es = both_r (all (datum_ok own) k.held) (all (terms_fit own entry_terms) k.entries) h in
+    let ds = both_l (list_all (datum_ok own) k.held) _ h in
+    let es = both_r (list_all (datum_ok own) k.held) (list_all (terms_fit own entry_terms) k.entries) h in
     ap₂ (λ (x : List Datum) (y : List (List ℕ)). record { held = x; entries = y })
     (withdrawn_data-none own k.held ds)
     (keep-map (withdraw 0) (λ e. not (is_true e)) k.entries (λ e m. fit_stays own entry_terms e (all_out (terms_fit own entry_terms) k.entries es e m)))

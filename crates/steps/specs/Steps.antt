@@ -1,7 +1,7 @@
 -- The four steps of receiving (document 01, "Receiving"), each a definition of its own, on the datum that a receipt makes and what is held and known.
 -- Assumes nothing: these are definitions.
 use Rattle.std.specs.Prelude.{ℕ, ◌^◌, min, max, Bool, true, false, ◌&&◌, ◌||◌, not, cond, List, [], ◌∷◌, ◌++◌, eqb, leb, ltb, length}
-use Rattle.predicates.specs.Lists.{any, keep}
+use Rattle.std.specs.List.{list_any, filter}
 use Rattle.predicates.specs.Predicates.{implies, is_true, normal}
 use Rattle.state.specs.Model.{Datum, Store}
 use Rattle.entries.specs.Entries.{explained, learn}
@@ -20,7 +20,7 @@ learnt n (d ∷ ds) es = learnt n ds (cond (disjoint d n) (learn (normal (d.term
 -- ---- step 2: "Held data whose predicate is implied by one entry go"
 
 unfoldable pub unexplained : List (List ℕ) → List Datum → List Datum
-unexplained es ds = keep (λ d. not (explained es d.terms)) ds
+unexplained es ds = filter (λ d. not (explained es d.terms)) ds
 
 -- ---- step 3: "The oldest held datum with the same predicate is removed and the new interval becomes the intersection (rule 15)."
 
@@ -50,7 +50,7 @@ betters d n = implies d.terms n.terms && (leb n.left d.left && leb d.right n.rig
 
 -- "If a held datum [betters] the new one [it] is not stored. Else held data that the new one betters in this way go, and it stands last."
 unfoldable pub stored : Datum → List Datum → List Datum
-stored n ds = cond (any (λ d. betters d n) ds) ds (keep (λ d. not (betters n d)) ds ++ (n ∷ []))
+stored n ds = cond (list_any (λ d. betters d n) ds) ds (filter (λ d. not (betters n d)) ds ++ (n ∷ []))
 
 -- ---- the receipt
 

@@ -1,4 +1,4 @@
-// The four steps of receiving (document 01, "Receiving") on held data in columns and entries in a table: flat arrays that the caller lends.
+// The four steps of receiving (document 01, "Receiving") on held data in rows and entries in a table: arrays that the caller lends.
 // Every function here is proved, and the crate assumes nothing of its own.
 #![tactic(auto)]
 

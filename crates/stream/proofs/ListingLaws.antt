@@ -11,7 +11,7 @@ use lib.ListN.{length, take, replicate, length-take}
 use lib.Seq.{take_all, take_at, take-append-le, length-take-le, append_snoc}
 use borrow.Author.Tests.{ltb-true, ltb-false, eqb-true}
 use Rattle.state.specs.Layout.{state_size, joined}
-use Rattle.predicates.specs.Lists.{all}
+use Rattle.std.specs.List.{list_all}
 use Rattle.predicates.proofs.ListLaws.{both, both_l, both_r, T_true, T_false, split}
 use Rattle.predicates.proofs.IndexLaws.{all_append}
 use Rattle.fields.specs.Fields.{onto}
@@ -28,20 +28,20 @@ abbrev in_line : ℕ → Bool
 in_line b = not (eqb b 10)
 
 -- behind a line feed the lines of the rest follow
-lines-feed : (l bs : List ℕ) → T (all in_line l) → lines_in (l ++ (10 ∷ bs)) ≡ l ∷ lines_in bs
+lines-feed : (l bs : List ℕ) → T (list_all in_line l) → lines_in (l ++ (10 ∷ bs)) ≡ l ∷ lines_in bs
 unfolding lines_in onto
 lines-feed [] bs h = refl
 lines-feed (x ∷ l) bs h =
-    let other = T_false (eqb x 10) (both_l (in_line x) (all in_line l) h) in
-    rw (other, lines-feed l bs (both_r (in_line x) (all in_line l) h))
+    let other = T_false (eqb x 10) (both_l (in_line x) (list_all in_line l) h) in
+    rw (other, lines-feed l bs (both_r (in_line x) (list_all in_line l) h))
 
 -- without one there is one line, if it has bytes
-lines-last : (x : ℕ) (l : List ℕ) → T (all in_line (x ∷ l)) → lines_in (x ∷ l) ≡ (x ∷ l) ∷ []
+lines-last : (x : ℕ) (l : List ℕ) → T (list_all in_line (x ∷ l)) → lines_in (x ∷ l) ≡ (x ∷ l) ∷ []
 unfolding lines_in onto
-lines-last x [] h = rw (T_false (eqb x 10) (both_l (in_line x) (all in_line []) h))
+lines-last x [] h = rw (T_false (eqb x 10) (both_l (in_line x) (list_all in_line []) h))
 lines-last x (y ∷ l) h =
-    let other = T_false (eqb x 10) (both_l (in_line x) (all in_line (y ∷ l)) h) in
-    let rest = lines-last y l (both_r (in_line x) (all in_line (y ∷ l)) h) in
+    let other = T_false (eqb x 10) (both_l (in_line x) (list_all in_line (y ∷ l)) h) in
+    let rest = lines-last y l (both_r (in_line x) (list_all in_line (y ∷ l)) h) in
     rw (other, rest)
 
 -- each line yields one
@@ -78,14 +78,14 @@ Streams l bs begun s =
     ≡ joined (λ t. t) (yields (lines_in (l ++ bs)) begun s)
 
 -- the input ends in a line
-streams_end : (x : ℕ) (l : List ℕ) (begun : Bool) (s : List ℕ) → T (all in_line (x ∷ l)) → Streams (x ∷ l) [] begun s
+streams_end : (x : ℕ) (l : List ℕ) (begun : Bool) (s : List ℕ) → T (list_all in_line (x ∷ l)) → Streams (x ∷ l) [] begun s
 unfolding text_after kept_after result_of yields joined
 streams_end x l begun s h =
     let some = last_some (kept begun s (take (line_most + 1) (x ∷ l))) refl (λ z. omega (arith, length-take (line_most + 1) (x ∷ l))) in
     rw (append-nil (x ∷ l), lines-last x l h, some, line-cut (x ∷ l) s begun, append-nil)
 
 -- a line ends
-streams_feed : (l bs : List ℕ) (begun : Bool) (s : List ℕ) → T (all in_line l)
+streams_feed : (l bs : List ℕ) (begun : Bool) (s : List ℕ) → T (list_all in_line l)
     → Streams [] bs (line_result l begun s).begun (line_result l begun s).state → Streams l (10 ∷ bs) begun s
 unfolding text_after kept_after kept_next text_next result_of yields joined
 streams_feed l bs begun s h next = rw (line-cut l s begun, append_assoc, lines-feed l bs h, next)
@@ -95,7 +95,7 @@ streams_on : (l bs : List ℕ) (b : ℕ) (begun : Bool) (s : List ℕ) → eqb b
 unfolding text_after kept_after kept_next text_next
 streams_on l bs b begun s other next = rw (other, take_behind (line_most + 1) l (b ∷ []), ← (append_snoc l b bs)) next
 
-streams : (l bs : List ℕ) (begun : Bool) (s : List ℕ) → T (all in_line l) → Streams l bs begun s
+streams : (l bs : List ℕ) (begun : Bool) (s : List ℕ) → T (list_all in_line l) → Streams l bs begun s
 unfolding text_after kept_after last_text lines_in yields joined
 streams [] [] begun s h = refl
 streams (x ∷ l) [] begun s h = streams_end x l begun s h

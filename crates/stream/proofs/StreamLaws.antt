@@ -1,16 +1,17 @@
 -- Laws of `specs.Kept`: a byte more at the end of those that were taken, and the bytes of a line that are kept.
 -- The idea: `kept_after` and `text_after` go from the first byte on, the loop adds one behind. No contract cites this file. Assumes nothing.
-use Prim.Native.Nat.{ℕ, ◌+◌, ◌*◌, ◌≤◌, ◌<◌}
+use Prim.Native.Nat.{ℕ, ◌+◌, ◌*◌, ◌-◌, ◌≤◌, ◌<◌}
 use mathlib.Core.Path.{◌≡◌, refl, sym, ◌∙◌}
 use mathlib.Core.List.{List, [], ◌∷◌, ◌++◌, append_assoc, append-nil}
 use native.Mathlib.Numerals.{add-one}
 use native.Mathlib.Omega.{arith}
 use lib.Dec.{eqb}
-use lib.ListN.{length, get_or, take, set, length-append}
+use lib.ListN.{length, get_or, take, drop, set, length-append, length-drop, drop_of_length-le}
+use borrow.Rule.Slice.PartMut.{put_mid}
 use borrow.Author.Tests.{ne_eqb}
-use lib.Seq.{take-suc, take-suc-set, take_all, take_at, length-take-le}
+use lib.Seq.{take-suc, take-suc-set, take_all, take_at, length-take-le, drop-drop, sets-eq}
 use Rattle.numbers.specs.Numbers.{put}
-use Rattle.numbers.proofs.NumberLaws.{put_then}
+use Rattle.numbers.proofs.NumberLaws.{put_then, put_front}
 use Rattle.predicates.proofs.ListLaws.{cond_ind}
 use Rattle.lines.specs.code.Sizes.{answer_most}
 use Rattle.lines.specs.Lines.{line_most}
@@ -80,6 +81,15 @@ text-most k (b ∷ bs) =
     let first : length (text_next k b) ≤ answer_most =
     cond_ind (λ (t : List ℕ). length t ≤ answer_most) (eqb b 10) _ _ (λ _. line_short _ _ _) (λ _. omega arith) in
     rw length-append (omega (arith, text-most (kept_next k b) bs))
+
+-- what a part of the output behind a place prints at its front stands from that place on
+pub put_behind : (at n : ℕ) (ts s t : List ℕ) → t ≡ put 0 ts (take n (drop at s)) → n ≡ length s - at → at + length ts ≤ length s → put_mid at n s t ≡ put at ts s
+unfolding put
+put_behind at n ts s t f e h =
+    let rest : take n (drop at s) ≡ drop at s = take_all n (drop at s) (omega (arith, length-drop at s)) in
+    let none : drop n (drop at s) ≡ [] = drop_of_length-le (drop at s) {i = n} (omega (arith, length-drop at s)) in
+    let front = put_front (length ts) ts (drop at s) refl (omega (arith, length-drop at s)) in
+    rw (f, rest, none, append-nil, front, drop-drop, sets-eq ts s at h, append_assoc)
 
 -- ---- the end of the input
 

@@ -2,7 +2,7 @@
 -- row's equation. Assumes nothing.
 use mathlib.Core.Bool.{Bool}
 use lib.Dec.{T}
-use Rattle.predicates.specs.Lists.{all}
+use Rattle.std.specs.List.{list_all}
 use Rattle.predicates.proofs.ListLaws.{all_out}
 use Rattle.numbers.specs.Numbers.{tab}
 use Rattle.state.specs.Layout.{joined}
@@ -16,7 +16,7 @@ use Rattle.stream.specs.Cases.{InputCase, InputComes, inputs, EachInput}
 unfoldable input_passes : InputCase → Bool
 input_passes c = same_bytes (listing_of (ascii c.input)) (ascii c.prints)
 
-inputs_pass : T (all input_passes inputs)
+inputs_pass : T (list_all input_passes inputs)
 unfolding tab joined onto fields value_from value is_number same_bytes bad_line word_line fields_line line_result ascii lines_in yields listing_of input_passes inputs
 inputs_pass = tt
 

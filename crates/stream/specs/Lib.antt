@@ -1,4 +1,3 @@
 pub mod Listing
 pub mod Kept
 pub mod Cases
-pub mod code

@@ -3,17 +3,19 @@
 // nothing of its own.
 #![tactic(auto)]
 
-ghost use Rattle.std.specs.Prelude.{◌≡◌, List, ℕ, ◌+◌, ◌*◌, ◌≤◌, length, take};
+ghost use Rattle.std.specs.Prelude.{◌≡◌, List, ℕ, [], ◌+◌, ◌*◌, ◌≤◌, length, take};
 ghost use Rattle.numbers.specs.Numbers.{put};
 ghost use Rattle.lines.specs.code.Sizes.{answer_most};
-ghost use Rattle.lines.specs.Lines.{line_most, LineResult, line_result};
-ghost use Rattle.stream.specs.Kept.{Kept, kept, nothing_kept, kept_next, text_next, kept_after, text_after, last_text};
-ghost use Rattle.stream.specs.code.Sessions.{Standing, kept_by};
+ghost use Rattle.lines.specs.Lines.{line_most, LineResult};
+ghost use Rattle.stream.specs.Kept.{Kept, kept, nothing_kept, result_of, kept_next, text_next, kept_after, text_after, last_text};
 
-use lines::{ANSWER_MOST, LINE_MOST};
+use lines::LINE_MOST;
+use std::marker::Model;
 
-// What is kept between two pieces: whether a `set` was taken, the bytes of the line that have come, and the state.
-#[derive(Clone, Copy)]
+// What is kept between two pieces: whether a `set` was taken, the bytes of the line that have come, and the state. `begun` stands beside the state,
+// which is no Option: a `set` that is refused works on its bytes too.
+// There is no heap, so the line's length stands beside its bytes.
+#[derive(Drop)]
 pub struct Session {
     begun: bool,
     size: usize,
@@ -21,140 +23,81 @@ pub struct Session {
     state: [u8; state::STATE_SIZE],
 }
 
-// Before the first byte.
-pub fn begin() -> Session
-    ensures { (kept_by result ≡ nothing_kept) × Standing result }
-{
-    Session {
-        begun: false,
-        size: 0,
-        line: [0; LINE_MOST + 1],
-        state: [0; state::STATE_SIZE],
-    }
+impl Model for Session {
+    ghost Value = { Kept };
+
+    ghost view = { λ s. kept s.begun s.state (take s.size s.line) };
+
+    ghost invariant = { λ s. (s.size ≤ line_most + 1) × (length s.line ≡ line_most + 1) };
 }
 
-// Whether a `set` was taken, how many bytes of the line have come, and how many bytes of output wait.
-#[derive(Clone, Copy)]
-struct Place {
-    begun: bool,
-    size: usize,
-    filled: usize,
-}
-
-// Ends a line: its answer goes behind the output that waits.
-fn end_line(line: &[u8], state: &mut [u8], begun: bool, out: &mut [u8], filled: usize) -> Place
-    requires { filled + answer_most ≤ length out.old }
-    ensures { (let answer : LineResult = line_result line.now begun state.old in
-        (result.begun ≡ answer.begun) × (result.size ≡ 0) × (result.filled ≡ filled + length answer.text) × (result.filled ≤ filled + answer_most)
-        × (state.new ≡ answer.state) × (out.new ≡ put filled answer.text out.old)) }
-{
-    let mut answer = [0u8; ANSWER_MOST];
-    let got = lines::answer(line, state, begun, &mut answer);
-    let n = got.size;
-    let end = fields::text::put_text(out, filled, &answer[..n]);
-    Place {
-        begun: got.begun,
-        size: 0,
-        filled: end,
+impl Session {
+    // Before the first byte.
+    #[tactic(auto, unfolding(crate::specs::Kept::nothing_kept))]
+    pub fn new() -> Session
+        ensures { result ≡ nothing_kept }
+    {
+        Session {
+            begun: false,
+            size: 0,
+            line: [0; LINE_MOST + 1],
+            state: [0; state::STATE_SIZE],
+        }
     }
-}
 
-// One byte of input: a line feed ends the line.
-fn take_byte(b: u8, line: &mut [u8], state: &mut [u8], out: &mut [u8], place: Place) -> Place
-    requires { (place.size ≤ line_most + 1) × (line_most + 1 ≤ length line.old) × (place.filled + answer_most ≤ length out.old) }
-    ensures size_bound { (result.size ≤ line_most + 1) × (result.filled ≤ place.filled + answer_most) }
-    ensures fact { (let old : Kept = kept place.begun state.old (take place.size line.old) in
-        let new : Kept = kept result.begun state.new (take result.size line.new) in
-        (new ≡ kept_next old b) × (result.filled ≡ place.filled + length (text_next old b))
-        × (out.new ≡ put place.filled (text_next old b) out.old)) }
-{
-    let size = place.size;
-    let filled = place.filled;
-    if b == 10 {
-        return end_line(&line[..size], state, place.begun, out, filled);
+    // Ends a line: stores its answer at the front of `out`, and tells how many bytes it has.
+    fn end_line(&mut self, out: &mut [u8]) -> usize
+        requires { answer_most ≤ length out.old }
+        ensures { (let answer : LineResult = result_of self.old in
+            (self.new ≡ kept answer.begun answer.state []) × (result ≡ length answer.text) × (result ≤ answer_most)
+            × (out.new ≡ put 0 answer.text out.old)) }
+    {
+        let line = &self.line[..self.size];
+        let filled = lines::answer(line, &mut self.state, &mut self.begun, out);
+        self.size = 0;
+        filled
     }
-    if size <= LINE_MOST {
-        line[size] = b;
-        return Place {
-            begun: place.begun,
-            size: size + 1,
-            filled,
-        };
-    }
-    place
-}
 
-// Takes the bytes of a piece one after the other; no byte prints more than an answer.
-fn feed(
-    piece: &[u8],
-    line: &mut [u8],
-    state: &mut [u8],
-    out: &mut [u8],
-    begun: bool,
-    size: usize,
-) -> Place
-    requires { (size ≤ line_most + 1) × (line_most + 1 ≤ length line.old) × (answer_most * length piece.now ≤ length out.old) }
-    ensures size_bound { (result.size ≤ line_most + 1) × (result.filled ≤ answer_most * length piece.now) }
-    ensures fact { (let old : Kept = kept begun state.old (take size line.old) in
-        let new : Kept = kept result.begun state.new (take result.size line.new) in
-        (new ≡ kept_after old piece.now) × (result.filled ≡ length (text_after old piece.now))
-        × (out.new ≡ put 0 (text_after old piece.now) out.old)) }
-{
-    let mut place = Place {
-        begun,
-        size,
-        filled: 0,
-    };
-    let mut i: usize = 0;
-    while i < piece.len() {
-        place = take_byte(piece[i], line, state, out, place);
-        i += 1;
+    // Takes one byte of input: a line feed ends the line, and a line that is too long anyway keeps no more bytes.
+    fn take_byte(&mut self, b: u8, out: &mut [u8]) -> usize
+        requires { answer_most ≤ length out.old }
+        ensures { (self.new ≡ kept_next self.old b) × (result ≡ length (text_next self.old b)) × (result ≤ answer_most)
+            × (out.new ≡ put 0 (text_next self.old b) out.old) }
+    {
+        if b == b'\n' {
+            return self.end_line(out);
+        }
+        if self.size <= LINE_MOST {
+            self.line[self.size] = b;
+            self.size += 1;
+        }
+        0
     }
-    place
-}
 
-// A session, and how many bytes the last piece printed.
-#[derive(Clone, Copy)]
-pub struct Fed {
-    pub session: Session,
-    pub filled: usize,
-}
-
-// Takes a piece of the input and stores all that it prints at the front of `out`, which has room for an answer to each byte.
-pub fn take_piece(from: Session, piece: &[u8], out: &mut [u8]) -> Fed
-    requires { Standing from × (answer_most * length piece.now ≤ length out.old) }
-    ensures standing { Standing result.session × (result.filled ≤ answer_most * length piece.now) }
-    ensures fact { (let text : List ℕ = text_after (kept_by from) piece.now in
-        (kept_by result.session ≡ kept_after (kept_by from) piece.now) × (result.filled ≡ length text)
-        × (out.new ≡ put 0 text out.old)) }
-{
-    let mut line = from.line;
-    let mut state = from.state;
-    let place = feed(piece, &mut line, &mut state, out, from.begun, from.size);
-    let session = Session {
-        begun: place.begun,
-        size: place.size,
-        line,
-        state,
-    };
-    Fed {
-        session,
-        filled: place.filled,
+    // Takes a piece of the input and stores all that it prints at the front of `out`, which has room for an answer to each byte; tells how many bytes
+    // that is.
+    pub fn take_piece(&mut self, piece: &[u8], out: &mut [u8]) -> usize
+        requires { answer_most * length piece.now ≤ length out.old }
+        ensures { (let text : List ℕ = text_after self.old piece.now in
+            (self.new ≡ kept_after self.old piece.now) × (result ≡ length text) × (result ≤ answer_most * length piece.now)
+            × (out.new ≡ put 0 text out.old)) }
+    {
+        let mut filled: usize = 0;
+        for b in piece {
+            filled += self.take_byte(*b, &mut out[filled..]);
+        }
+        filled
     }
-}
 
-// Ends the input: a last line without a line feed counts if it has bytes. Stores what it prints at the front of `out`.
-pub fn last_line(from: Session, out: &mut [u8]) -> usize
-    requires { Standing from × (answer_most ≤ length out.old) }
-    ensures value { (result ≡ length (last_text (kept_by from))) × (result ≤ answer_most) }
-    ensures out_after { out.new ≡ put 0 (last_text (kept_by from)) out.old }
-{
-    let size = from.size;
-    if size == 0 {
-        return 0;
+    // Ends the input: a last line without a line feed counts if it has bytes. Stores what it prints at the front of `out`.
+    pub fn last_line(mut self, out: &mut [u8]) -> usize
+        requires { answer_most ≤ length out.old }
+        ensures value { (result ≡ length (last_text self)) × (result ≤ answer_most) }
+        ensures out_after { out.new ≡ put 0 (last_text self) out.old }
+    {
+        if self.size == 0 {
+            return 0;
+        }
+        self.end_line(out)
     }
-    let line = from.line;
-    let mut state = from.state;
-    let place = end_line(&line[..size], &mut state, from.begun, out, 0);
-    place.filled
 }

@@ -1,15 +1,20 @@
 -- What is held and known when names count as failed, row by row: a datum or an entry goes or is put last, and each that is left has terms.
 -- No contract cites this file. Assumes nothing.
-use Prim.Native.Nat.{ℕ, ◌+◌}
+use Prim.Native.Nat.{ℕ, ◌+◌, ◌<◌}
 use mathlib.Core.Path.{◌≡◌, refl, sym, ap, ◌∙◌}
 use mathlib.Core.Bool.{true, false, not}
 use mathlib.Core.List.{List, [], ◌∷◌, ◌++◌, map, map-append, append-nil}
 use borrow.Author.Tests.{eq-eqb, ne_eqb}
 use lib.Dec.{T, eqb}
-use lib.ListN.{length, get_or, take}
+use lib.ListN.{length, get_or, take, set}
+use Rattle.std.specs.Prelude.{All}
+use Rattle.std.proofs.lemmas.List.{take_more_set}
+use Rattle.std.proofs.lemmas.List.Elements.{All-push}
+use Rattle.state.specs.declared.holding.Held.{Held}
 use Rattle.numbers.specs.Numbers.{num, tab}
 use Rattle.numbers.proofs.NumberLaws.{tab_suc, map-tab}
-use Rattle.predicates.specs.Lists.{all, keep, padded}
+use Rattle.std.specs.List.{list_all, filter}
+use Rattle.predicates.specs.Lists.{padded}
 use Rattle.predicates.specs.Predicates.{is_true}
 use Rattle.predicates.proofs.ListLaws.{true_T, keep_all, keep_append, all_keep}
 use Rattle.predicates.proofs.SumLaws.{padded-front}
@@ -19,7 +24,7 @@ use Rattle.ends.specs.declared.Ends.{Ends}
 use Rattle.state.specs.Model.{Datum}
 use Rattle.state.specs.Layout.{own_at, datum_terms, entry_terms, datum_place, entry_place, row_in, held_count, entry_count, row_at, datum_at, entry_at, store_of}
 use Rattle.state.specs.Form.{datum_fits, entry_fits, in_form}
-use Rattle.state.specs.code.Tables.{Columns, Table, has_terms, row_of, entries_in, datum_of, datum_in, data_in, ends_at}
+use Rattle.state.specs.code.Tables.{Table, HeldFits, has_terms, row_of, entries_in, datum_of, datum_in, data_in, ends_at}
 use Rattle.state.proofs.LayoutLaws.{all-tab}
 use Rattle.state.proofs.FormLaws.{datum-row}
 use Rattle.state.proofs.RowLaws.{has_some}
@@ -41,7 +46,7 @@ module _ (r : ℕ) where
   withdrawn-append : (xs ys : List Datum) → withdrawn_data r (xs ++ ys) ≡ withdrawn_data r xs ++ withdrawn_data r ys
   unfolding withdrawn_data
   withdrawn-append xs ys =
-      ap (λ (l : List Datum). keep (λ d. not (is_true d.terms)) l) (map-append (withdrawn_datum r) xs ys)
+      ap (λ (l : List Datum). filter (λ d. not (is_true d.terms)) l) (map-append (withdrawn_datum r) xs ys)
       ∙ keep_append (λ d. not (is_true d.terms)) (map (withdrawn_datum r) xs) (map (withdrawn_datum r) ys)
 
   pub withdrawn-none : withdrawn_data r [] ≡ []
@@ -71,16 +76,13 @@ module _ (r : ℕ) where
           let w = withdraw r (row_at datum_terms (datum_place i + row_in) s) in
           rw (p, e) (ap (λ (l : List ℕ). take (length w) l) (sym (append-nil (padded datum_terms w))) ∙ padded-front datum_terms w [])
 
-      pub length-terms : n ≡ length (take n row)
-      length-terms = p ∙ ap length (sym seen_terms)
-
       pub seen_stays : (e : Ends) → (get_or row 0 0 ≡ 0 → ⊥) → e ≡ ends_at s i → withdrawn_data r (datum_at s i ∷ []) ≡ datum_of e (take n row) ∷ []
       unfolding datum_at ends_at
       seen_stays e f x = withdrawn_stays (datum_at s i) (seen_true ∙ ne_eqb _ 0 f) ∙ rw (x, seen_terms)
 
   -- all of a state in form: none of those that are left has been given up
   module _ (s : List ℕ) (t : T (in_form s)) where
-    some-terms : T (all (λ d. has_terms d.terms) (withdrawn_data r (tab (held_count s) (datum_at s))))
+    some-terms : T (list_all (λ d. has_terms d.terms) (withdrawn_data r (tab (held_count s) (datum_at s))))
     unfolding withdrawn_data datum_at
     some-terms =
         all_keep (λ d. has_terms d.terms) (λ d. not (is_true d.terms)) (map (withdrawn_datum r) (tab (held_count s) (datum_at s)))
@@ -90,12 +92,20 @@ module _ (r : ℕ) where
         true_T _ (has_some (withdraw r (datum_at s i).terms)
         (withdraw-some r (datum_at s i).terms (row-some own datum_terms (datum_place i + row_in) s (datum-row own s i (form-datum s t i h))))))))
 
-    pub withdrawn-held : (k n : ℕ) (c : Columns) → n ≡ held_count s → tab k (datum_in c) ≡ withdrawn_data r (tab n (datum_at s))
-        → (tab k (datum_in c) ≡ withdrawn_data r (store_of s).held) × (data_in k c ≡ tab k (datum_in c))
+    pub withdrawn-held : (n : ℕ) (c : List Held) → n ≡ held_count s → map datum_in c ≡ withdrawn_data r (tab n (datum_at s))
+        → (map datum_in c ≡ withdrawn_data r (store_of s).held) × (data_in c ≡ map datum_in c)
     unfolding store_of data_in
-    withdrawn-held k n c a e =
-        let held : tab k (datum_in c) ≡ withdrawn_data r (tab (held_count s) (datum_at s)) = e ∙ ap (λ (m : ℕ). withdrawn_data r (tab m (datum_at s))) a in
+    withdrawn-held n c a e =
+        let held : map datum_in c ≡ withdrawn_data r (tab (held_count s) (datum_at s)) = e ∙ ap (λ (m : ℕ). withdrawn_data r (tab m (datum_at s))) a in
         (held, rw held (keep_all (λ d. has_terms d.terms) (withdrawn_data r (tab (held_count s) (datum_at s))) some-terms))
+
+-- a row put behind the first r
+module _ (held : List Held) (r : ℕ) (x : Held) (h : r < length held) where
+  pub row-fits_put : All HeldFits (take r held) → HeldFits x → All HeldFits (take (r + 1) (set held r x))
+  row-fits_put a f = rw take_more_set (All-push HeldFits (take r held) x a f)
+
+  pub rows_put : map datum_in (take (r + 1) (set held r x)) ≡ map datum_in (take r held) ++ (datum_in x ∷ [])
+  rows_put = rw take_more_set (map-append datum_in (take r held) (x ∷ []))
 
 -- ---- the entries
 
@@ -103,7 +113,7 @@ module _ (r : ℕ) where
   entries-append : (xs ys : List (List ℕ)) → withdrawn_entries r (xs ++ ys) ≡ withdrawn_entries r xs ++ withdrawn_entries r ys
   unfolding withdrawn_entries
   entries-append xs ys =
-      ap (λ (l : List (List ℕ)). keep (λ e. not (is_true e)) l) (map-append (withdraw r) xs ys)
+      ap (λ (l : List (List ℕ)). filter (λ e. not (is_true e)) l) (map-append (withdraw r) xs ys)
       ∙ keep_append (λ e. not (is_true e)) (map (withdraw r) xs) (map (withdraw r) ys)
 
   pub entries_none : withdrawn_entries r [] ≡ []
@@ -143,7 +153,7 @@ module _ (r : ℕ) where
 
   -- all of a state in form
   module _ (s : List ℕ) (t : T (in_form s)) where
-    some-entries : T (all has_terms (withdrawn_entries r (tab (entry_count s) (entry_at s))))
+    some-entries : T (list_all has_terms (withdrawn_entries r (tab (entry_count s) (entry_at s))))
     unfolding withdrawn_entries entry_at entry_fits
     some-entries =
         all_keep has_terms (λ e. not (is_true e)) (map (withdraw r) (tab (entry_count s) (entry_at s)))

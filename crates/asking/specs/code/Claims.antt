@@ -2,7 +2,8 @@
 -- What has to be explained (document 01, "Asking"): an instant counts for the sets that make every entry true and every held datum's predicate whose
 -- interval lacks the instant. Assumes nothing: these are definitions.
 use Rattle.std.specs.Prelude.{ℕ, Bool, ◌&&◌, not, List, ◌++◌, map, T, leb, length}
-use Rattle.predicates.specs.Lists.{all, all_below, keep}
+use Rattle.std.specs.List.{list_all, filter}
+use Rattle.predicates.specs.Lists.{all_below}
 use Rattle.predicates.specs.Predicates.{holds}
 use Rattle.state.specs.Model.{Datum, Store, State}
 use Rattle.claims.specs.code.Degrees.{degree_within}
@@ -17,7 +18,7 @@ terms_of ds = map (λ (d : Datum). d.terms) ds
 
 -- the predicates to be made true for the instant x
 unfoldable pub needed_at : ℕ → Store → List (List ℕ)
-needed_at x k = k.entries ++ terms_of (keep (λ d. not (inside x d)) k.held)
+needed_at x k = k.entries ++ terms_of (filter (λ d. not (inside x d)) k.held)
 
 -- the predicates to be made true for every instant
 unfoldable pub everything : Store → List (List ℕ)
@@ -25,7 +26,7 @@ everything k = k.entries ++ terms_of k.held
 
 -- some set within the limit, without the own name, makes the predicates true
 abbrev pub Explained : ℕ → State → List (List ℕ) → Type 0
-Explained limit st ps = (u : ℕ) × Allowed limit st.head.own u × T (all (holds u) ps)
+Explained limit st ps = (u : ℕ) × Allowed limit st.head.own u × T (list_all (holds u) ps)
 
 -- ---- without a search
 

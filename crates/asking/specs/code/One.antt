@@ -1,7 +1,9 @@
 -- Definitions that serve the code alone: no statement of document 01 cites this file.
 -- One failed name at most: alone it makes a predicate true where it is one of its terms. Assumes nothing: these are definitions.
-use Rattle.std.specs.Prelude.{ℕ, ◌≤◌, ◌<◌, ◌≡◌, ◌⊎◌, Bool, not, List, [], ◌∷◌, map, T, ℤ, pos, length, get_or}
+use Rattle.std.specs.Prelude.{ℕ, ◌≤◌, ◌<◌, ◌≡◌, ◌⊎◌, Bool, not, Option, List, [], map, T, ℤ, pos, length, get_or}
 use Rattle.std.specs.Int.Count.{ones}
+use Rattle.std.specs.List.{fold}
+use Rattle.std.specs.Option.{unwrap_or}
 use Rattle.names.specs.Sets.{no_set, subset, set_union}
 use Rattle.names.specs.code.Parts.{shared}
 use Rattle.predicates.specs.code.Marks.{singles}
@@ -21,14 +23,12 @@ unfoldable pub masks_of : List Datum → List ℕ
 masks_of ds = map (λ (d : Datum). singles d.terms) ds
 
 -- those of the names that all masks have
-unfoldable pub common_names : ℕ → List ℕ → ℕ
-common_names names [] = names
-common_names names (m ∷ ms) = common_names (shared names m) ms
+abbrev pub common_names : ℕ → List ℕ → ℕ
+common_names names ms = fold (λ left m. shared left m) names ms
 
 -- the names and those that some mask has
-unfoldable pub all_names : ℕ → List ℕ → ℕ
-all_names names [] = names
-all_names names (m ∷ ms) = all_names (set_union names m) ms
+abbrev pub all_names : ℕ → List ℕ → ℕ
+all_names names ms = fold (λ found m. set_union found m) names ms
 
 -- ---- data in arrays
 
@@ -60,6 +60,10 @@ pub record Hull (ds : List Datum) (U : ℕ → Type 0) (left right : ℕ) : Type
   pub first : left ≤ right → (u : ℕ) × U u × InAll u ds (pos left)
   pub last : left ≤ right → (u : ℕ) × U u × InAll u ds (pos right)
   pub none : right < left → (left ≡ no_end) × (right ≡ 0)
+
+-- the name as a set, or the mask of no set
+abbrev pub or_no_set : Option ℕ → ℕ
+or_no_set name = unwrap_or name no_set
 
 -- r is the least of the names that leaves an instant, or the mask of no set
 pub record LeastLeaving (ds : List Datum) (names r : ℕ) : Type 0 where

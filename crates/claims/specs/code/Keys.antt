@@ -1,12 +1,13 @@
 -- Definitions that serve the code alone: no statement of document 01 cites this file.
 -- Keys of ends (document 02, W-205): an end as one number of 64 bits. Keys lie as the ends of one state do, and tell the whole microseconds on
 -- either side of the end. Where the ends lie near each other, the keys are counts of millionths. Assumes nothing: these are definitions.
-use Rattle.std.specs.Prelude.{ℕ, zero, suc, ◌+◌, ◌*◌, ◌-◌, ◌/◌, ◌%◌, ◌^◌, min, max, ◌≡◌, Bool, true, cond, List, ◌++◌, map, ltb, get_or, drop}
+use Rattle.std.specs.Prelude.{ℕ, zero, suc, ◌+◌, ◌*◌, ◌-◌, ◌/◌, ◌%◌, ◌^◌, min, max, ◌≡◌, Bool, true, false, cond, List, ◌++◌, map, ltb, get_or, drop}
 use Rattle.numbers.specs.Numbers.{num, tab}
 use Rattle.ends.specs.Ends.{million}
 use Rattle.state.specs.Model.{Datum, datum, Store, State, last_whole}
 use Rattle.state.specs.Layout.{zeros, datum_place, right_in, left_millionths_in, held_count, head_of, store_of}
 use Rattle.claims.specs.declared.keys.Scale.{Scale}
+use Rattle.claims.specs.declared.keys.Scale.TheVariants.{Counts, Ranks}
 
 -- ---- where counts fit: from the first whole microsecond that a held end has, since clocks may count theirs from long ago, to the last one
 
@@ -43,7 +44,8 @@ count_from base x = x - base * million
 
 -- how keys are made and read; ranks are not counted from a base
 abbrev pub scale_by : Bool → ℕ → Scale
-scale_by counted base = record { counted = counted; base = cond counted base 0 }
+scale_by true base = Counts base
+scale_by false base = Ranks
 
 unfoldable pub scale_of : List ℕ → Scale
 scale_of s = scale_by (countable s) (base_of s)
@@ -77,18 +79,25 @@ parts_of s = tab (held_count s * 2) (millionths_at s) ++ drop (held_count s * 2)
 -- ---- a key
 
 abbrev pub key_by : Scale → List ℕ → ℕ → ℕ
-key_by scale parts x = cond scale.counted (count_from scale.base x) (rank_key parts x)
+key_by (Counts base) parts x = count_from base x
+key_by Ranks parts x = rank_key parts x
+
+-- the whole microsecond that keys start from
+abbrev pub start_of : Scale → ℕ
+start_of (Counts base) = base
+start_of Ranks = 0
 
 -- what a whole microsecond is in a key
 abbrev pub step_of : Scale → ℕ
-step_of scale = cond scale.counted million rank_step
+step_of (Counts base) = million
+step_of Ranks = rank_step
 
 -- the whole microseconds on either side of the end that a key tells
 abbrev pub down_by : Scale → ℕ → ℕ
-down_by scale key = scale.base + key / step_of scale
+down_by scale key = start_of scale + key / step_of scale
 
 abbrev pub up_by : Scale → ℕ → ℕ
-up_by scale key = scale.base + (key + (step_of scale - 1)) / step_of scale
+up_by scale key = start_of scale + (key + (step_of scale - 1)) / step_of scale
 
 -- of the ends of a state
 unfoldable pub key_of : List ℕ → ℕ → ℕ

@@ -1,32 +1,37 @@
 -- `fewest::fewest_failures` meets its contract: where nothing has to have failed, where one name is enough, and where the entries alone ask
 -- for more than 4 names, no search is needed.
-use mathlib.Core.Path.{◌≡◌, sym, ◌∙◌}
-use native.Mathlib.Omega.{arith}
+use Prim.Native.Nat.{◌<◌}
+use mathlib.Core.Path.{refl, sym, ◌∙◌}
+use native.Mathlib.Nat.{le_refl}
+use Rattle.names.proofs.SetLaws.{ones-empty}
+use Rattle.names.specs.Sets.{no_set}
 use Rattle.state.proofs.StateLaws.{form_ok}
 use Rattle.asking.proofs.FewestLaws.{fewest-none}
 use Rattle.fewest.proofs.FailureSteps.{floor_one, one-fewest, floor_two, floor_first, floor_over}
 use Rattle.fewest.proofs.fewest_failures.Goals as goal
 
 pub returns-then-agree : goal.returns-then-agree
-returns-then-agree c = fewest-none _ (sym c.agree.ensures ∙ c.if-agree.true)
+returns-then-agree c = rw ones-empty (fewest-none _ (sym c.agree.ensures ∙ c.if-agree.true))
 
-pub returns-then-one-lt-NO_SET : goal.returns-then-one-lt-NO_SET
-returns-then-one-lt-NO_SET c =
+pub returns-in-Some : goal.returns-in-Some
+returns-in-Some c =
     let none = sym c.agree.ensures ∙ c.if-agree.false in
-    one-fewest _ _ _ (floor_one _ none) c.fewest_one-one.ensures c.if-one-lt-NO_SET.true c.count.ensures.0
+    let fact = rw c.in-Some.is at c.fewest_one.ensures.fact in
+    let some : c.in-Some.one < no_set = rw c.in-Some.is at c.fewest_one.ensures.some in
+    one-fewest _ _ _ (floor_one _ none) fact some refl
 
-pub returns-then-from-gt4 : goal.returns-then-from-gt4
-returns-then-from-gt4 c =
+pub returns-in_err-from : goal.returns-in_err-from
+returns-in_err-from c =
     let none = sym c.agree.ensures ∙ c.if-agree.false in
-    let two = floor_two _ _ (floor_one _ none) c.fewest_one-one.ensures c.if-one-lt-NO_SET.false in
-    let first = c.first_limit-from.ensures in
-    let floor = floor_first _ (form_ok _ c.requires.1) two _ first in
-    let last : c.first_limit-from.result ≡ 5 = omega (arith, first.most, c.if-from-gt4.true) in
-    floor_over _ (rw last at floor)
+    let fact = rw c.in_default.is at c.fewest_one.ensures.fact in
+    let two = floor_two _ _ (floor_one _ none) fact (le_refl no_set) in
+    let first = c.in_err-from.ensures in
+    rw c.from_residual.ensures (floor_over _ (floor_first _ (form_ok _ c.args.s.sound) two _ first))
 
 pub fewest_from-requires : goal.fewest_from-requires
 fewest_from-requires c =
     let none = sym c.agree.ensures ∙ c.if-agree.false in
-    let two = floor_two _ _ (floor_one _ none) c.fewest_one-one.ensures c.if-one-lt-NO_SET.false in
-    let first = c.first_limit-from.ensures in
-    (c.requires.0, c.requires.1, first.most, floor_first _ (form_ok _ c.requires.1) two _ first)
+    let fact = rw c.in_default.is at c.fewest_one.ensures.fact in
+    let two = floor_two _ _ (floor_one _ none) fact (le_refl no_set) in
+    let first = c.in_ok-from.ensures in
+    (first.most, floor_first _ (form_ok _ c.args.s.sound) two _ first)

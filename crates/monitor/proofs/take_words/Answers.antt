@@ -1,17 +1,21 @@
 -- `monitor::take_words` meets its contract: bytes that leave a rest or are too many give no words, all others those that `get_words` reads.
-use mathlib.Core.Path.{refl, sym}
-use native.Mathlib.Omega.{arith}
+use Rattle.std.proofs.Common.{◌≡◌, ◌+◌, ◌*◌, ◌/◌, length, take, sym, ap, ◌∙◌, zero-add, arith, length-take-le}
+use lib.Seq.{take_at}
+use Rattle.numbers.specs.Numbers.{tab, num, words_of}
 use Rattle.numbers.proofs.NumberLaws.{length-tab}
-use Rattle.monitor.proofs.MessageCalls.{words_in-rest, words_in_many, words_in-all}
-use borrow.Author.Rules.{rules}
+use Rattle.monitor.proofs.MessageCalls.{words_in-none, words_in-all}
 use Rattle.monitor.proofs.take_words.Goals as goal
 
-pub returns-then-size-ne0 : goal.returns-then-size-ne0
-returns-then-size-ne0 c = let none = words_in-rest _ c.if-size-ne0.true in record { value = rw none (refl, search rules); words_after = rw none }
-
-pub returns-then-size-gt-BYTES_MOST : goal.returns-then-size-gt-BYTES_MOST
-returns-then-size-gt-BYTES_MOST c = let none = words_in_many _ c.if-size-ne0.false c.if-size-gt-BYTES_MOST.true in record { value = rw none (refl, search rules); words_after = rw none }
+pub returns-then-size : goal.returns-then-size
+returns-then-size c = sym (words_in-none _ c.if-size.true)
 
 pub returns : goal.returns
+unfolding words_of
 returns c =
-    let all = words_in-all _ c.if-size-ne0.false c.if-size-gt-BYTES_MOST.false in record { value = rw all (sym (length-tab _ _), omega arith); words_after = rw all c.get_words.ensures }
+    let m = c.args.message.now in
+    let n = length m / 4 in
+    let all = words_in-all m c.if-size.false in
+    let lent : length (take n c.args.room.now) ≡ n = length-take-le n c.args.room.now (omega (arith, all)) in
+    let read : c.get_words.new.out ≡ tab n (λ i. num (0 + i * 4) 4 m) = rw lent at c.get_words.ensures in
+    let words : tab n (λ i. num (0 + i * 4) 4 m) ≡ words_of m = simp zero-add in
+    take_at c.get_words.new.out _ n (ap length read ∙ length-tab n (λ i. num (0 + i * 4) 4 m)) ∙ read ∙ words ∙ sym all.0

@@ -1,4 +1,4 @@
--- `numbers::get64` meets its contract: eight bytes are four and four, `num_add`. There is no loop. Assumes nothing.
+-- `numbers::get64` meets its contract: eight bytes are four and four, `num_add`. Assumes nothing.
 use native.Mathlib.Omega.{arith}
 use Rattle.numbers.proofs.NumberLaws.{num_add}
 use Rattle.numbers.proofs.get64.Goals as goal

@@ -1,27 +1,27 @@
--- `numbers::put_num` meets its contract: turn i stores the least byte of what is left of x. The mathematics is `put_next` of `proofs.NumberLaws`.
--- Assumes nothing.
-use Prim.Native.Nat.{◌+◌, ◌-◌}
-use mathlib.Core.Path.{◌≡◌, refl, sym, ◌∙◌}
+-- `numbers::put_num` meets its contract: each turn stores the least byte of what is left of x (`bytes_next`). Assumes nothing.
+use Prim.Native.Nat.{ℕ, ◌-◌, ◌<◌}
+use mathlib.Core.Path.{◌≡◌, sym, ◌∙◌}
+use mathlib.Core.List.{append-nil}
 use native.Mathlib.Omega.{arith}
-use lib.ListN.{length-set}
-use borrow.Author.Rules.{rules}
-use Rattle.numbers.specs.Numbers.{put, bytes}
-use Rattle.numbers.proofs.NumberLaws.{put_next}
+use lib.ListN.{length, length-take, length-drop}
+use lib.Seq.{take_all}
+use Rattle.numbers.specs.Numbers.{bytes}
+use Rattle.numbers.proofs.NumberLaws.{bytes_next, put-lent, length-bytes}
 use Rattle.numbers.proofs.put_num.Goals as goal
 
-pub loop-i-init : goal.loop-i-init
-loop-i-init c =
-    let place : c.args.at + 0 ≡ c.args.at = omega arith in
-    let count : c.args.n - 0 ≡ c.args.n = omega arith in
-    (search rules, refl, rw (place, count))
-
-pub loop-i-preserved : goal.loop-i-preserved
-loop-i-preserved c =
-    let at_head = c.loop-i in
-    (search rules, simp length-set at_head.invariant.1, sym (put_next _ _ _ _ _ c.loop-i-test.true) ∙ at_head.invariant.2)
+pub loop-b-preserved : goal.loop-b-preserved
+loop-b-preserved c =
+    let a = c.args in
+    let at = c.loop-b in
+    let few : at.b-index < a.n = omega (arith, length-take {A = ℕ}, length-drop {A = ℕ}) in
+    bytes_next a.n at.b-index at.rest at.b-items (bytes a.n a.x) few (omega arith) at.invariant
 
 pub returns : goal.returns
-unfolding put bytes
+unfolding bytes
 returns c =
-    let done : c.args.n - c.loop-i.i ≡ 0 = omega arith in
-    rw done at c.loop-i.invariant.2
+    let a = c.args in
+    let at = c.loop-b in
+    let long : length at.b-items ≡ a.n = omega (arith, length-take {A = ℕ}, length-drop {A = ℕ}) in
+    let done : a.n - at.b-index ≡ 0 = omega arith in
+    let all = sym (append-nil at.b-items) ∙ (rw (take_all at.b-index at.b-items (omega arith), done) at at.invariant) in
+    put-lent a.at _ a.s.now at.b-items (bytes a.n a.x) (omega (arith, length-bytes a.n a.x)) (omega (arith, length-bytes a.n a.x)) all

@@ -1,12 +1,10 @@
--- Invariant: the answer for all terms is the answer from term i on. Measure: the terms still to try.
-use Prim.Native.Nat.{◌-◌}
+-- Invariant: no term before the index is in s.
 use mathlib.Core.Path.{◌≡◌}
-use lib.ListN.{length, drop}
-use Rattle.predicates.specs.Predicates.{holds}
+use mathlib.Core.Bool.{false}
+use lib.ListN.{take}
+use Rattle.std.specs.List.{list_any}
+use Rattle.names.specs.Sets.{subset}
 use Rattle.predicates.proofs.holds.Given as goal
 
-abbrev pub invariant-loop-i : goal.invariant-loop-i
-invariant-loop-i l = holds l.s l.p ≡ holds l.s (drop l.i l.p)
-
-abbrev pub decreases-loop-i : goal.decreases-loop-i
-decreases-loop-i l = length l.p - l.i
+abbrev pub invariant-loop-t : goal.invariant-loop-t
+invariant-loop-t l = list_any (λ t. subset t l.s) (take l.t-index l.p) ≡ false

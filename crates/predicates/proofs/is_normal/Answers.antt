@@ -1,11 +1,8 @@
 -- `predicates::is_normal` meets its contract: each term is held against the part behind it, and the loop stops at the first that may not stand
 -- there.
-use mathlib.Core.Path.{refl, sym, ◌∙◌}
+use mathlib.Core.Path.{sym, ◌∙◌}
 use Rattle.predicates.proofs.LoopLaws.{normal_stop, normal_next, normal-done}
 use Rattle.predicates.proofs.is_normal.Goals as goal
-
-pub loop-i-init : goal.loop-i-init
-loop-i-init c = refl
 
 pub returns-then-not-precedes_all : goal.returns-then-not-precedes_all
 returns-then-not-precedes_all c =

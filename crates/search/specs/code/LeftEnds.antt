@@ -1,9 +1,12 @@
 -- Definitions that serve the code alone: no statement of document 01 cites this file.
--- The ends at which an answer can begin: what it takes to explain an instant, over the claims in flat arrays, and the first end that is explained.
+-- The ends at which an answer can begin: what it takes to explain an instant, over the claims in arrays, and the first end that is explained.
 -- Assumes nothing: these are definitions.
-use Rattle.std.specs.Prelude.{ℕ, ◌^◌, ◌-◌, ◌≤◌, ◌<◌, ◌≡◌, ◌⊎◌, Bool, ◌&&◌, not, List, map, T, leb, length, get_or, take}
-use Rattle.predicates.specs.Lists.{keep}
+use Rattle.std.specs.Prelude.{ℕ, ◌^◌, ◌-◌, ◌≤◌, ◌<◌, ◌≡◌, ◌⊎◌, Bool, ◌&&◌, not, List, map, Option, T, eqb, leb, length, get_or, take}
+use Rattle.std.specs.List.{list_any, filter}
+use Rattle.std.specs.Option.{unwrap_or}
 use Rattle.predicates.specs.Predicates.{holds}
+use Rattle.numbers.specs.Numbers.{put}
+use Rattle.search.specs.declared.rows.Span.{Span}
 use Rattle.search.specs.code.Search.{Rows, rows_most, Fits, row_terms, Parted, preds}
 use Rattle.names.specs.Sets.{no_set}
 
@@ -11,9 +14,20 @@ use Rattle.names.specs.Sets.{no_set}
 abbrev pub no_end : ℕ
 no_end = 2 ^ 64 - 1
 
+-- the left ends of claims, and the right ends
+abbrev pub lefts_of : List Span → List ℕ
+lefts_of ends = map (λ (s : Span). s.left) ends
+
+abbrev pub rights_of : List Span → List ℕ
+rights_of ends = map (λ (s : Span). s.right) ends
+
 -- the instant x is not between the ends of row k
 unfoldable pub outside : List ℕ → List ℕ → ℕ → ℕ → Bool
 outside lefts rights x k = not (leb (get_or lefts k 0) x && leb x (get_or rights k 0))
+
+-- the end, or no end
+abbrev pub or_none : Option ℕ → ℕ
+or_none end = unwrap_or end no_end
 
 -- r is the least of the ends in places `from` to `to` that is no less than the floor, or no end
 pub record Next (ends : List ℕ) (from to floor r : ℕ) : Type 0 where
@@ -36,12 +50,19 @@ pub record Ready (n rows : ℕ) (lefts rights : List ℕ) (t : Rows) (order : Li
   pub empty : (k : ℕ) → k < n → get_or rights k 0 < get_or lefts k 0
   pub ordered : rows ≤ length order
   pub placed : (j : ℕ) → j < rows → get_or order j 0 < rows
-  pub present : (k : ℕ) → k < rows → (j : ℕ) × (j < rows) × (k ≡ get_or order j 0)
+  pub present : (k : ℕ) → k < rows → T (list_any (λ x. eqb k x) (take rows order))
   pub parted : (k : ℕ) → k < rows → Parted t k
+
+-- the first i of the order looked at, those that pass stand at the front of the m that are listed
+pub record Listing (f : ℕ → Bool) (order : List ℕ) (i : ℕ) (l₀ l : List ℕ) (m : ℕ) : Type 0 where
+  pub counted : m ≡ length (filter f (take i order))
+  pub few : m ≤ i
+  pub same : length l ≡ length l₀
+  pub stored : l ≡ put 0 (filter f (take i order)) l₀
 
 -- the predicates to be made true for the instant x
 unfoldable pub needs : ℕ → List ℕ → List ℕ → Rows → List ℕ → ℕ → List (List ℕ)
-needs rows lefts rights t order x = map (row_terms t) (keep (outside lefts rights x) (take rows order))
+needs rows lefts rights t order x = map (row_terms t) (filter (outside lefts rights x) (take rows order))
 
 -- x is a left end of the rows from n on
 abbrev pub IsEnd : ℕ → ℕ → List ℕ → ℕ → Type 0

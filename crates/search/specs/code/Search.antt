@@ -2,14 +2,15 @@
 -- The search for a set of failed names that makes predicates true (document 01, "Fewest failures", last sentences): "from an unexplained predicate to
 -- its terms, from a term to the next unexplained predicate". What a search has to bring is said by sets (`Best`), not by its order.
 -- Assumes nothing: these are definitions.
-use Rattle.std.specs.Prelude.{ℕ, ◌+◌, ◌*◌, ◌-◌, ◌≤◌, ◌<◌, ◌≡◌, ◌⊎◌, Bool, not, cond, List, [], ◌∷◌, T, eqb, leb, length, get_or, take, drop}
+use Rattle.std.specs.Prelude.{ℕ, ◌-◌, ◌≤◌, ◌<◌, ◌≡◌, ◌⊎◌, Bool, not, cond, List, [], ◌∷◌, T, eqb, leb, length, get_or, take, drop}
 use Rattle.std.specs.Int.Count.{ones}
 use Rattle.numbers.specs.Numbers.{tab}
 use Rattle.names.specs.Sets.{subset, set_union}
 use Rattle.names.specs.code.Parts.{shared}
-use Rattle.predicates.specs.Lists.{all, keep}
+use Rattle.std.specs.List.{list_all, filter}
 use Rattle.predicates.specs.Predicates.{holds}
 use Rattle.predicates.specs.code.Marks.{singles}
+use Rattle.search.specs.declared.rows.Row.{Row}
 
 -- ---- what is looked for
 
@@ -18,7 +19,7 @@ pub record Fits (limit s free : ℕ) (ps : List (List ℕ)) (u : ℕ) : Type 0 w
   pub above : T (subset s u)
   pub within : T (subset u (set_union s free))
   pub few : ones u ≤ limit
-  pub holding : T (all (holds u) ps)
+  pub holding : T (list_all (holds u) ps)
 
 -- r comes of a search that had `best` before it: it is the least mask of those that fit and of `best`, or one of them below `enough`, at which the
 -- search may stop
@@ -29,11 +30,11 @@ pub record Best (enough limit s free : ℕ) (ps : List (List ℕ)) (best r : ℕ
 
 -- ---- on the way
 
--- a search that had `best` before it goes through the terms of masks[at..end], with the predicates `ps` behind them: what comes of the terms from
--- `at` on, with the names that are free now and the best that is found, comes of the whole
-abbrev pub Trying : ℕ → ℕ → ℕ → ℕ → List (List ℕ) → ℕ → List ℕ → List (List ℕ) → ℕ → ℕ → ℕ → ℕ → Type 0
-Trying enough limit s free whole best masks ps end at free' found =
-    (r : ℕ) → Best enough limit s free' (take (end - at) (drop at masks) ∷ ps) found r → Best enough limit s free whole best r
+-- a search that had `best` before it goes through the terms of a predicate, with the predicates `ps` behind it: what comes of the terms that are
+-- left, with the names that are free now and the best that is found, comes of the whole
+abbrev pub Trying : ℕ → ℕ → ℕ → ℕ → List (List ℕ) → ℕ → List ℕ → List (List ℕ) → ℕ → ℕ → Type 0
+Trying enough limit s free whole best left ps free' found =
+    (r : ℕ) → Best enough limit s free' (left ∷ ps) found r → Best enough limit s free whole best r
 
 -- from the next predicate on that the set leaves false
 unfoldable pub skipped : ℕ → List (List ℕ) → List (List ℕ)
@@ -62,38 +63,51 @@ is_single t = eqb (ones t) 1
 
 -- the other terms
 unfoldable pub several : List ℕ → List ℕ
-several p = keep (λ t. not (is_single t)) p
+several p = filter (λ t. not (is_single t)) p
 
--- ---- predicates in flat arrays
+-- ---- predicates in rows
 
--- how many rows the arrays have, how many terms a row has at most, and how many masks all rows have
+-- how many rows there are at most, and how many terms a row has at most
 abbrev pub rows_most : ℕ
 rows_most = 48
 
 abbrev pub row_width : ℕ
 row_width = 16
 
-abbrev pub masks_most : ℕ
-masks_most = rows_most * row_width
+-- a row has the count of its terms, and these at the front of `terms`; those of several names are the last of them, with their count in `several`,
+-- and the others stand once more as one mask in `singles`
+abbrev pub Rows : Type 0
+Rows = List Row
 
--- row k has its count of terms at k in `counts`, and the terms from k * row_width on in `masks`; those of several names are the last of them, with
--- their count at k in `several`, and the others stand once more as one mask at k in `singles`
-pub record Rows : Type 0 where
-  pub counts : List ℕ
-  pub masks : List ℕ
-  pub several : List ℕ
-  pub singles : List ℕ
+-- what stands behind the last row
+abbrev pub no_row : Row
+no_row = record { count = 0; several = 0; singles = 0; terms = [] }
 
-abbrev pub rows_of : List ℕ → List ℕ → List ℕ → List ℕ → Rows
-rows_of counts masks several singles = record { counts = counts; masks = masks; several = several; singles = singles }
-
--- the predicate of row k
-abbrev pub row_terms : Rows → ℕ → List ℕ
-row_terms t k = take (get_or t.counts k 0) (drop (k * row_width) t.masks)
+-- the predicate of a row
+abbrev pub terms_of : Row → List ℕ
+terms_of r = take r.count r.terms
 
 -- the last of its terms, as many as have several names
+abbrev pub rests_of : Row → List ℕ
+rests_of r = drop (r.count - r.several) (terms_of r)
+
+-- the row has its parts: the mask of the terms of one name, and the other terms as the last
+pub record PartedRow (r : Row) : Type 0 where
+  pub few : r.count ≤ row_width
+  pub fewer : r.several ≤ r.count
+  pub long : r.count ≤ length r.terms
+  pub one : r.singles ≡ singles (terms_of r)
+  pub more : rests_of r ≡ several (terms_of r)
+
+-- row k, its predicate, and the last of its terms
+abbrev pub row_of : Rows → ℕ → Row
+row_of t k = get_or t k no_row
+
+abbrev pub row_terms : Rows → ℕ → List ℕ
+row_terms t k = terms_of (row_of t k)
+
 abbrev pub rest_terms : Rows → ℕ → List ℕ
-rest_terms t k = drop (get_or t.counts k 0 - get_or t.several k 0) (row_terms t k)
+rest_terms t k = rests_of (row_of t k)
 
 -- the predicate of the row in place j of a list of rows, which is in the order of the search
 unfoldable pub pred_at : List ℕ → Rows → ℕ → List ℕ
@@ -102,18 +116,16 @@ pred_at listed t j = row_terms t (get_or listed j 0)
 unfoldable pub preds : ℕ → List ℕ → Rows → List (List ℕ)
 preds n listed t = tab n (pred_at listed t)
 
--- row k lies in the table with its parts: the mask of the terms of one name, and the other terms as the last
-pub record Parted (t : Rows) (k : ℕ) : Type 0 where
-  pub counted : k < length t.counts
-  pub told : k < length t.several
-  pub masked : k < length t.singles
-  pub few : get_or t.counts k 0 ≤ row_width
-  pub fewer : get_or t.several k 0 ≤ get_or t.counts k 0
-  pub long : k * row_width + get_or t.counts k 0 ≤ length t.masks
-  pub one : get_or t.singles k 0 ≡ singles (row_terms t k)
-  pub more : rest_terms t k ≡ several (row_terms t k)
+-- the predicates of all that are listed
+abbrev pub all_preds : List ℕ → Rows → List (List ℕ)
+all_preds listed t = preds (length listed) listed t
 
--- the first n rows that are listed lie in the table
+-- row k is in the table with its parts
+pub record Parted (t : Rows) (k : ℕ) : Type 0 where
+  pub there : k < length t
+  pub row : PartedRow (row_of t k)
+
+-- the first n rows that are listed are in the table
 pub record RowsFit (n : ℕ) (listed : List ℕ) (t : Rows) : Type 0 where
   pub listed-long : n ≤ length listed
   pub parted : (j : ℕ) → j < n → Parted t (get_or listed j 0)

@@ -1,89 +1,79 @@
--- `settling::place` meets its contract: step 3, then rule 14 both ways; a datum that is stored is put last (`data_added`).
-use Prim.Native.Nat.{◌+◌}
-use mathlib.Core.Path.{◌≡◌, sym, ◌∙◌}
+-- `settling::place` meets its contract: step 3, then rule 14 both ways; a datum that is stored is put last (`data-put`).
+use Prim.Native.Nat.{◌<◌}
+use mathlib.Core.Path.{◌≡◌, sym, ap, ◌∙◌}
+use mathlib.Core.Bool.{not}
 use mathlib.Core.List.{List, [], ◌∷◌, ◌++◌}
 use native.Mathlib.Omega.{arith}
+use lib.ListN.{length, take, drop, length-append, length-drop}
+use Rattle.std.specs.List.{filter}
+use Rattle.std.specs.Prelude.{All}
+use Rattle.std.proofs.lemmas.List.{length-take-le}
+use Rattle.std.proofs.lemmas.List.Elements.{All-push}
 use Rattle.state.specs.Model.{Datum}
-use Rattle.state.specs.code.Tables.{columns, ColumnsFit, datum_of, data_in}
-use Rattle.entries.specs.code.Marks.{Left}
-use Rattle.steps.specs.Steps.{met, without, stored}
-use Rattle.entries.proofs.TableLaws.{left-given_up, left_trans, table-given_up}
-use Rattle.settling.proofs.ColumnLaws.{columns_less, columns_added, data_left, left_added, data_added}
-use Rattle.state.proofs.RowLaws.{table_more}
-use Rattle.settling.proofs.SettleLaws.{data_bettered, stored-kept, stored-new}
+use Rattle.state.specs.code.Tables.{HeldFits, terms_of, datum_of, datum_in, data_in}
+use Rattle.steps.specs.Steps.{same, betters}
+use Rattle.steps.proofs.HeldLaws.{gone-data}
+use Rattle.settling.specs.code.Rows.{DataLeft}
+use Rattle.settling.proofs.LeftLaws.{fits-gone, fits-first, left-gone, left-first, left-trans, left-behind, left-put, taken-front, taken-put, data-put}
+use Rattle.settling.proofs.SettleLaws.{stored-kept, stored-new}
 use Rattle.settling.proofs.place.Goals as goal
-use Rattle.settling.proofs.place.Goals.{After-drop_bettered, After-meet-ends}
+use Rattle.settling.proofs.place.Goals.{After-meet-ends, After-drop_bettered}
 
-pub meet-ends-requires : goal.meet-ends-requires
-meet-ends-requires c = record { columns_fit = (columns_less _ _ _ c.requires.columns_fit (omega arith), c.requires.p_nonzero.3); p_nonzero = c.requires.p_nonzero.0 }
+-- the rows that are lent, and what step 3 leaves of them
+lent : (c : After-meet-ends) → length (take c.args.h c.args.held.now) ≡ c.args.h
+lent c = length-take-le c.args.h c.args.held.now (omega (arith, c.requires.fit.1))
 
--- the columns when step 3 has given a row up
-met-fits : (c : After-meet-ends) → let a = c.args in ColumnsFit a.h (columns a.lefts.now a.rights.now c.meet-ends.new.held a.terms.now)
-met-fits c =
-    let fits = columns_less (c.args.h + 1) c.args.h _ c.requires.columns_fit (omega arith) in
-    record {
-      table = rw c.meet-ends.ensures.held_after (table-given_up 8 _ _ _ _ _ fits.table (omega arith));
-      lefts-long = fits.lefts-long;
-      rights-long = fits.rights-long;
-      lefts_split = fits.lefts_split;
-      rights_split = fits.rights_split;
-    }
+met-fits : (c : After-meet-ends) → All HeldFits c.meet-ends.new.held
+met-fits c = rw c.meet-ends.ensures.held_after (fits-first (λ r. same (terms_of r) c.args.p.now) (take c.args.h c.args.held.now) c.requires.fit.0)
+
+met-left : (c : After-meet-ends) → DataLeft (take c.args.h c.args.held.now) c.meet-ends.new.held
+met-left c = rw c.meet-ends.ensures.held_after (left-first (λ r. same (terms_of r) c.args.p.now) (take c.args.h c.args.held.now))
 
 pub bettered-requires : goal.bettered-requires
 bettered-requires c = (met-fits (goal.at.bettered-requires c).After-meet-ends, c.meet-ends.ensures.fact.1)
 
-pub returns-then-bettered : goal.returns-then-bettered
-returns-then-bettered c =
-    let met = c.meet-ends.ensures in record { fact = (omega arith, met-fits (goal.at.returns-then-bettered c).After-meet-ends, data_left _ _ _ _ _ _ (left-given_up _ _ _ _ met.held_after)); terms_after = rw (← met.fact.0, ← met.terms_after) (stored-kept _ _ (sym c.bettered.ensures ∙ c.if-bettered.true)) }
-
 pub drop_bettered-requires : goal.drop_bettered-requires
 drop_bettered-requires c = (met-fits (goal.at.drop_bettered-requires c).After-meet-ends, c.meet-ends.ensures.fact.1)
 
--- the columns have room for one more row still
-room : (c : After-drop_bettered) → let a = c.args in ColumnsFit a.h (columns a.lefts.now a.rights.now c.meet-ends.new.held a.terms.now) →
-    ColumnsFit (a.h + 1) (columns a.lefts.now a.rights.now c.drop_bettered.new.held a.terms.now)
-room c before =
-    let fits = c.requires.columns_fit in
-    let more = table_more 8 _ (c.args.h + 1) _ _ before.table (omega (arith, fits.table.counted)) fits.table.long in
+pub returns-then-bettered : goal.returns-then-bettered
+returns-then-bettered c =
+    let a = (goal.at.returns-then-bettered c).After-meet-ends in
+    let met = c.meet-ends.ensures in
+    let front = taken-front c.meet-ends.new.held (drop c.args.h c.args.held.now) c.args.h (c.meet-ends.auto.held ∙ lent a) in
     record {
-      table = rw c.drop_bettered.ensures (table-given_up 8 _ _ _ _ _ more (omega arith));
-      lefts-long = fits.lefts-long;
-      rights-long = fits.rights-long;
-      lefts_split = fits.lefts_split;
-      rights_split = fits.rights_split;
+      fact = (omega arith, rw front (met-fits a), left-behind _ _ (drop c.args.h c.args.held.now) c.meet-ends.auto.held (met-left a));
+      data_after = rw front (rw (← met.fact.0, ← met.data_after) (stored-kept _ _ (sym c.bettered.ensures ∙ c.if-bettered.true)));
     }
 
--- what is left, and the new datum behind it, is what rule 14 stores
-last : (c : After-drop_bettered) → let a = c.args in
-    let old : List Datum = data_in a.h (columns a.lefts.now a.rights.now a.held.now a.terms.now) in
-    data_in a.h (columns a.lefts.now a.rights.now c.drop_bettered.new.held a.terms.now) ++ (datum_of c.meet-ends.result a.p.now ∷ [])
-    ≡ stored (met (datum_of a.new a.p.now) old) (without a.p.now old)
-last c =
-    let met = c.meet-ends.ensures in
-    let worse = sym c.bettered.ensures ∙ c.if-bettered.false in
-    rw (data_bettered _ _ _ _ _ _ _ c.drop_bettered.ensures, ← met.fact.0, ← met.terms_after) (stored-new _ _ worse)
+-- what rule 14 leaves of them
+worse-left : (c : After-drop_bettered) → DataLeft (take c.args.h c.args.held.now) c.meet-ends.new.held → DataLeft (take c.args.h c.args.held.now) c.drop_bettered.new.held
+worse-left c l =
+    left-trans _ c.meet-ends.new.held _ c.meet-ends.auto.held l
+    (rw c.drop_bettered.ensures (left-gone (λ r. betters (datum_of c.meet-ends.result c.args.p.now) (datum_in r)) c.meet-ends.new.held))
 
--- no row below is another than it was
-left : (c : After-drop_bettered) → let a = c.args in
-    Left a.h a.held.now c.drop_bettered.new.held
-left c =
-    left_trans _ c.args.held.now c.meet-ends.new.held c.drop_bettered.new.held
-    (left-given_up _ _ _ _ c.meet-ends.ensures.held_after) (left-given_up _ _ _ _ c.drop_bettered.ensures)
-
-pub add_datum-requires : goal.add_datum-requires
-add_datum-requires c = (room (goal.at.add_datum-requires c).After-drop_bettered (met-fits (goal.at.add_datum-requires c).After-meet-ends), c.requires.p_nonzero.1)
-
-pub overflow_add-result : goal.overflow_add-result
-overflow_add-result c = omega (arith, c.requires.p_nonzero.2)
+worse-data : (c : After-drop_bettered) → data_in c.drop_bettered.new.held ≡ filter (λ d. not (betters (datum_of c.meet-ends.result c.args.p.now) d)) (data_in c.meet-ends.new.held)
+worse-data c = rw c.drop_bettered.ensures (gone-data (betters (datum_of c.meet-ends.result c.args.p.now)) c.meet-ends.new.held)
 
 pub returns : goal.returns
 returns c =
-    let split = c.meet-ends.ensures.fact.1 in
-    let made = c.add_datum.ensures in record {
+    let a = (goal.at.returns c).After-drop_bettered in
+    let m = (goal.at.returns c).After-meet-ends in
+    let n = datum_of c.meet-ends.result c.args.p.now in
+    let met = c.meet-ends.ensures in
+    let b = c.drop_bettered.new.held in
+    let rest = drop c.args.h c.args.held.now in
+    let long : length b ≡ c.args.h = c.drop_bettered.auto.held ∙ c.meet-ends.auto.held ∙ lent m in
+    let room : c.args.h < length (b ++ rest) = omega (arith, length-append b rest, length-drop c.args.h c.args.held.now, c.requires.fit.1) in
+    let all = taken-put b rest c.args.h long c.new.result room in
+    let fits : All HeldFits b = rw c.drop_bettered.ensures (fits-gone (λ r. betters n (datum_in r)) c.meet-ends.new.held (met-fits m)) in
+    let last : HeldFits c.new.result = record { narrow = omega (arith, c.new.ensures.2, c.requires.p_nonzero.1); split = rw c.new.ensures.1 met.fact.1 } in
+    record {
       fact = (
         omega arith,
-        rw (made.lefts_after, made.rights_after, made.held_after, made.terms_after) (columns_added _ _ _ _ _ c.args.p.now _ (room (goal.at.returns c).After-drop_bettered (met-fits (goal.at.returns c).After-meet-ends)) c.requires.p_nonzero.1 split),
-        rw (made.lefts_after, made.rights_after, made.held_after, made.terms_after) (left_added _ _ _ _ _ c.args.p.now _ (room (goal.at.returns c).After-drop_bettered (met-fits (goal.at.returns c).After-meet-ends)) c.requires.p_nonzero.1 _ (left (goal.at.returns c).After-drop_bettered)),
+        rw all (All-push HeldFits b c.new.result fits last),
+        left-put _ _ c.args.h c.new.result (omega (arith, lent m)) (left-behind _ b rest (c.drop_bettered.auto.held ∙ c.meet-ends.auto.held) (worse-left a (met-left m))),
       );
-      terms_after = rw (made.lefts_after, made.rights_after, made.held_after, made.terms_after) (data_added _ _ _ _ _ _ _ (room (goal.at.returns c).After-drop_bettered (met-fits (goal.at.returns c).After-meet-ends)) c.requires.p_nonzero.1 c.requires.p_nonzero.0 ∙ last (goal.at.returns c).After-drop_bettered);
+      data_after = rw all (data-put b c.new.result c.meet-ends.result c.args.p.now c.new.ensures.0 c.requires.p_nonzero.0
+          ∙ ap (λ (l : List Datum). l ++ (n ∷ [])) (worse-data a)
+          ∙ rw (← met.fact.0, ← met.data_after) (stored-new n (data_in c.meet-ends.new.held) (sym c.bettered.ensures ∙ c.if-bettered.false)));
     }

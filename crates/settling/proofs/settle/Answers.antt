@@ -1,108 +1,144 @@
 -- `settling::settle` meets its contract: the entries are counted and marked where they stand (`entries_standing`), and the four steps follow,
--- one after the other; where the entries explain the new datum, the receipt ends at step 2. What the arrays then hold is the
+-- one after the other; where the entries explain the new datum, the receipt ends at step 2. What the rows then hold is the
 -- store of the definition (`settled_by`).
-use Prim.Native.Nat.{◌+◌, ◌≤◌, ◌<◌}
-use mathlib.Core.Path.{◌≡◌, refl, sym, ◌∙◌}
+use Prim.Native.Nat.{ℕ, ◌≤◌, ◌<◌}
+use mathlib.Core.Path.{◌≡◌, refl, sym, ap, ◌∙◌}
+use mathlib.Core.List.{List, ◌++◌}
 use native.Mathlib.Omega.{arith}
+use lib.ListN.{length, take, drop, length-append, length-drop}
+use Rattle.std.specs.Prelude.{All}
+use Rattle.std.proofs.lemmas.List.{length-take-le}
 use Rattle.numbers.specs.Numbers.{num}
+use Rattle.state.specs.Model.{Datum, Store}
 use Rattle.state.specs.Layout.{entry_place, store_of}
-use Rattle.state.specs.code.Tables.{table_from, columns, ColumnsFit, EntriesStand, entries_in, datum_of, data_in, store_in}
-use Rattle.entries.specs.code.Marks.{Left}
-use Rattle.state.proofs.RowLaws.{table_more}
+use Rattle.state.specs.code.Tables.{table_from, TableFits, HeldFits, EntriesStand, entries_in, entry_masks, terms_of, datum_of, data_in, store_in}
+use Rattle.entries.specs.declared.tables.Entries.{Entries}
+use Rattle.entries.specs.Entries.{explained}
+use Rattle.entries.specs.code.Rows.{known}
+use Rattle.state.proofs.RowLaws.{table_less}
 use Rattle.state.proofs.StateLaws.{entry_count_le}
-use Rattle.state.proofs.StoreLaws.{column_front, table_standing, entries_standing}
-use Rattle.entries.proofs.TableLaws.{left-given_up, table-given_up}
+use Rattle.state.proofs.StoreLaws.{column_front, length-entry_masks, table_standing, entries_standing}
 use Rattle.entries.proofs.StandingLaws.{marks_standing}
-use Rattle.steps.specs.Steps.{learnt}
-use Rattle.settling.specs.code.Rows.{with_term}
-use Rattle.settling.proofs.ColumnLaws.{columns_less, data_left, data_left_on}
+use Rattle.steps.specs.Steps.{learnt, unexplained, held_after, settled}
+use Rattle.settling.specs.code.Rows.{DataLeft, with_term}
+use Rattle.settling.proofs.LeftLaws.{fits-gone, left-gone, left-trans, left-behind, taken-front}
 use Rattle.settling.proofs.SettleLaws.{data_unexplained, held-explained, held-placed, settled_by}
+use borrow.Author.Rules.{rules}
 use Rattle.settling.proofs.settle.Goals as goal
-use Rattle.settling.proofs.settle.Goals.{After-drop_explained, After-learn-known, Start}
+use Rattle.settling.proofs.settle.Goals.{After-drop_explained, After-learn, Start}
 
 -- in form, at most 32 entries
 few : (a : Start) → a.args.rows.known ≤ 32
 few a = omega (arith, a.requires.state_size_in_bounds.2, entry_count_le a.args.s.now a.requires.state_size_in_bounds.1)
 
-pub mark_rows-requires : goal.mark_rows-requires
-mark_rows-requires c = record { state_size_in_bounds = c.requires.state_size_in_bounds; n_in_bounds = (omega (arith, c.requires.table_fits.counted), omega (arith, c.requires.p_nonzero)) }
-
-pub learn-known-requires : goal.learn-known-requires
-learn-known-requires c =
-    let p = c.requires.p_nonzero in
-    let marked = c.mark_rows.ensures in record { columns_fit = columns_less _ _ _ c.requires.columns_fit (omega arith); state_size_in_bounds = (c.requires.state_size_in_bounds.0, few (goal.at.learn-known-requires c).Start); table_fits = table_standing _ _ c.requires.state_size_in_bounds.1 c.requires.state_size_in_bounds.2 _ _ _ marked.counts_after _ (omega arith) c.requires.table_fits; p_nonzero = (p.0, p.1, omega (arith, p.2), p.3); marked = marks_standing _ _ c.requires.state_size_in_bounds.1 c.requires.state_size_in_bounds.2 _ _ _ _ _ marked.counts_after marked.marks_after (omega (arith, few (goal.at.learn-known-requires c).Start)); t = c.requires.t }
-
-pub drop_explained-requires : goal.drop_explained-requires
-drop_explained-requires c =
-    let known = c.learn-known.ensures.fact in
-    record { table_fits = (columns_less (c.args.rows.held + 1) c.args.rows.held _ c.requires.columns_fit (omega arith)).table; state_size_in_bounds = (c.requires.state_size_in_bounds.0, few (goal.at.drop_explained-requires c).Start); fact = (known.1, known.2) }
-
-pub explained-requires : goal.explained-requires
-explained-requires c =
-    let known = c.learn-known.ensures.fact in
-    record { state_size_in_bounds = (c.requires.state_size_in_bounds.0, few (goal.at.explained-requires c).Start); fact = (known.1, known.2) }
-
--- the columns have room for one more row still
-room : (c : After-drop_explained) → let a = c.args in
-    ColumnsFit (a.rows.held + 1) (columns a.lefts.now a.rights.now c.drop_explained.new.held a.terms.now)
-room c =
-    let fits = c.requires.columns_fit in
+pub invariant_of-entries : goal.invariant_of-entries
+invariant_of-entries c =
+    let form = c.requires.state_size_in_bounds in
+    let marked = c.mark_rows.ensures in
+    let k = few (goal.at.invariant_of-entries c).Start in
     record {
-      table = rw c.drop_explained.ensures (table-given_up 8 _ _ _ _ _ fits.table (omega arith));
-      lefts-long = fits.lefts-long;
-      rights-long = fits.rights-long;
-      lefts_split = fits.lefts_split;
-      rights_split = fits.rights_split;
+      own = (form.0, k);
+      fits = table_standing _ _ form.1 form.2 _ _ _ marked.counts_after _ (omega arith) (table_less 16 _ _ _ _ c.requires.table_fits (omega arith));
+      marked = marks_standing _ _ form.1 form.2 _ _ _ _ _ marked.counts_after marked.marks_after (omega (arith, k));
     }
 
--- no row of data is another than it was
-left : (c : After-drop_explained) → let a = c.args in
-    Left a.rows.held a.held.now c.drop_explained.new.held
-left c = left-given_up _ _ _ _ c.drop_explained.ensures
+pub learn-requires-clause-room : goal.learn-requires-clause-room
+learn-requires-clause-room c =
+    let a = c.args in
+    let lent : length (take a.rows.held a.held.now) ≡ a.rows.held = length-take-le a.rows.held a.held.now (omega (arith, c.requires.fit.1)) in
+    record {
+      beyond = omega arith;
+      counted = omega (arith, lent, c.requires.table_fits.counted, c.mark_rows.auto.counts);
+      long = omega (arith, lent, c.requires.table_fits.long, length-append (entry_masks a.rows.known a.s.now) a.masks.now, length-entry_masks a.rows.known a.s.now);
+      reach = omega (arith, lent, c.requires.p_nonzero.2, c.mark_rows.auto.marks);
+    }
+
+-- the rows that are lent, and what step 2 leaves of them
+lent : (c : After-drop_explained) → length c.drop_explained.new.held ≡ c.args.rows.held
+lent c = c.drop_explained.auto.held ∙ length-take-le c.args.rows.held c.args.held.now (omega (arith, c.requires.fit.1))
+
+front : (c : After-drop_explained) → take c.args.rows.held (c.drop_explained.new.held ++ drop c.args.rows.held c.args.held.now) ≡ c.drop_explained.new.held
+front c = taken-front c.drop_explained.new.held (drop c.args.rows.held c.args.held.now) c.args.rows.held (lent c)
+
+fits : (c : After-drop_explained) → All HeldFits c.drop_explained.new.held
+fits c = rw c.drop_explained.ensures (fits-gone (λ r. explained (known c.learn.new.entries) (terms_of r)) (take c.args.rows.held c.args.held.now) c.requires.fit.0)
+
+left : (c : After-drop_explained) → DataLeft (take c.args.rows.held c.args.held.now) c.drop_explained.new.held
+left c = rw c.drop_explained.ensures (left-gone (λ r. explained (known c.learn.new.entries) (terms_of r)) (take c.args.rows.held c.args.held.now))
+
+left-data : (c : After-drop_explained) → data_in c.drop_explained.new.held ≡ unexplained (known c.learn.new.entries) (data_in (take c.args.rows.held c.args.held.now))
+left-data c = rw c.drop_explained.ensures (data_unexplained (known c.learn.new.entries) (take c.args.rows.held c.args.held.now))
+
+-- what the arrays hold when the loan has ended
+table-fits : (s : List ℕ) (first : ℕ) (e : Entries) (counts masks : List ℕ) → e.state.now ≡ s → e.first ≡ first → counts ≡ e.counts.now → masks ≡ e.masks.now
+    → TableFits 16 e.n (table_from first s counts masks)
+table-fits s first e counts masks p q x y = rw (← p, ← q, x, y) e.fits
+
+kept : (s : List ℕ) (first : ℕ) (e : Entries) (counts masks : List ℕ) → e.state.now ≡ s → e.first ≡ first → counts ≡ e.counts.now → masks ≡ e.masks.now
+    → entries_in e.n (table_from first s counts masks) ≡ known e
+kept s first e counts masks p q x y = rw (← p, ← q, x, y) refl
 
 -- no entry is another than it was
-stand : (c : After-learn-known) → EntriesStand c.args.s.now c.learn-known.new.counts
-stand c i l f =
+stand : (c : After-learn) (counts : List ℕ) → counts ≡ c.learn.new.entries.counts.now → EntriesStand c.args.s.now counts
+stand c counts x i l f =
     let s = c.args.s.now in
     let near : i < c.args.rows.known = omega (arith, c.requires.state_size_in_bounds.2) in
-    c.learn-known.ensures.fact.3 i near f
+    (rw x (c.learn.ensures.kept.0.3 i near (rw x at f)))
     ∙ column_front (λ k. num (entry_place k) 4 s) c.args.rows.known i _ _ c.mark_rows.ensures.counts_after near
 
 -- what the steps have learnt from the entries that were there
-entries : (c : After-learn-known) → let a = c.args in let u = c.learn-known in
-    entries_in u.result (table_from a.rows.known a.s.now u.new.counts u.new.masks)
-    ≡ learnt (datum_of a.new a.p.now) (data_in a.rows.held (columns a.lefts.now a.rights.now a.held.now a.terms.now)) (with_term a.blame (store_of a.s.now).entries)
+entries : (c : After-learn) → let a = c.args in
+    known c.learn.new.entries
+    ≡ learnt (datum_of a.new a.p.now) (data_in (take a.rows.held a.held.now)) (with_term a.blame (store_of a.s.now).entries)
 entries c =
     let there = entries_standing _ _ c.requires.state_size_in_bounds.1 c.requires.state_size_in_bounds.2 _ _ c.args.masks.now c.mark_rows.ensures.counts_after in
-    rw (c.requires.c_value, there) at c.learn-known.ensures.masks_after
+    rw (c.requires.all_held, there) at c.learn.ensures.entries_after
 
-pub returns-then-explained : goal.returns-then-explained
+-- the store, told by what the entries are
+through : (n : Datum) (k : Store) (ds : List Datum) (fs es : List (List ℕ)) → fs ≡ es → es ≡ learnt n k.held k.entries → ds ≡ held_after n k.held es
+    → ◌≡◌ {A = Store} (record { held = ds; entries = fs }) (settled n k)
+through n k ds fs es p q r = ap (λ (x : List (List ℕ)). record { held = ds; entries = x }) p ∙ settled_by n k ds es q r
+
+pub returns-then-explained-clause-fact : goal.returns-then-explained-clause-fact
+returns-then-explained-clause-fact c =
+    let a = (goal.at.returns-then-explained-clause-fact c).After-drop_explained in
+    (rw (front a) (fits a), left-behind _ _ (drop c.args.rows.held c.args.held.now) c.drop_explained.auto.held (left a))
+
+pub place-requires-clause-fit : goal.place-requires-clause-fit
+place-requires-clause-fit c =
+    let a = (goal.at.place-requires-clause-fit c).After-drop_explained in
+    (rw (front a) (fits a), omega (arith, length-append c.drop_explained.new.held (drop c.args.rows.held c.args.held.now), lent a, length-drop c.args.rows.held c.args.held.now, c.requires.fit.1))
+
+pub returns-clause-fact : goal.returns-clause-fact
+returns-clause-fact c =
+    let a = (goal.at.returns-clause-fact c).After-drop_explained in
+    let placed = c.place.ensures.fact in
+    (placed.1, left-trans _ c.drop_explained.new.held _ c.drop_explained.auto.held (left a) (rw (front a) at placed.2))
+
+pub returns-then-explained-clause-table_fits_2 : goal.returns-then-explained-clause-table_fits_2
+returns-then-explained-clause-table_fits_2 c =
+    let lent = c.learn.ensures.kept.0 in
+    (table-fits _ _ c.learn.new.entries _ _ (ap (λ s. s.now) lent.0) lent.1 (search rules) (search rules), stand (goal.at.returns-then-explained-clause-table_fits_2 c).After-learn _ (search rules))
+
+pub returns-then-explained-clause-store_after : goal.returns-then-explained-clause-store_after
 unfolding store_in
-returns-then-explained c =
-    let known = c.learn-known.ensures in
-    let kept = c.learn-known.auto in
-    let gone = c.drop_explained.ensures in record {
-      held_bound = (omega arith, known.fact.0, refl, refl, c.drop_explained.auto.held, refl, kept.counts ∙ c.mark_rows.auto.counts, kept.masks);
-      fact = (columns_less _ _ _ (room (goal.at.returns-then-explained c).After-drop_explained) (omega arith), data_left _ _ _ _ _ _ (left (goal.at.returns-then-explained c).After-drop_explained));
-      table_fits_2 = (known.fact.1, stand (goal.at.returns-then-explained c).After-learn-known);
-      masks_after = settled_by _ _ _ _ (entries (goal.at.returns-then-explained c).After-learn-known)
-          (data_unexplained _ _ _ _ _ _ _ gone ∙ held-explained _ _ _ (sym c.explained.ensures ∙ c.if-explained.true));
-    }
+returns-then-explained-clause-store_after c =
+    let a = (goal.at.returns-then-explained-clause-store_after c).After-drop_explained in
+    let lent = c.learn.ensures.kept.0 in
+    through (datum_of c.args.new c.args.p.now) _ _ _ (known c.learn.new.entries)
+    (kept _ _ c.learn.new.entries _ _ (ap (λ s. s.now) lent.0) lent.1 (search rules) (search rules)) (entries (goal.at.returns-then-explained-clause-store_after c).After-learn)
+    (rw (front a) (left-data a ∙ held-explained _ _ _ (sym c.explained.ensures ∙ c.if-explained.true)))
 
-pub place-held_rows-requires : goal.place-held_rows-requires
-place-held_rows-requires c = let p = c.requires.p_nonzero in record { columns_fit = room (goal.at.place-held_rows-requires c).After-drop_explained; p_nonzero = (p.0, p.1, omega (arith, p.2), p.3) }
+pub returns-clause-table_fits_2 : goal.returns-clause-table_fits_2
+returns-clause-table_fits_2 c =
+    let lent = c.learn.ensures.kept.0 in
+    (table-fits _ _ c.learn.new.entries _ _ (ap (λ s. s.now) lent.0) lent.1 (search rules) (search rules), stand (goal.at.returns-clause-table_fits_2 c).After-learn _ (search rules))
 
-pub returns : goal.returns
+pub returns-clause-store_after : goal.returns-clause-store_after
 unfolding store_in
-returns c =
-    let known = c.learn-known.ensures in
-    let kept = c.learn-known.auto in
-    let gone = c.drop_explained.ensures in
-    let placed = c.place-held_rows.ensures in
-    let same = c.place-held_rows.auto in record {
-      held_bound = (placed.fact.0, known.fact.0, same.lefts, same.rights, same.held ∙ c.drop_explained.auto.held, same.terms, kept.counts ∙ c.mark_rows.auto.counts, kept.masks);
-      fact = (placed.fact.1, data_left_on _ _ _ _ _ _ _ (table_more 8 _ _ _ _ placed.fact.1.table (omega (arith, c.requires.columns_fit.table.counted)) (omega (arith, c.requires.columns_fit.table.long))) (left (goal.at.returns c).After-drop_explained) placed.fact.2);
-      table_fits_2 = (known.fact.1, stand (goal.at.returns c).After-learn-known);
-      masks_after = settled_by _ _ _ _ (entries (goal.at.returns c).After-learn-known)
-          ((rw (data_unexplained _ _ _ _ _ _ _ gone) at placed.terms_after) ∙ held-placed _ _ _ (sym c.explained.ensures ∙ c.if-explained.false));
-    }
+returns-clause-store_after c =
+    let a = (goal.at.returns-clause-store_after c).After-drop_explained in
+    let lent = c.learn.ensures.kept.0 in
+    through (datum_of c.args.new c.args.p.now) _ _ _ (known c.learn.new.entries)
+    (kept _ _ c.learn.new.entries _ _ (ap (λ s. s.now) lent.0) lent.1 (search rules) (search rules)) (entries (goal.at.returns-clause-store_after c).After-learn)
+    ((rw (front a, left-data a) at c.place.ensures.data_after) ∙ held-placed _ _ _ (sym c.explained.ensures ∙ c.if-explained.false))

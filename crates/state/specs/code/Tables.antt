@@ -1,16 +1,17 @@
 -- Definitions that serve the code alone: no statement of document 01 cites this file.
--- Predicates and data in flat arrays, as calls work on them: row i has its count of terms at i and its terms from i * width on.
+-- Entries in flat arrays and data in rows, as calls work on them: entry i has its count of terms at i and its terms from i * width on.
 -- A row without terms has been given up; in form no predicate is without terms. Assumes nothing: these are definitions.
-use Rattle.std.specs.Prelude.{ℕ, ◌+◌, ◌*◌, ◌≤◌, ◌<◌, ◌≡◌, Bool, true, false, List, [], ◌∷◌, ◌++◌, length, get_or, take, drop}
+use Rattle.std.specs.Prelude.{ℕ, ◌+◌, ◌*◌, ◌≤◌, ◌<◌, ◌≡◌, Bool, true, false, List, [], ◌∷◌, ◌++◌, length, get_or, take, drop, map}
 use Rattle.numbers.specs.Numbers.{num, bytes, put, tab}
-use Rattle.predicates.specs.Lists.{keep}
+use Rattle.std.specs.List.{filter}
 use Rattle.state.specs.Model.{Datum, datum, Store}
-use Rattle.state.specs.Layout.{data_most, entries_most, datum_terms, entry_terms, datum_place, entry_place}
-use Rattle.state.specs.Layout.{right_in, left_millionths_in, right_millionths_in, masks_at, joined}
+use Rattle.state.specs.Layout.{data_most, entries_most, datum_terms, entry_terms, datum_place, entry_place, zeros}
+use Rattle.state.specs.Layout.{right_in, row_in, left_millionths_in, right_millionths_in, masks_at, datum_bytes, joined}
 use Rattle.state.specs.Layout.{held_count, entry_count, datum_at}
+use Rattle.state.specs.declared.holding.Held.{Held}
+use Rattle.ends.specs.declared.End.{End}
 use Rattle.ends.specs.declared.Ends.{Ends}
-use Rattle.ends.specs.Ends.{count_of}
-use Rattle.ends.specs.code.Columns.{end_in, AllSplit}
+use Rattle.ends.specs.Ends.{count_of, BothSplit}
 
 -- the rows of data and entries
 abbrev pub rows_most : ℕ
@@ -23,19 +24,6 @@ pub record Table : Type 0 where
 
 abbrev pub table : List ℕ → List ℕ → Table
 table counts masks = record { counts = counts; masks = masks }
-
--- held data: two columns of ends, two numbers each, beside a table of 8 terms a row
-pub record Columns : Type 0 where
-  pub lefts : List ℕ
-  pub rights : List ℕ
-  pub counts : List ℕ
-  pub masks : List ℕ
-
-abbrev pub columns : List ℕ → List ℕ → List ℕ → List ℕ → Columns
-columns lefts rights counts masks = record { lefts = lefts; rights = rights; counts = counts; masks = masks }
-
-abbrev pub table_of : Columns → Table
-table_of c = table c.counts c.masks
 
 -- the masks of the first n rows of entries in a state's bytes, used or not
 unfoldable pub entry_masks : ℕ → List ℕ → List ℕ
@@ -53,13 +41,10 @@ pub record TableFits (width n : ℕ) (t : Table) : Type 0 where
   pub long : n * width ≤ length t.masks
   pub narrow : (i : ℕ) → get_or t.counts i 0 ≤ width
 
--- the columns have n rows
-pub record ColumnsFit (n : ℕ) (c : Columns) : Type 0 where
-  pub table : TableFits datum_terms n (table_of c)
-  pub lefts-long : n * 2 ≤ length c.lefts
-  pub rights-long : n * 2 ≤ length c.rights
-  pub lefts_split : AllSplit c.lefts
-  pub rights_split : AllSplit c.rights
+-- a row has no more terms than places, and the millionths of its ends are less than a microsecond
+pub record HeldFits (r : Held) : Type 0 where
+  pub narrow : r.count ≤ datum_terms
+  pub split : BothSplit r.ends
 
 -- ---- what the arrays hold
 
@@ -74,23 +59,35 @@ has_terms (t ∷ p) = true
 
 -- the entries in n rows
 unfoldable pub entries_in : ℕ → Table → List (List ℕ)
-entries_in n t = keep has_terms (tab n (row_of entry_terms t))
+entries_in n t = filter has_terms (tab n (row_of entry_terms t))
 
 -- a datum whose ends travel as one struct
 abbrev pub datum_of : Ends → List ℕ → Datum
 datum_of e terms = datum (count_of e.left) (count_of e.right) terms
 
--- the datum in row i, given up or not
-unfoldable pub datum_in : Columns → ℕ → Datum
-datum_in c i = datum (end_in c.lefts i) (end_in c.rights i) (row_of datum_terms (table_of c) i)
+-- the terms of a row
+abbrev pub terms_of : Held → List ℕ
+terms_of r = take r.count r.terms
 
--- the data in n rows
-unfoldable pub data_in : ℕ → Columns → List Datum
-data_in n c = keep (λ d. has_terms d.terms) (tab n (datum_in c))
+-- the datum in a row, given up or not
+abbrev pub datum_in : Held → Datum
+datum_in r = datum_of r.ends (terms_of r)
 
--- what the arrays hold in h rows of data and n rows of entries
-unfoldable pub store_in : ℕ → Columns → ℕ → Table → Store
-store_in h c n t = record { held = data_in h c; entries = entries_in n t }
+-- the data in rows
+unfoldable pub data_in : List Held → List Datum
+data_in c = filter (λ d. has_terms d.terms) (map datum_in c)
+
+-- what rows of data and n rows of entries hold
+unfoldable pub store_in : List Held → ℕ → Table → Store
+store_in c n t = record { held = data_in c; entries = entries_in n t }
+
+-- an end for a row without a datum
+abbrev pub no_end : End
+no_end = record { whole = 0; millionths = 0 }
+
+-- a row without terms
+abbrev pub no_row : Held
+no_row = record { ends = record { left = no_end; right = no_end }; count = 0; terms = zeros datum_terms }
 
 -- ---- ends in a state's bytes
 
@@ -102,6 +99,11 @@ ends_at s i =
       right = record { whole = num (datum_place i + right_in) 8 s; millionths = num (datum_place i + right_millionths_in) 4 s };
     }
 
+-- datum i as a row
+unfoldable pub datum_row : List ℕ → ℕ → Held
+datum_row s i =
+    record { ends = ends_at s i; count = num (datum_place i + row_in) 4 s; terms = masks_at datum_terms (datum_place i + row_in) s }
+
 -- the bytes with other ends in place i
 unfoldable pub with_ends : ℕ → Ends → List ℕ → List ℕ
 with_ends i e s =
@@ -111,8 +113,15 @@ with_ends i e s =
 
 -- ---- rows that came from a state's bytes: each has been given up or is as the bytes have it
 
-abbrev pub DataStand : List ℕ → Columns → Type 0
-DataStand s c = (i : ℕ) → i < held_count s → (get_or c.counts i 0 ≡ 0 → ⊥) → datum_in c i ≡ datum_at s i
+abbrev pub DataStand : List ℕ → List Held → Type 0
+DataStand s c =
+    (i : ℕ) (d : Held) → i < held_count s → i < length c → ((get_or c i d).count ≡ 0 → ⊥) → datum_in (get_or c i d) ≡ datum_at s i
 
 abbrev pub EntriesStand : List ℕ → List ℕ → Type 0
 EntriesStand s counts = (i : ℕ) → i < entry_count s → (get_or counts i 0 ≡ 0 → ⊥) → get_or counts i 0 ≡ num (entry_place i) 4 s
+
+-- of the first n rows each has been given up or stands in its place
+abbrev pub DataInPlace : ℕ → List ℕ → List Held → Type 0
+DataInPlace n s c =
+    (i : ℕ) (d : Held) → i < n → i < length c → ((get_or c i d).count ≡ 0 → ⊥)
+    → put (datum_place i) (datum_bytes (datum_in (get_or c i d))) s ≡ s

@@ -1,14 +1,16 @@
 -- Definitions that serve the code alone: no statement of document 01 cites this file.
--- Rows in flat arrays, as a receipt works on them: the first that passes a test. Assumes nothing: these are definitions.
-use Rattle.std.specs.Prelude.{ℕ, ◌≤◌, ◌<◌, ◌≡◌, Bool, true, false, ◌&&◌, not}
-use Rattle.entries.specs.code.Marks.{any_below}
+-- Rows of held data, as a receipt works on them: those that pass a test are given up, or the first that does. Assumes nothing: these are definitions.
+use Rattle.std.specs.Prelude.{Bool, List, [], ◌∷◌, cond}
+use Rattle.state.specs.declared.holding.Held.{Held}
 
--- r is the first row below n that passes the test, or n
-pub record FirstRow (n : ℕ) (test : ℕ → Bool) (r : ℕ) : Type 0 where
-  pub within : r ≤ n
-  pub earlier : (i : ℕ) → i < r → test i ≡ false
-  pub found : r < n → test r ≡ true
+-- the row without its terms
+abbrev pub emptied : Held → Held
+emptied r = record { ends = r.ends; count = 0; terms = r.terms }
 
--- row i is the first that passes the test
-unfoldable pub is_first : (ℕ → Bool) → ℕ → Bool
-is_first test i = test i && not (any_below i test)
+abbrev pub given_up_if : Bool → Held → Held
+given_up_if b r = cond b (emptied r) r
+
+-- the rows, of which the first that passes the test has been given up
+unfoldable pub first_given_up : (Held → Bool) → List Held → List Held
+first_given_up test [] = []
+first_given_up test (r ∷ c) = cond (test r) (emptied r ∷ c) (r ∷ first_given_up test c)

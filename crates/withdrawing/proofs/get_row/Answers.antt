@@ -12,14 +12,13 @@ use Rattle.state.specs.code.Tables.{table, row_of}
 use Rattle.state.proofs.RowLaws.{table_less}
 use Rattle.entries.proofs.TableLaws.{table_appended, rows_appended}
 use Rattle.withdrawing.proofs.WithdrawnLaws.{entry_gone, length_entry, entry_stays}
-use borrow.Author.Rules.{rules}
 use Rattle.withdrawing.proofs.get_row.Goals as goal
 use Rattle.withdrawing.proofs.get_row.Goals.{After-get_seen-count}
 
 pub get_seen-count-requires : goal.get_seen-count-requires
 unfolding entry_fits
 get_seen-count-requires c =
-    record { width_in_bounds = (omega (arith, c.requires.state_size_in_bounds.0, c.requires.state_size_in_bounds.1), search rules, omega arith); t = c.requires.state_size_in_bounds.2 }
+    record { in_bounds = (omega (arith, c.requires.state_size_in_bounds.0, c.requires.state_size_in_bounds.1), omega arith); t = c.requires.state_size_in_bounds.2 }
 
 pub returns-then-row-eq0 : goal.returns-then-row-eq0
 returns-then-row-eq0 c =
@@ -37,14 +36,6 @@ room : (c : After-get_seen-count) → let a = c.args in
     (a.r < length a.counts.now) × (a.r * 16 + length (take c.get_seen-count.result c.get_seen-count.new.row) ≤ length a.masks.now)
 room c =
     (omega (arith, c.requires.table_fits.counted), omega (arith, c.requires.table_fits.long, long c, c.get_seen-count.ensures.value.1, suc-mul c.args.r 16))
-
-pub slice_bounds-add_row-end : goal.slice_bounds-add_row-end
-slice_bounds-add_row-end c = long (goal.at.slice_bounds-add_row-end c).After-get_seen-count
-
-pub add_row-requires : goal.add_row-requires
-add_row-requires c =
-    let there = room (goal.at.add_row-requires c).After-get_seen-count in
-    (there.0, there.1, omega (arith, long (goal.at.add_row-requires c).After-get_seen-count, c.get_seen-count.ensures.value.1))
 
 pub returns : goal.returns
 returns c =

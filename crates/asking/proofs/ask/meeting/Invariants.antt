@@ -1,5 +1,4 @@
--- Invariant: taking in the data from i on gives what taking in all of them gives. Measure: the data still to look at.
-use Prim.Native.Nat.{◌-◌, ◌≤◌}
+-- Invariant: taking in the data from i on gives what taking in all of them gives.
 use mathlib.Core.Path.{◌≡◌}
 use lib.ListN.{drop}
 use Rattle.ends.specs.Ends.{count_of, Split}
@@ -10,8 +9,5 @@ use Rattle.asking.proofs.ask.meeting.Given as goal
 
 abbrev pub invariant-loop-i : goal.invariant-loop-i
 invariant-loop-i l =
-    (l.i ≤ l.h) × (greatest_left (count_of l.left) (drop l.i (store_of l.s).held) ≡ greatest_left 0 (store_of l.s).held)
-    × (least_right (count_of l.right) (drop l.i (store_of l.s).held) ≡ least_right end_limit (store_of l.s).held) × Split l.left × Split l.right
-
-abbrev pub decreases-loop-i : goal.decreases-loop-i
-decreases-loop-i l = l.h - l.i
+    (greatest_left (count_of l.left) (drop l.i (store_of l.s.bytes.now).held) ≡ greatest_left 0 (store_of l.s.bytes.now).held)
+    × (least_right (count_of l.right) (drop l.i (store_of l.s.bytes.now).held) ≡ least_right end_limit (store_of l.s.bytes.now).held) × Split l.left × Split l.right

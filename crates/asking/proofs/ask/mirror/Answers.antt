@@ -1,40 +1,45 @@
--- `asking::ask::mirror` meets its contract: turn i stores both ends of row i, seen from the other side.
-use mathlib.Core.Path.{refl}
+-- `asking::ask::mirror` meets its contract: each end is turned round, and no key is above the last one.
+use Prim.Native.Nat.{ℕ, ◌-◌, ◌<◌}
+use mathlib.Core.List.{List}
+use mathlib.Core.Path.{◌≡◌, ap, ◌∙◌}
+use native.Mathlib.Nat.{le_refl}
 use native.Mathlib.Omega.{arith}
-use Rattle.state.proofs.StoreLaws.{column_none, column_next, column_done}
-use borrow.Author.Rules.{rules}
+use lib.ListN.{length, get_or}
+use lib.Seq.{get_or-set_other}
+use Rattle.search.specs.declared.rows.Span.{Span}
+use Rattle.search.proofs.EndSteps.{left_at, right_at}
+use Rattle.claims.specs.code.Keys.{last_key}
+use Rattle.claims.proofs.TableLaws.{filled-array, filled-next}
+use Rattle.asking.specs.code.Mirror.{mirrored}
 use Rattle.asking.proofs.ask.mirror.Goals as goal
 
-pub loop-i-init : goal.loop-i-init
-loop-i-init c = (search rules, column_none _ _, column_none _ _)
+-- a span turned round
+turned : (ends : List Span) (i : ℕ) (v : Span) → v ≡ get_or ends i (record { left = 0; right = 0 })
+    → record { left = last_key - v.right; right = last_key - v.left } ≡ mirrored ends i
+turned ends i v e = rw (e, left_at ends i, right_at ends i)
 
-pub overflow_sub-low : goal.overflow_sub-low
-overflow_sub-low c = (c.requires.by_index c.loop-i.i c.loop-i-test.true).1
+pub overflow_sub-span : goal.overflow_sub-span
+overflow_sub-span c =
+    let i = c.loop-span.span-index in
+    let same = ap (λ (e : Span). e.right) (c.loop-span.invariant.1 i (le_refl i)) in
+    omega (arith, same, right_at c.args.ends.now i, (c.requires i c.loop-span-test.true).1)
 
-pub bounds-low-i : goal.bounds-low-i
-bounds-low-i c = omega (arith, c.loop-i.invariant.1.long, c.requires.rows_in_bounds.2, c.loop-i-test.true)
+pub overflow_sub-span-in-loop-span : goal.overflow_sub-span-in-loop-span
+overflow_sub-span-in-loop-span c =
+    let i = c.loop-span.span-index in
+    let same = ap (λ (e : Span). e.left) (c.loop-span.invariant.1 i (le_refl i)) in
+    omega (arith, same, left_at c.args.ends.now i, (c.requires i c.loop-span-test.true).0)
 
-pub overflow_sub-high : goal.overflow_sub-high
-overflow_sub-high c = (c.requires.by_index c.loop-i.i c.loop-i-test.true).0
-
-pub bounds-high-i : goal.bounds-high-i
-bounds-high-i c = omega (arith, c.loop-i.invariant.2.long, c.requires.rows_in_bounds.3, c.loop-i-test.true)
-
-pub loop-i-preserved : goal.loop-i-preserved
-loop-i-preserved c =
-    let head = c.loop-i in
-    (search rules, column_next _ _ _ _ _ refl head.invariant.1, column_next _ _ _ _ _ refl head.invariant.2)
-
-pub shape_of-low : goal.shape_of-low
-shape_of-low c = c.loop-i.invariant.1.long
-
-pub shape_of-high : goal.shape_of-high
-shape_of-high c = c.loop-i.invariant.2.long
+pub loop-span-preserved : goal.loop-span-preserved
+loop-span-preserved c =
+    let i = c.loop-span.span-index in
+    let now = c.loop-span.ends in
+    let ends = c.args.ends.now in
+    let room : i < length now = omega arith in
+    let same = c.loop-span.invariant.1 i (le_refl i) in (
+      filled-next _ (mirrored ends) i _ now room (turned ends i _ same) c.loop-span.invariant.0,
+      λ k h. get_or-set_other now i k _ _ (λ e. omega arith) ∙ c.loop-span.invariant.1 k (omega arith),
+    )
 
 pub returns : goal.returns
-returns c =
-    let head = c.loop-i in
-    record {
-      low_after = column_done _ _ _ _ _ head.invariant.0 c.loop-i-test.false (search rules) head.invariant.1;
-      high_after = column_done _ _ _ _ _ head.invariant.0 c.loop-i-test.false (search rules) head.invariant.2;
-    }
+returns c = filled-array _ _ _ _ c.loop-span.auto.ends (λ k h. c.loop-span.invariant.0 k (omega arith))

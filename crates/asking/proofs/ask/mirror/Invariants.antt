@@ -1,13 +1,11 @@
--- Invariant: both arrays are what they were, with what the first i rows have at their fronts. Measure: the rows still to store.
-use Prim.Native.Nat.{◌-◌, ◌≤◌}
+-- Invariant: the first ends are turned round, and the others are as they were.
+use Prim.Native.Nat.{ℕ, ◌≤◌, ◌<◌}
+use mathlib.Core.Path.{◌≡◌}
 use lib.ListN.{get_or}
-use Rattle.claims.specs.code.Keys.{last_key}
-use Rattle.state.proofs.StoreLaws.{Column}
+use Rattle.asking.specs.code.Mirror.{mirrored}
 use Rattle.asking.proofs.ask.mirror.Given as goal
 
-abbrev pub invariant-loop-i : goal.invariant-loop-i
-invariant-loop-i l =
-    (l.i ≤ l.rows) × Column (λ k. last_key - get_or l.rights k 0) l.i l.initial.low l.low × Column (λ k. last_key - get_or l.lefts k 0) l.i l.initial.high l.high
-
-abbrev pub decreases-loop-i : goal.decreases-loop-i
-decreases-loop-i l = l.rows - l.i
+abbrev pub invariant-loop-span : goal.invariant-loop-span
+invariant-loop-span l =
+    ((k : ℕ) → k < l.span-index → get_or l.ends k (record { left = 0; right = 0 }) ≡ mirrored l.initial.ends k)
+    × ((k : ℕ) → l.span-index ≤ k → get_or l.ends k (record { left = 0; right = 0 }) ≡ get_or l.initial.ends k (record { left = 0; right = 0 }))

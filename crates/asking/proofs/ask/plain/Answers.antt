@@ -8,29 +8,28 @@ use Rattle.asking.proofs.PlainLaws.{right-below}
 use Rattle.asking.proofs.AskSteps.{plain_known, plain_free, plain-apart, plain-between}
 use Rattle.asking.proofs.ask.plain.Goals as goal
 
-pub returns-then-get32-gt0 : goal.returns-then-get32-gt0
-returns-then-get32-gt0 c =
-    plain_known c.args.s.now c.requires.1 _ c.get32.ensures.0 c.if-get32-gt0.true
+pub returns-then-known-gt0 : goal.returns-then-known-gt0
+returns-then-known-gt0 c = plain_known c.args.s.bytes.now c.args.s.sound _ c.known.ensures.value c.if-known-gt0.true
 
-pub returns-then-h-eq0 : goal.returns-then-h-eq0
-returns-then-h-eq0 c =
-    plain_free c.args.s.now c.requires.1 _ c.get32.ensures.0 c.if-get32-gt0.false _ c.get32-h.ensures.0 c.if-h-eq0.true
+pub returns-then-held-eq0 : goal.returns-then-held-eq0
+returns-then-held-eq0 c =
+    plain_free c.args.s.bytes.now c.args.s.sound _ c.known.ensures.value c.if-known-gt0.false _ c.held.ensures.value c.if-held-eq0.true
 
 pub returns-then-precedes : goal.returns-then-precedes
 returns-then-precedes c =
     let ends = c.meeting-common.ensures in
-    plain-apart c.args.s.now c.requires.1 _ c.get32.ensures.0 c.if-get32-gt0.false _ c.get32-h.ensures.0
-    c.if-h-eq0.false _ _ ends.0 ends.1 (ltb-true _ _ (sym c.precedes.ensures ∙ c.if-precedes.true))
+    plain-apart c.args.s.bytes.now c.args.s.sound _ c.known.ensures.value c.if-known-gt0.false _ c.held.ensures.value
+    c.if-held-eq0.false _ _ ends.0 ends.1 (ltb-true _ _ (sym c.precedes.ensures ∙ c.if-precedes.true))
 
 pub round_up-requires : goal.round_up-requires
 round_up-requires c =
     let ends = c.meeting-common.ensures in
-    let s = c.args.s.now in
+    let s = c.args.s.bytes.now in
     (ends.2.1, omega (arith, ends.1, right-below end_limit (store_of s).held))
 
 pub returns : goal.returns
 returns c =
     let ends = c.meeting-common.ensures in
-    plain-between c.args.s.now c.requires.1 _ c.get32.ensures.0 c.if-get32-gt0.false _ c.get32-h.ensures.0
-    c.if-h-eq0.false _ _ ends.0 ends.1 ends.2.0
+    plain-between c.args.s.bytes.now c.args.s.sound _ c.known.ensures.value c.if-known-gt0.false _ c.held.ensures.value
+    c.if-held-eq0.false _ _ ends.0 ends.1 ends.2.0
     (ltb-false _ _ (sym c.precedes.ensures ∙ c.if-precedes.false)) _ c.round_up.ensures

@@ -14,7 +14,7 @@ pub span-requires : goal.span-requires
 span-requires c =
     let head = c.loop-rest in
     let name = walk-name _ _ head.invariant.0 (above_zero c.loop-rest-test.true) _ _ c.least_name-name.ensures refl in
-    (c.requires.0, c.requires.1, omega (arith, name.0))
+    (c.requires, omega (arith, name.0))
 
 pub loop-rest-smaller : goal.loop-rest-smaller
 loop-rest-smaller c =

@@ -7,4 +7,4 @@ pub returns-then-b : goal.returns-then-b
 returns-then-b c = rw (lt-ltb _ _ c.if-b.true) (refl, refl)
 
 pub returns : goal.returns
-returns c = rw (le-ltb _ _ c.if-b.false) (c.lesser.ensures, c.greater.ensures)
+returns c = rw (le-ltb _ _ c.if-b.false) (c.min.ensures, c.max.ensures)

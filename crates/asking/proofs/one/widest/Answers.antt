@@ -13,13 +13,13 @@ use Rattle.asking.proofs.one.widest.Goals.{else-plain-minus, then-plain-minus}
 
 pub span-requires : goal.span-requires
 span-requires c =
-    (c.requires.0, c.requires.1, omega (arith, ones-empty))
+    (c.requires.0, omega (arith, ones-empty))
 
 pub returns : goal.returns
 returns c =
     λ ds kept lacks.
     let some = c.all_names-some.ensures ∙ ap (all_names 0) kept.masks_are in
-    let many : 0 < length ds = omega (arith, c.requires.2, mask_count ds kept) in
+    let many : 0 < length ds = omega (arith, c.requires.1, mask_count ds kept) in
     let less : Lacking ds c.shared.result = λ v o. lacks v (o.0, subset_trans _ _ _ o.1 (rw c.shared.ensures (shared-left _ _))) in
     elim c.if-plain-minus.branch [
       | then-plain-minus w ↦ names-all ds kept _ _ some c.args.plain true _ _ _ c.minus.ensures w.if-plain-minus.true

@@ -11,7 +11,7 @@ use Rattle.claims.proofs.DegreeLaws.{deciding-more, deciding-none, claim_placed,
 use Rattle.claims.proofs.degrees.deciding_names.Goals as goal
 
 pub others-names-requires : goal.others-names-requires
-others-names-requires c = omega (arith, c.get32.ensures.0, own-fits _ c.requires.1)
+others-names-requires c = omega (arith, c.get32.ensures.0, own-fits _ c.args.s.sound)
 
 pub loop-i-init : goal.loop-i-init
 unfolding deciding
@@ -19,28 +19,28 @@ loop-i-init c = (omega arith, c.others-names.ensures ∙ ap others c.get32.ensur
 
 pub place-requires : goal.place-requires
 place-requires c =
-    claim_placed _ c.requires.1 _ c.requires.2 c.loop-i.i (omega arith)
+    claim_placed _ c.args.s.sound _ c.requires c.loop-i.i (omega arith)
 
 pub single_names-requires : goal.single_names-requires
 single_names-requires c =
-    (claim_few _ c.requires.1 _ c.requires.2 c.loop-i.i (omega arith) _ c.place.ensures.0, omega arith)
+    (claim_few _ c.args.s.sound _ c.requires c.loop-i.i (omega arith) _ c.place.ensures.0, omega arith)
 
 pub returns-then-names-eq0 : goal.returns-then-names-eq0
 returns-then-names-eq0 c =
     let head = c.loop-i in
     let told =
     c.shared-names.ensures
-    ∙ ap (shared head.names) (claim_singles _ c.requires.1 _ c.requires.2 head.i (omega arith) _ c.place.ensures.0 _ c.single_names.ensures) in
-    let more = deciding-more (store_of c.args.s.now) (num own_at 4 c.args.s.now) head.i _ (rw head.invariant.1 at told) in
-    sym (deciding-none (store_of c.args.s.now) (num own_at 4 c.args.s.now) c.args.n (head.i + 1) (omega arith) (sym more ∙ c.if-names-eq0.true))
+    ∙ ap (shared head.names) (claim_singles _ c.args.s.sound _ c.requires head.i (omega arith) _ c.place.ensures.0 _ c.single_names.ensures) in
+    let more = deciding-more (store_of c.args.s.bytes.now) (num own_at 4 c.args.s.bytes.now) head.i _ (rw head.invariant.1 at told) in
+    sym (deciding-none (store_of c.args.s.bytes.now) (num own_at 4 c.args.s.bytes.now) c.args.n (head.i + 1) (omega arith) (sym more ∙ c.if-names-eq0.true))
 
 pub loop-i-preserved : goal.loop-i-preserved
 loop-i-preserved c =
     let head = c.loop-i in
     let told =
     c.shared-names.ensures
-    ∙ ap (shared head.names) (claim_singles _ c.requires.1 _ c.requires.2 head.i (omega arith) _ c.place.ensures.0 _ c.single_names.ensures) in
-    let more = deciding-more (store_of c.args.s.now) (num own_at 4 c.args.s.now) head.i _ (rw head.invariant.1 at told) in
+    ∙ ap (shared head.names) (claim_singles _ c.args.s.sound _ c.requires head.i (omega arith) _ c.place.ensures.0 _ c.single_names.ensures) in
+    let more = deciding-more (store_of c.args.s.bytes.now) (num own_at 4 c.args.s.bytes.now) head.i _ (rw head.invariant.1 at told) in
     (omega arith, more)
 
 pub returns : goal.returns

@@ -14,22 +14,22 @@ loop-i-init c = (omega arith, refl)
 
 pub place-requires : goal.place-requires
 place-requires c =
-    claim_placed _ c.requires.1 _ c.requires.2 c.loop-i.i (omega arith)
+    claim_placed _ c.args.s.sound _ c.known-n.ensures.value c.loop-i.i (omega arith)
 
 pub degree_within-requires : goal.degree_within-requires
 degree_within-requires c =
-    (claim_few _ c.requires.1 _ c.requires.2 c.loop-i.i (omega arith) _ c.place.ensures.0, omega arith)
+    (claim_few _ c.args.s.sound _ c.known-n.ensures.value c.loop-i.i (omega arith) _ c.place.ensures.0, omega arith)
 
 pub returns-then-not-degree_within : goal.returns-then-not-degree_within
 returns-then-not-degree_within c =
     let i = c.loop-i.i in
-    let told = claim_within _ c.requires.1 _ c.requires.2 i (omega arith) _ c.place.ensures.0 _ _ c.degree_within.ensures in
+    let told = claim_within _ c.args.s.sound _ c.known-n.ensures.value i (omega arith) _ c.place.ensures.0 _ _ c.degree_within.ensures in
     sym (below_stop _ i _ c.loop-i-test.true (sym told ∙ c.if-not-degree_within.true))
 
 pub loop-i-preserved : goal.loop-i-preserved
 loop-i-preserved c =
     let head = c.loop-i in
-    let told = claim_within _ c.requires.1 _ c.requires.2 head.i (omega arith) _ c.place.ensures.0 _ _ c.degree_within.ensures in
+    let told = claim_within _ c.args.s.sound _ c.known-n.ensures.value head.i (omega arith) _ c.place.ensures.0 _ _ c.degree_within.ensures in
     (omega arith, sym (below-turn _ head.i true true (sym head.invariant.1) (sym (sym told ∙ c.if-not-degree_within.false))))
 
 pub returns : goal.returns

@@ -8,7 +8,7 @@ use Rattle.claims.specs.code.Degrees.{degree_within}
 use Rattle.claims.proofs.degrees.within.Given as goal
 
 abbrev pub invariant-loop-i : goal.invariant-loop-i
-invariant-loop-i l = (l.i ≤ l.rows) × (all_below l.i (degree_within (store_of l.s) l.most) ≡ true)
+invariant-loop-i l = (l.i ≤ l.rows) × (all_below l.i (degree_within (store_of l.s.bytes.now) l.most) ≡ true)
 
 abbrev pub decreases-loop-i : goal.decreases-loop-i
 decreases-loop-i l = l.rows - l.i

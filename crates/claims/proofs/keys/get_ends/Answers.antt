@@ -1,29 +1,42 @@
 -- `claims::keys::get_ends` meets its contract: counts where they fit, ranks where they do not.
-use native.Mathlib.Omega.{arith}
-use Rattle.state.proofs.StateLaws.{held_count_le}
-use Rattle.claims.proofs.KeyLaws.{counts_fit, counts_pass, scale_counted, scale_ranked}
+use mathlib.Core.Path.{◌≡◌, refl, ◌∙◌}
+use borrow.Author.Rules.{rules}
+use Rattle.ends.specs.Ends.{count_of}
+use Rattle.claims.specs.code.Keys.{count_from, rank_key}
+use Rattle.claims.proofs.KeyLaws.{counts_fit, counts_pass, counts_key, ranks_key, scale_counted, scale_ranked, ends-stored, ends-counted}
 use Rattle.claims.proofs.keys.get_ends.Goals as goal
 
-pub reach_of-held-requires : goal.reach_of-held-requires
-reach_of-held-requires c =
-    (c.requires.state_size_in_bounds.0, omega (arith, c.requires.state_size_in_bounds.3), omega (arith, c.requires.state_size_in_bounds.3, held_count_le _ c.requires.state_size_in_bounds.1))
-
-pub put_counts-requires : goal.put_counts-requires
-put_counts-requires c =
+pub put_keys-requires-clause-callable : goal.put_keys-requires-clause-callable
+put_keys-requires-clause-callable c i h =
+    let form = c.args.s.sound in
     let r = c.reach_of-held.ensures in
-    record { state_size_in_bounds = (c.requires.state_size_in_bounds.0, c.requires.state_size_in_bounds.1, c.requires.state_size_in_bounds.2, c.requires.state_size_in_bounds.3, (counts_fit _ _ _ r.0 r.1 c.if-held.true, r.0)); rows_in_bounds = c.requires.rows_in_bounds }
+    let near = ends-counted _ form i h _ refl _ (counts_fit _ _ _ r.0 r.1 c.if-held.true, r.0) in
+    let stored = ends-stored _ form i h _ refl in
+    (λ _ _ _ _ _. (stored.0.0, near.0.0, near.0.1), λ _ _ _ _ _. (stored.1.0, near.1.0, near.1.1))
 
-pub returns-then-held : goal.returns-then-held
-returns-then-held c =
+pub put_keys-requires-clause-keyed : goal.put_keys-requires-clause-keyed
+put_keys-requires-clause-keyed c e v p =
     let r = c.reach_of-held.ensures in
-    record { value = scale_counted _ _ r.0 (counts_fit _ _ _ r.0 r.1 c.if-held.true); lefts_after = c.put_counts.ensures.lefts_after; rights_after = c.put_counts.ensures.rights_after }
+    let made : v ≡ count_from c.reach_of-held.result.first (count_of e) = search rules in
+    made ∙ counts_key _ _ (counts_fit _ _ _ r.0 r.1 c.if-held.true, r.0) (count_of e)
 
-pub put_ranks-requires : goal.put_ranks-requires
-put_ranks-requires c =
+pub returns-then-held-clause-value : goal.returns-then-held-clause-value
+returns-then-held-clause-value c =
     let r = c.reach_of-held.ensures in
-    record { state_size_in_bounds = c.requires.state_size_in_bounds; s_value = (counts_pass _ _ _ r.0 r.1 c.if-held.false, c.requires.rows_in_bounds.0, c.requires.rows_in_bounds.1) }
+    scale_counted _ _ r.0 (counts_fit _ _ _ r.0 r.1 c.if-held.true)
 
-pub returns : goal.returns
-returns c =
+pub put_keys-requires-2-clause-callable : goal.put_keys-requires-2-clause-callable
+put_keys-requires-2-clause-callable c i h =
+    let stored = ends-stored _ c.args.s.sound i h _ refl in
+    (λ _ _ _ _. stored.0, λ _ _ _ _. stored.1)
+
+pub put_keys-requires-2-clause-keyed : goal.put_keys-requires-2-clause-keyed
+put_keys-requires-2-clause-keyed c e v p =
     let r = c.reach_of-held.ensures in
-    record { value = scale_ranked _ (counts_pass _ _ _ r.0 r.1 c.if-held.false); lefts_after = c.put_ranks.ensures.lefts_after; rights_after = c.put_ranks.ensures.rights_after }
+    let made : v ≡ rank_key c.parts_of-parts.result (count_of e) = search rules in
+    made ∙ ranks_key _ _ (counts_pass _ _ _ r.0 r.1 c.if-held.false) c.parts_of-parts.ensures (count_of e)
+
+pub returns-clause-value : goal.returns-clause-value
+returns-clause-value c =
+    let r = c.reach_of-held.ensures in
+    scale_ranked _ (counts_pass _ _ _ r.0 r.1 c.if-held.false)

@@ -1,16 +1,16 @@
 -- `claims::keys::get_parts` meets its contract: turn j stores the millionths of end j.
-use Rattle.state.proofs.StoreLaws.{column_none, column_next, column_done}
+use Prim.Native.Nat.{◌<◌}
+use native.Mathlib.Omega.{arith}
+use lib.ListN.{length}
 use Rattle.claims.specs.code.Keys.{millionths_at}
-use borrow.Author.Rules.{rules}
+use Rattle.claims.proofs.TableLaws.{filled-array, filled-next}
 use Rattle.claims.proofs.keys.get_parts.Goals as goal
-
-pub loop-j-init : goal.loop-j-init
-loop-j-init c = (search rules, column_none _ _)
 
 pub loop-j-preserved : goal.loop-j-preserved
 unfolding millionths_at
-loop-j-preserved c = (search rules, column_next _ _ _ _ _ c.get32.ensures.0 c.loop-j.invariant.1)
+loop-j-preserved c =
+    let room : c.loop-j.j < length c.loop-j.parts = omega arith in
+    filled-next 0 (millionths_at c.args.s.now) c.loop-j.j _ c.loop-j.parts room c.get32.ensures.0 c.loop-j.invariant
 
 pub returns : goal.returns
-returns c =
-    let head = c.loop-j in column_done _ _ _ _ _ head.invariant.0 c.loop-j-test.false (search rules) head.invariant.1
+returns c = filled-array 0 _ _ _ c.loop-j.auto.parts (λ k h. c.loop-j.invariant k (omega arith))

@@ -12,11 +12,15 @@ use Rattle.engine.specs.Calls.{setup}
 use Rattle.engine.proofs.SetUpLaws.{fresh-put}
 use Rattle.engine.proofs.set_up.put_fresh.Goals as goal
 
+pub counts-requires : goal.counts-requires
+unfolding nothing_known
+counts-requires c = rw c.fresh-known.ensures (omega arith)
+
 pub put_known-requires : goal.put_known-requires
 unfolding nothing_known entry_masks entries_in tab joined
 put_known-requires c =
-    rw c.fresh-known.ensures record {
-      table_fits = table-fresh 16 0 32 512 (omega arith) (omega arith);
+    rw (c.counts.ensures, c.fresh-known.ensures) record {
+      table_fits = table-fresh 16 0 0 512 (omega arith) (omega arith);
       masks_len_bound = omega arith;
       n_le_rows_most = (omega arith, omega arith, omega arith);
       by_index = λ i h f. absurd (omega arith);
@@ -32,7 +36,7 @@ returns c =
     c.put64.ensures
     c.put32-3.ensures
     c.clear.ensures
-    (rw c.fresh-known.ensures at c.put_known.ensures)
+    (rw (c.counts.ensures, c.fresh-known.ensures) at c.put_known.ensures)
     c.clear-2.ensures
     c.clear-3.ensures
     refl

@@ -1,15 +1,10 @@
--- Invariant: the epochs before i fit and those from i on do, exactly if all do. Measure: the epochs still to test.
-use Prim.Native.Nat.{◌-◌}
+-- Invariant: whether the epochs before the index fit.
 use mathlib.Core.Path.{◌≡◌}
-use mathlib.Core.Bool.{◌&&◌}
 use lib.Dec.{leb}
-use lib.ListN.{drop}
-use Rattle.predicates.specs.Lists.{all}
-use Rattle.epochs.specs.Epochs.{epochs_in, epoch_most, epochs_most}
+use lib.ListN.{take}
+use Rattle.std.specs.List.{list_all}
+use Rattle.epochs.specs.Epochs.{epoch_most}
 use Rattle.epochs.proofs.known.fits.Given as goal
 
-abbrev pub invariant-loop-i : goal.invariant-loop-i
-invariant-loop-i l = l.ok && all (λ e. leb e epoch_most) (drop l.i (epochs_in l.at l.s)) ≡ all (λ e. leb e epoch_most) (epochs_in l.at l.s)
-
-abbrev pub decreases-loop-i : goal.decreases-loop-i
-decreases-loop-i l = epochs_most - l.i
+abbrev pub invariant-loop-e : goal.invariant-loop-e
+invariant-loop-e l = l.ok ≡ list_all (λ e. leb e epoch_most) (take l.e-index l.e-items)

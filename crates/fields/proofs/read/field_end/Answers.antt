@@ -1,28 +1,20 @@
--- `fields::read::field_end` meets its contract: the loop stops at the first space. The mathematics is `space_here`, `space_next` and `space_done` of
--- `proofs.FieldLaws`. Assumes nothing.
-use mathlib.Core.Path.{refl}
-use native.Mathlib.Omega.{arith}
-use Rattle.fields.proofs.FieldLaws.{space_here, space_next, space_done}
-use borrow.Author.Rules.{rules}
+-- `fields::read::field_end` meets its contract: a space that is found ends the field, and else the line does. The mathematics is `space_some` and
+-- `space-none` of `proofs.FieldLaws`. Assumes nothing.
+use Rattle.std.proofs.Common.{◌-◌, length, drop, length-drop, sym, ◌∙◌, arith}
+use Rattle.std.proofs.Math.Seq.{take_all}
+use Rattle.fields.proofs.FieldLaws.{space_some, space-none}
 use Rattle.fields.proofs.read.field_end.Goals as goal
 
-pub loop-i-init : goal.loop-i-init
-loop-i-init c = (search rules, search rules, refl)
+pub returns-in-Some : goal.returns-in-Some
+returns-in-Some c =
+    let rest = drop c.args.at c.args.line.now in
+    let whole = take_all (length c.args.line.now - c.args.at) rest (omega (arith, length-drop c.args.at c.args.line.now)) in
+    let first = space_some rest c.in-Some.before (rw whole at (sym c.first_space.ensures ∙ c.in-Some.is)) in
+    (omega arith, omega arith, omega (arith, length-drop c.args.at c.args.line.now))
 
-pub returns-then-line-i-eq32 : goal.returns-then-line-i-eq32
-returns-then-line-i-eq32 c =
-    let head = c.loop-i in
-    let none = space_here c.args.line.now head.i c.loop-i-test.true c.if-line-i-eq32.true in
-    (omega arith, omega arith, omega arith)
-
-pub loop-i-preserved : goal.loop-i-preserved
-loop-i-preserved c =
-    let head = c.loop-i in
-    let next = space_next c.args.line.now head.i c.loop-i-test.true c.if-line-i-eq32.false in
-    (omega arith, omega arith, omega arith)
-
-pub returns : goal.returns
-returns c =
-    let head = c.loop-i in
-    let none = space_done c.args.line.now head.i c.loop-i-test.false in
-    (omega arith, omega arith, omega arith)
+pub returns-in-None : goal.returns-in-None
+returns-in-None c =
+    let rest = drop c.args.at c.args.line.now in
+    let whole = take_all (length c.args.line.now - c.args.at) rest (omega (arith, length-drop c.args.at c.args.line.now)) in
+    let none = space-none rest (rw whole at (sym c.first_space.ensures ∙ c.in-None.is)) in
+    (omega (arith, length-drop c.args.at c.args.line.now), omega arith, omega arith)

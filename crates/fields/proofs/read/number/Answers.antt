@@ -1,75 +1,74 @@
 -- `fields::read::number` meets its contract: the loop leaves at a byte that is no digit, and where the number would pass 64 bits, since the digits
 -- behind never make it smaller. The mathematics is `value_ge`, `value_next` and the laws of `is_number` of `proofs.FieldLaws`. Assumes nothing.
-use Prim.Native.Nat.{◌+◌, ◌*◌, ◌-◌, ◌^◌, ◌≤◌}
-use mathlib.Core.Path.{◌≡◌, refl, sym, ◌∙◌}
-use mathlib.Core.Bool.{true, false}
-use native.Mathlib.Omega.{arith}
-use borrow.Author.Tests.{leb-true}
-use lib.Dec.{leb}
-use lib.ListN.{get_or, drop}
+use Rattle.std.proofs.Common.{◌≡◌, ℕ, ◌+◌, ◌*◌, ◌-◌, ◌^◌, ◌<◌, ◌≤◌, List, length, get_or, drop, true, false, refl, sym, ◌∙◌, arith, rules}
+use Rattle.std.proofs.lemmas.Grind.{common_steps}
 use Rattle.predicates.proofs.LoopLaws.{all_here, all_next, all_done}
-use Rattle.predicates.proofs.ListLaws.{true_T, T_true, both_l}
-use Rattle.fields.specs.Fields.{is_digit, value_from, value}
-use Rattle.fields.proofs.FieldLaws.{value_ge, value_next, value-done, number_size, number_digits, number_large, number_good}
-use borrow.Author.Rules.{rules}
+use Rattle.fields.specs.Fields.{is_digit, value_from, value, is_number}
+use Rattle.fields.proofs.FieldLaws.{value_ge, value_next, value-done, number-empty, number_long, number_digits, number_large, number_good}
 use Rattle.fields.proofs.read.number.Goals as goal
+use Rattle.fields.proofs.read.number.Goals.{then-is_empty-via-then-is_empty, then-is_empty-via-else-is_empty+then-field-gt-DIGITS_MOST}
+use Rattle.fields.proofs.read.number.Goals.{In_ok-checked_mul}
 
-pub returns-then-not-size : goal.returns-then-not-size
-returns-then-not-size c =
-    let none = number_size _ c.if-not-size.true in
-    record { good_value = sym none; value_value = rw none }
+pub returns-then-is_empty : goal.returns-then-is_empty
+returns-then-is_empty c =
+    let f = c.args.field.now in
+    let none : is_number f ≡ false =
+    elim c.then-is_empty.branch [
+      | then-is_empty-via-then-is_empty w ↦ (let empty : length f ≡ 0 = grind (arith, common_steps) in number-empty f empty)
+      | then-is_empty-via-else-is_empty+then-field-gt-DIGITS_MOST w ↦ number_long f w.if-field-gt-DIGITS_MOST.true
+    ] in
+    rw none
 
-pub loop-i-init : goal.loop-i-init
+pub loop-b-init : goal.loop-b-init
 unfolding value
-loop-i-init c = (search rules, search rules, refl, refl)
+loop-b-init c = record { fits = omega arith; digits = refl; writes = refl }
 
-pub returns-then-not-b : goal.returns-then-not-b
-returns-then-not-b c =
-    let head = c.loop-i in
+pub returns-then-not-is_ascii_digit : goal.returns-then-not-is_ascii_digit
+returns-then-not-is_ascii_digit c =
     let f = c.args.field.now in
-    let test : is_digit c.byte-b.result ≡ false = c.if-not-b.true in
-    let other : is_digit (get_or f head.i 0) ≡ false = rw c.byte-b.ensures at test in
-    let none = number_digits f (sym head.invariant.2 ∙ all_here is_digit f head.i c.loop-i-test.true other) in
-    record { good_value = sym none; value_value = rw none }
+    let other : is_digit (get_or f c.loop-b.b-index 0) ≡ false = sym c.if-not-is_ascii_digit.ensures.value in
+    let none = number_digits f (sym c.loop-b.invariant.digits ∙ all_here is_digit f c.loop-b.b-index c.loop-b-test.true other) in
+    rw none (search rules)
 
-pub overflow_sub-d : goal.overflow_sub-d
-overflow_sub-d c =
-    let test : is_digit c.byte-b.result ≡ true = c.if-not-b.false in
-    let low : 48 ≤ c.byte-b.result = leb-true 48 _ (T_true _ (both_l (leb 48 c.byte-b.result) (leb c.byte-b.result 57) (true_T _ test))) in
-    omega arith
+-- a digit, and what the digits behind it make of the number
+module _ (f : List ℕ) (number i : ℕ) (below : i < length f) (writes : value_from number (drop i f) ≡ value f) where
+  next : value_from (number * 10 + (get_or f i 0 - 48)) (drop (i + 1) f) ≡ value f
+  next = sym (value_next number f i below) ∙ writes
 
-pub returns-then-d-v : goal.returns-then-d-v
-returns-then-d-v c =
-    let head = c.loop-i in
+  most : number * 10 + (get_or f i 0 - 48) ≤ value f
+  most = omega (arith, next, value_ge (number * 10 + (get_or f i 0 - 48)) (drop (i + 1) f))
+
+pub returns-in_err-checked_mul : goal.returns-in_err-checked_mul
+returns-in_err-checked_mul c =
     let f = c.args.field.now in
-    let b = get_or f head.i 0 in
-    let e : c.byte-b.result ≡ b = c.byte-b.ensures in
-    let more = value_ge (head.v * 10 + (b - 48)) (drop (head.i + 1) f) in
-    let turn = value_next head.v f head.i c.loop-i-test.true in
-    let whole : value_from head.v (drop head.i f) ≡ value f = head.invariant.3 in
-    let large : 2 ^ 64 ≤ value f = omega arith in
-    let none = number_large f large in
-    record { good_value = sym none; value_value = rw none }
+    let over : 2 ^ 64 ≤ c.loop-b.number * 10 = search rules in
+    let large = number_large f (omega (arith, most f c.loop-b.number c.loop-b.b-index c.loop-b-test.true c.loop-b.invariant.writes)) in
+    rw large (search rules)
 
-pub loop-i-preserved : goal.loop-i-preserved
-loop-i-preserved c =
-    let head = c.loop-i in
+pub returns-in_err-number : goal.returns-in_err-number
+returns-in_err-number c =
     let f = c.args.field.now in
-    let test : is_digit c.byte-b.result ≡ true = c.if-not-b.false in
-    let digit : is_digit (get_or f head.i 0) ≡ true = rw c.byte-b.ensures at test in
-    let below = c.loop-i-test.true in (
-      omega arith,
-      search rules,
-      sym (all_next is_digit f head.i below digit) ∙ head.invariant.2,
-      rw c.byte-b.ensures (sym (value_next head.v f head.i below) ∙ head.invariant.3),
-    )
+    let over : 2 ^ 64 ≤ c.loop-b.number * 10 + (get_or f c.loop-b.b-index 0 - 48) = search rules in
+    let large = number_large f (omega (arith, most f c.loop-b.number c.loop-b.b-index c.loop-b-test.true c.loop-b.invariant.writes)) in
+    rw large (search rules)
+
+pub loop-b-preserved : goal.loop-b-preserved
+loop-b-preserved c =
+    let f = c.args.field.now in
+    let i = c.loop-b.b-index in
+    let digit : is_digit (get_or f i 0) ≡ true = sym c.if-not-is_ascii_digit.ensures.value in
+    let is : c.in_ok-number.number ≡ c.loop-b.number * 10 + (get_or f i 0 - 48) = search rules in
+    record {
+      fits = search rules;
+      digits = sym (all_next is_digit f i c.loop-b-test.true digit) ∙ c.loop-b.invariant.digits;
+      writes = rw is (next f c.loop-b.number i c.loop-b-test.true c.loop-b.invariant.writes);
+    }
 
 pub returns : goal.returns
 returns c =
-    let head = c.loop-i in
     let f = c.args.field.now in
-    let whole : value_from head.v (drop head.i f) ≡ value f = head.invariant.3 in
-    let value-is : head.v ≡ value f = sym (value-done head.v f head.i c.loop-i-test.false) ∙ whole in
-    let digits = sym head.invariant.2 ∙ all_done is_digit f head.i c.loop-i-test.false in
-    let good = number_good f c.if-not-size.false digits (rw (← value-is) head.invariant.0) in
-    record { good_value = sym good; value_value = rw good value-is }
+    let whole : c.loop-b.number ≡ value f = sym (value-done c.loop-b.number f c.loop-b.b-index c.loop-b-test.false) ∙ c.loop-b.invariant.writes in
+    let digits = sym c.loop-b.invariant.digits ∙ all_done is_digit f c.loop-b.b-index c.loop-b-test.false in
+    let some : 1 ≤ length f = grind (arith, common_steps) in
+    let good = number_good f some c.if-field-gt-DIGITS_MOST.false digits (rw (← whole) c.loop-b.invariant.fits) in
+    rw (good, whole) refl

@@ -1,11 +1,14 @@
--- The loop leaves at the first call that is not made again. Measure: the tries that are left, while a call is made again.
-use Rattle.std.proofs.Common.{◌≤◌, length}
-use Rattle.listing.specs.System.{moved_by}
-use Rattle.listing.proofs.SystemLaws.{tries_left}
+-- The loop leaves at the first call that is not made again. Invariant: a try is left, and no byte was taken. Measure: the tries that are left.
+use Rattle.std.proofs.Common.{◌-◌, ◌<◌, []}
+use Rattle.std.specs.Io.KnownBytes.{Consumes}
+use Rattle.listing.specs.System.{tries_most}
 use Rattle.listing.proofs.system.receive.Given as goal
 
-abbrev pub invariant-loop-reader : goal.invariant-loop-reader
-invariant-loop-reader g l = moved_by l.last.got ≤ length l.input
+abbrev pub invariant-loop-last : goal.invariant-loop-last
+invariant-loop-last g l = record {
+  tries : l.last.tries < tries_most;
+  none : Consumes (g.R.Read.remaining l.fn.reader) (g.R.Read.remaining l.reader) [];
+}
 
-abbrev pub decreases-loop-reader : goal.decreases-loop-reader
-decreases-loop-reader g l = tries_left l.last
+abbrev pub decreases-loop-last : goal.decreases-loop-last
+decreases-loop-last g l = tries_most - l.last.tries

@@ -1,13 +1,13 @@
 -- `message::read::contents` meets its contract: each return is a case of the definition's tests, in their order.
 -- The test for normal form is made on the term words themselves: being of one kind they stand in the order of their payloads.
-use Rattle.std.proofs.Common.{◌≡◌, ◌+◌, ◌-◌, ◌≤◌, eqb, length, get_or, sym, ◌∙◌, arith, rules}
+use Rattle.std.proofs.Common.{◌≡◌, ◌+◌, ◌≤◌, eqb, length, get_or, sym, ap, ◌∙◌, arith, rules}
 use Rattle.predicates.specs.Predicates.{is_normal}
 use Rattle.message.specs.Words.{masks}
-use Rattle.message.specs.Read.{sender_of, term_count, is_ends, start, middle, span, with_span, contents}
+use Rattle.message.specs.Read.{sender_of, term_count, is_ends, middle, span, with_span, contents}
 use Rattle.message.proofs.WordLaws.{normal-middle}
-use Rattle.message.proofs.ReadLaws.{Shaped, shape_out, start_bounds}
+use Rattle.message.proofs.ReadLaws.{Shaped, shape_out, shaped_count, start_bounds}
 use Rattle.message.proofs.read.contents.Goals as goal
-use Rattle.message.proofs.read.contents.Goals.{After-is_normal, After-kind-ends, After-width, Else-not-check_fits, Start}
+use Rattle.message.proofs.read.contents.Goals.{After-is_normal, After-kind-ends, Else-not-check_fits, Start}
 
 -- what the shape tells
 shaped : (c : Start) → Shaped c.args.at c.args.words.now
@@ -30,47 +30,36 @@ checked : (c : Else-not-check_fits) → let a = c.args in
 unfolding contents
 checked c = rw (← c.check_fits.ensures, c.if-not-check_fits.false)
 
--- the first term word is the definition's
-from : (c : After-width) → let a = c.args in
-    eqb c.kind-ends.result 2 ≡ is_ends a.at a.words.now → a.at + c.width.result ≡ start a.at (is_ends a.at a.words.now)
-from c form = rw (← form) (omega (arith, c.width.ensures.0))
-
--- the terms stand before the last word
-within : (c : After-width) → let a = c.args in
-    eqb c.kind-ends.result 2 ≡ is_ends a.at a.words.now → Shaped a.at a.words.now → a.at + c.width.result ≤ length a.words.now - 1
-within c form shape = omega (arith, from c form, shape)
-
--- they are in normal form where the part of the slice is
+-- the terms are in normal form where the part of the slice is
 normal : (c : After-is_normal) → let a = c.args in
-    a.at + c.width.result ≡ start a.at (is_ends a.at a.words.now) → Shaped a.at a.words.now
-    → is_normal (masks (middle a.at (is_ends a.at a.words.now) a.words.now)) ≡ c.is_normal.result
-normal c starts shape = sym (c.is_normal.ensures ∙ normal-middle c.args.at _ _ _ starts shape.kinds)
+    Shaped a.at a.words.now → is_normal (masks (middle a.at (is_ends a.at a.words.now) a.words.now)) ≡ c.is_normal.result
+normal c t = normal-middle c.args.at _ _ t.kinds ∙ sym (c.is_normal.ensures ∙ rw c.terms-terms.ensures)
 
-pub returns-then-not-check_fits : goal.returns-then-not-check_fits
+pub returns-then-not-check_fits-clause-value : goal.returns-then-not-check_fits-clause-value
 unfolding contents
-returns-then-not-check_fits c = rw (← c.check_fits.ensures, c.if-not-check_fits.true)
+returns-then-not-check_fits-clause-value c = rw (← c.check_fits.ensures, c.if-not-check_fits.true)
 
-pub returns-in_default : goal.returns-in_default
+pub returns-in_default-clause-value : goal.returns-in_default-clause-value
 unfolding with_span
-returns-in_default c =
-    sym (checked (goal.at.returns-in_default c).Else-not-check_fits ∙ rw (← (told (goal.at.returns-in_default c).After-kind-ends), ← c.span-interval.ensures, c.in_default.is))
+returns-in_default-clause-value c =
+    let at = goal.at.returns-in_default-clause-value c in
+    sym (checked at.Else-not-check_fits ∙ rw (← (told at.After-kind-ends), ← c.span.ensures, c.in_default.is))
 
-pub returns-then-not-is_normal : goal.returns-then-not-is_normal
+pub returns-then-not-is_normal-clause-value : goal.returns-then-not-is_normal-clause-value
 unfolding with_span
-returns-then-not-is_normal c =
-    let found = c.in-Span.is in
-    let no = c.if-not-is_normal.true in
-    sym (checked (goal.at.returns-then-not-is_normal c).Else-not-check_fits ∙ rw (normal (goal.at.returns-then-not-is_normal c).After-is_normal (from (goal.at.returns-then-not-is_normal c).After-width (told (goal.at.returns-then-not-is_normal c).After-kind-ends)) (shaped (goal.at.returns-then-not-is_normal c).Start), ← (told (goal.at.returns-then-not-is_normal c).After-kind-ends), ← c.span-interval.ensures, found, no))
+returns-then-not-is_normal-clause-value c =
+    let at = goal.at.returns-then-not-is_normal-clause-value c in
+    let same = normal at.After-is_normal (shaped at.Start) in
+    sym (checked at.Else-not-check_fits ∙ rw (same, ← (told at.After-kind-ends), ← c.span.ensures, c.in-Some.is, c.if-not-is_normal.true))
 
-pub returns : goal.returns
+pub returns-clause-value : goal.returns-clause-value
 unfolding with_span
-returns c =
-    let found = c.in-Span.is in
-    let yes = c.if-not-is_normal.false in
-    sym (checked (goal.at.returns c).Else-not-check_fits ∙ rw (normal (goal.at.returns c).After-is_normal (from (goal.at.returns c).After-width (told (goal.at.returns c).After-kind-ends)) (shaped (goal.at.returns c).Start), ← (told (goal.at.returns c).After-kind-ends), ← c.span-interval.ensures, found, yes))
-
-pub bounds-words-0 : goal.bounds-words-0
-bounds-words-0 c = omega (arith, fits (goal.at.bounds-words-0 c).Start)
+returns-clause-value c =
+    let at = goal.at.returns-clause-value c in
+    let count = ap length c.terms-terms.ensures ∙ shaped_count (shaped at.Start) in
+    let same = normal at.After-is_normal (shaped at.Start) in
+    sym (checked at.Else-not-check_fits
+    ∙ rw (same, ← (told at.After-kind-ends), ← c.span.ensures, c.in-Some.is, c.if-not-is_normal.false, count, c.sender.ensures))
 
 pub offset_bounds-words-at : goal.offset_bounds-words-at
 offset_bounds-words-at c = let h = fits (goal.at.offset_bounds-words-at c).Start in search rules
@@ -78,26 +67,11 @@ offset_bounds-words-at c = let h = fits (goal.at.offset_bounds-words-at c).Start
 pub bounds-words-at : goal.bounds-words-at
 bounds-words-at c = omega (arith, fits (goal.at.bounds-words-at c).Start)
 
-pub overflow_sub-last : goal.overflow_sub-last
-overflow_sub-last c = omega (arith, fits (goal.at.overflow_sub-last c).Start)
-
 pub check_fits-requires : goal.check_fits-requires
 check_fits-requires c = omega (arith, fits (goal.at.check_fits-requires c).Start)
 
-pub span-interval-requires : goal.span-interval-requires
-span-interval-requires c = fits (goal.at.span-interval-requires c).Start
+pub span-requires : goal.span-requires
+span-requires c = fits (goal.at.span-requires c).Start
 
-pub overflow_add-from : goal.overflow_add-from
-overflow_add-from c = let h = fits (goal.at.overflow_add-from c).Start in search rules
-
-pub offset_bounds-words-from : goal.offset_bounds-words-from
-offset_bounds-words-from c = let h = fits (goal.at.offset_bounds-words-from c).Start in search rules
-
-pub slice_bounds-is_normal-count : goal.slice_bounds-is_normal-count
-slice_bounds-is_normal-count c = within (goal.at.slice_bounds-is_normal-count c).After-width (told (goal.at.slice_bounds-is_normal-count c).After-kind-ends) (shaped (goal.at.slice_bounds-is_normal-count c).Start)
-
-pub slice_bounds-is_normal-start : goal.slice_bounds-is_normal-start
-slice_bounds-is_normal-start c = let h = within (goal.at.slice_bounds-is_normal-start c).After-width (told (goal.at.slice_bounds-is_normal-start c).After-kind-ends) (shaped (goal.at.slice_bounds-is_normal-start c).Start) in search rules
-
-pub slice_bounds-is_normal-end : goal.slice_bounds-is_normal-end
-slice_bounds-is_normal-end c = let h = within (goal.at.slice_bounds-is_normal-end c).After-width (told (goal.at.slice_bounds-is_normal-end c).After-kind-ends) (shaped (goal.at.slice_bounds-is_normal-end c).Start) in search rules
+pub bounds-words-0 : goal.bounds-words-0
+bounds-words-0 c = omega (arith, fits (goal.at.bounds-words-0 c).Start)

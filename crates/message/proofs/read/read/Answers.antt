@@ -1,37 +1,36 @@
 -- `message::read::read` meets its contract: each return is a case of the definition's tests.
-use Rattle.std.proofs.Common.{sym, ◌∙◌, le-ltb, eq-eqb, ne_eqb}
+use Rattle.std.proofs.Common.{◌≡◌, arith, ne_eqb}
+use Rattle.std.proofs.lemmas.Result.{err_from_is_err_and}
+use Rattle.refusals.specs.Refusals.{number_of}
 use Rattle.message.specs.Read.{read_from, read_plain}
-use Rattle.message.proofs.Cases.{cases}
+use Rattle.message.specs.code.Told.{reading_of}
+use Rattle.message.proofs.ReadLaws.{number_above, parts_read}
 use Rattle.message.proofs.read.read.Goals as goal
+use Rattle.message.proofs.read.read.Goals.{After-contents}
 
-pub returns-then-n-lt-WORDS_LEAST : goal.returns-then-n-lt-WORDS_LEAST
+pub returns-then-n-clause-value : goal.returns-then-n-clause-value
 unfolding read_plain
-returns-then-n-lt-WORDS_LEAST c = search cases
+returns-then-n-clause-value c = rw c.if-n.true
 
-pub returns-then-n-gt-WORDS_MOST : goal.returns-then-n-gt-WORDS_MOST
-unfolding read_plain
-returns-then-n-gt-WORDS_MOST c = search cases
-
-pub returns-then-number-ne0 : goal.returns-then-number-ne0
+pub returns-in_err-shape-clause-value : goal.returns-in_err-shape-clause-value
 unfolding read_plain read_from
-returns-then-number-ne0 c =
+returns-in_err-shape-clause-value c =
+    let p = err_from_is_err_and c.from_residual.result c.from_residual.ensures.1 in
     rw (
-      le-ltb _ _ c.if-n-lt-WORDS_LEAST.false,
-      le-ltb _ _ c.if-n-gt-WORDS_MOST.false,
-      ← c.shape-number.ensures,
-      ne_eqb c.shape-number.result 0 c.if-number-ne0.true,
+      p.1,
+      p.2,
+      c.if-n.false,
+      ← c.in_err-shape.ensures,
+      ne_eqb (number_of c.in_err-shape.field-0.0) 0 (λ e. omega (arith, number_above c.in_err-shape.field-0.0)),
     )
 
-pub contents-requires : goal.contents-requires
-contents-requires c = sym c.shape-number.ensures ∙ c.if-number-ne0.false
-
-pub returns : goal.returns
+-- document 01's reading of the words
+value : (c : After-contents) → reading_of c.contents.result ≡ read_plain c.args.words.now
 unfolding read_plain read_from
-returns c =
-    rw (
-      le-ltb _ _ c.if-n-lt-WORDS_LEAST.false,
-      le-ltb _ _ c.if-n-gt-WORDS_MOST.false,
-      ← c.shape-number.ensures,
-      eq-eqb c.shape-number.result 0 c.if-number-ne0.false,
-    )
-    c.contents.ensures
+value c = rw (c.if-n.false, ← c.in_ok-shape.ensures) c.contents.ensures.value
+
+pub returns-clause-value : goal.returns-clause-value
+returns-clause-value c = value (goal.at.returns-clause-value c).After-contents
+
+pub returns-clause-parts : goal.returns-clause-parts
+returns-clause-parts c = parts_read _ _ (value (goal.at.returns-clause-parts c).After-contents) c.contents.ensures.parts

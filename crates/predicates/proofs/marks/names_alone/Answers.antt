@@ -1,17 +1,16 @@
 -- `predicates::marks::names_alone` meets its contract: the names that each term adds alone.
-use mathlib.Core.Path.{refl, ◌∙◌}
+use mathlib.Core.Path.{◌≡◌, ◌∙◌}
+use mathlib.Core.List.{◌∷◌, []}
+use borrow.Author.Rules.{rules}
+use Rattle.std.specs.List.{fold}
 use Rattle.names.specs.Sets.{set_union}
-use Rattle.predicates.proofs.MarkLaws.{singles-turn, singles-done}
+use Rattle.names.proofs.SetLaws.{union_comm, union-none}
+use Rattle.predicates.specs.code.Marks.{singles}
+use Rattle.predicates.proofs.MarkLaws.{fold-singles}
 use Rattle.predicates.proofs.marks.names_alone.Goals as goal
 
-pub loop-i-init : goal.loop-i-init
-unfolding set_union
-loop-i-init c = refl
-
-pub loop-i-preserved : goal.loop-i-preserved
-loop-i-preserved c =
-    let head = c.loop-i in
-    rw c.union-names.ensures (singles-turn _ head.i head.names _ c.loop-i-test.true c.alone.ensures ∙ head.invariant)
-
 pub returns : goal.returns
-returns c = singles-done _ c.loop-i.i _ c.loop-i-test.false c.loop-i.invariant
+returns c =
+    let p = c.args.p.now in
+    let e : c.fold.result ≡ fold (λ a t. set_union a (singles (t ∷ []))) 0 p = search rules in
+    e ∙ fold-singles 0 p ∙ union_comm 0 (singles p) ∙ union-none (singles p)

@@ -5,4 +5,4 @@ use Rattle.receipts.proofs.hearing.store_epochs.Goals as goal
 
 pub returns : goal.returns
 returns c =
-    epochs-stored c.args.state.now c.requires.1 c.requires.0 c.args.own c.args.names.now c.requires.2 c.args.risen _ _ c.forget.ensures c.raise.ensures
+    epochs-stored c.args.state.now c.requires.0.1 c.requires.0.0 c.args.own c.args.names.now c.requires.1 c.args.risen _ _ c.forget.ensures c.raise.ensures

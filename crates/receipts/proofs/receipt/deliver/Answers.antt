@@ -10,7 +10,9 @@ use lib.ListN.{length, take}
 use Rattle.numbers.specs.Numbers.{put}
 use Rattle.numbers.proofs.NumberLaws.{length-put}
 use Rattle.names.specs.Sets.{set_union}
-use Rattle.message.specs.Words.{masks}
+use Rattle.std.specs.Result.{is_err}
+use Rattle.std.proofs.lemmas.Result.{err_from_is_err_and}
+use Rattle.refusals.specs.Refusals.{number}
 use Rattle.epochs.specs.Epochs.{older, spoken}
 use Rattle.clocks.specs.Clocks.{violated_by}
 use Rattle.ends.specs.Ends.{count_of}
@@ -21,51 +23,52 @@ use Rattle.state.specs.Refusal.{after}
 use Rattle.state.specs.code.Tables.{datum_of}
 use Rattle.state.proofs.LentLaws.{after-refused}
 use Rattle.state.proofs.StateLaws.{state_out, form_ok, put-form}
-use Rattle.engine.specs.Receiving.{Delivery, delivery, grown}
+use Rattle.engine.specs.Receiving.{Delivery, grown}
 use Rattle.engine.specs.Hearing.{risen, late, arrived}
 use Rattle.engine.specs.Calls.{receive, clock_of, violated, made}
 use Rattle.engine.specs.Refusals.{receipt_refusal}
 use Rattle.engine.proofs.CallLaws.{Heard, arrived-some, arrived-normal, arrived-single, unsaved_ok, receive_ok}
-use Rattle.receipts.proofs.ReceiptCalls.{masks-small, receipt-own, receipt_end, receipt-terms, receipt-counts, heed-fits, risen_there, late_there}
+use Rattle.receipts.specs.code.Given.{delivered_by}
+use Rattle.receipts.proofs.ReceiptCalls.{refused-number, masks-small, receipt-own, receipt_end, receipt-terms, receipt-counts, heed-fits, risen_there, late_there}
 use Rattle.receipts.proofs.ReceiptCalls.{terms_there, datum-arrived, tested_there, heeded_there, sender_clock, counts_there, receipt-head, risen-kept, receipt-closed}
 use Rattle.receipts.proofs.RisenLaws.{after_stays, receipt-written}
 use Rattle.receipts.proofs.receipt.deliver.Goals as goal
-use Rattle.receipts.proofs.receipt.deliver.Goals.{After-form_row-n, After-grow-new, After-take-number, Else-not-storable, Else-sender-own, Start}
+use Rattle.receipts.proofs.receipt.deliver.Goals.{After-form_row-n, After-grow-new, After-take, Else-not-storable, Else-sender-own, Start}
 
 -- what is received, at the start and at later points
 abbrev given : Start → Delivery
-given c = delivery c.args.least c.args.greatest c.args.readings c.args.sender c.args.names.now c.args.left c.args.right (masks c.args.words.now)
+given c = delivered_by c.args.delays c.args.readings c.args.message.now
 
 abbrev given_grown : After-grow-new → Delivery
-given_grown c = delivery c.args.least c.args.greatest c.args.readings c.args.sender c.args.names.now c.args.left c.args.right (masks c.args.words.now)
+given_grown c = delivered_by c.args.delays c.args.readings c.args.message.now
 
 abbrev given_below : Else-not-storable → Delivery
-given_below c = delivery c.args.least c.args.greatest c.args.readings c.args.sender c.args.names.now c.args.left c.args.right (masks c.args.words.now)
+given_below c = delivered_by c.args.delays c.args.readings c.args.message.now
 
 abbrev given_formed : After-form_row-n → Delivery
-given_formed c = delivery c.args.least c.args.greatest c.args.readings c.args.sender c.args.names.now c.args.left c.args.right (masks c.args.words.now)
+given_formed c = delivered_by c.args.delays c.args.readings c.args.message.now
 
-abbrev given_taken : After-take-number → Delivery
-given_taken c = delivery c.args.least c.args.greatest c.args.readings c.args.sender c.args.names.now c.args.left c.args.right (masks c.args.words.now)
+abbrev given_taken : After-take → Delivery
+given_taken c = delivered_by c.args.delays c.args.readings c.args.message.now
 
 heard : (c : Start) → Heard (given c)
 heard c =
     record {
       delays = c.requires.least_le_greatest.0;
-      sender_le = c.requires.least_le_greatest.2;
+      sender_le = c.requires.least_le_greatest.2.0;
       ends = c.requires.left_le_right.0;
-      small = masks-small c.args.words.now;
+      small = masks-small c.args.message.now.terms.now;
       names = c.requires.left_le_right.3;
-      readings = c.requires.least_le_greatest.3;
+      readings = c.requires.least_le_greatest.2.1;
     }
 
 -- the own name that is read
-own_there : (c : Else-sender-own) → c.get32-own.result ≡ (head_of c.args.state.now).own
+own_there : (c : Else-sender-own) → c.own-own.result ≡ (head_of c.args.state.now).own
 unfolding head_of
-own_there c = c.get32-own.ensures.0
+own_there c = c.own-own.ensures.value
 
 -- the sender is another
-other : (c : Else-sender-own) → c.args.sender ≡ (state_of c.args.state.now).head.own → ⊥
+other : (c : Else-sender-own) → c.args.message.now.sender ≡ (state_of c.args.state.now).head.own → ⊥
 unfolding state_of
 other c e = c.if-sender-own.false (e ∙ sym (own_there c))
 
@@ -80,52 +83,38 @@ below_limit : (c : Else-not-storable) → count_of c.grow-new.result.right ≡ (
 below_limit c same = omega (arith, same, ltb-true (count_of c.grow-new.result.right) end_limit (sym c.storable.ensures ∙ c.if-not-storable.false))
 
 -- the predicate that is formed, and its length
-late-heard : (c : After-form_row-n) → c.get32-own.result ≡ (head_of c.args.state.now).own → c.hear-heard.result.late ≡ late (head_of c.args.state.now) (given_formed c)
+late-heard : (c : After-form_row-n) → c.own-own.result ≡ (head_of c.args.state.now).own → c.hear-heard.result.late ≡ late (head_of c.args.state.now) (given_formed c)
 unfolding head_of
 late-heard c own = late_there c.args.state.now (given_formed c) _ own _ c.hear-heard.ensures.late_value
 
 risen_read : (c : After-form_row-n) → c.hear-heard.result.risen
-    ≡ older (head_of c.args.state.now).epochs (spoken c.get32-own.result c.args.names.now (head_of c.args.state.now).epochs)
+    ≡ older (head_of c.args.state.now).epochs (spoken c.own-own.result c.args.message.now.names.now (head_of c.args.state.now).epochs)
 unfolding head_of
 risen_read c = c.hear-heard.ensures.risen_value
 
-formed_there : (c : After-form_row-n) → c.get32-own.result ≡ (head_of c.args.state.now).own
+formed_there : (c : After-form_row-n) → c.own-own.result ≡ (head_of c.args.state.now).own
     → take c.form_row-n.result c.form_row-n.new.row ≡ (arrived (head_of c.args.state.now) (given_formed c)).terms
 formed_there c own = c.form_row-n.ensures.row_after ∙ terms_there c.args.state.now (given_formed c) _ own _ (late-heard c own)
 
-long_there : (c : After-form_row-n) → c.get32-own.result ≡ (head_of c.args.state.now).own
+long_there : (c : After-form_row-n) → c.own-own.result ≡ (head_of c.args.state.now).own
     → c.form_row-n.result ≡ length (arrived (head_of c.args.state.now) (given_formed c)).terms
 long_there c own = c.form_row-n.ensures.value.0 ∙ ap length (terms_there c.args.state.now (given_formed c) _ own _ (late-heard c own))
 
-long : (c : After-form_row-n) → c.get32-own.result ≡ (head_of c.args.state.now).own
+long : (c : After-form_row-n) → c.own-own.result ≡ (head_of c.args.state.now).own
     → c.form_row-n.result ≡ length (arrived (state_of c.args.state.now).head (given_formed c)).terms
 unfolding state_of
 long c own = long_there c own
-
-pub grow-new-requires : goal.grow-new-requires
-grow-new-requires c =
-    let r = c.requires in
-    record {
-      state_size_in_bounds = r.state_size_in_bounds;
-      least_le_greatest = (r.least_le_greatest.0, r.least_le_greatest.1, r.left_le_right.0, r.left_le_right.1);
-    }
-
-pub storable-requires : goal.storable-requires
-storable-requires c = c.grow-new.ensures.both_split.1
-
-pub hear-heard-requires : goal.hear-heard-requires
-hear-heard-requires c = (omega (arith, c.requires.state_size_in_bounds.0), c.requires.left_le_right.3)
 
 pub form_row-n-requires : goal.form_row-n-requires
 unfolding state_of
 form_row-n-requires c =
     let s = c.args.state.now in
     let own = (state_out (state_of s) (form_ok s c.requires.state_size_in_bounds.1)).own_le in
-    (omega (arith, c.requires.left_le_right.2), omega (arith, own, own_there (goal.at.form_row-n-requires c).Else-sender-own), omega (arith, c.requires.least_le_greatest.2))
+    (omega (arith, c.requires.left_le_right.2), omega (arith, own, own_there (goal.at.form_row-n-requires c).Else-sender-own), omega (arith, c.requires.least_le_greatest.2.0))
 
 pub returns-then-sender-own : goal.returns-then-sender-own
 unfolding state_of head_of after
-returns-then-sender-own c = record { result_value = sym (receipt-own c.args.state.now _ (c.if-sender-own.true ∙ c.get32-own.ensures.0)); state_after = refl }
+returns-then-sender-own c = record { result_value = sym (receipt-own c.args.state.now _ (c.if-sender-own.true ∙ c.own-own.ensures.value)); state_after = refl }
 
 pub returns-then-not-storable : goal.returns-then-not-storable
 unfolding after
@@ -145,64 +134,50 @@ returns-then-n-gt-DATUM_TERMS c =
     let n = long (goal.at.returns-then-n-gt-DATUM_TERMS c).After-form_row-n (own_there at_other) in
     record { result_value = sym (receipt-terms c.args.state.now (given a) (other at_other) (heard a) below (omega (arith, n, c.if-n-gt-DATUM_TERMS.true))); state_after = refl }
 
-pub heed-tested-requires : goal.heed-tested-requires
-heed-tested-requires c = omega (arith, c.requires.least_le_greatest.2)
-
-pub heed-heeded-requires : goal.heed-heeded-requires
-heed-heeded-requires c = omega (arith, c.requires.least_le_greatest.2)
-
-pub slice_bounds-take-end : goal.slice_bounds-take-end
-slice_bounds-take-end c =
-    let f = (goal.at.slice_bounds-take-end c).After-form_row-n in
-    let own = own_there (goal.at.slice_bounds-take-end c).Else-sender-own in
-    long_there f own ∙ ap length (sym (formed_there f own))
-
-pub take-number-requires : goal.take-number-requires
-take-number-requires c =
-    let f = (goal.at.take-number-requires c).After-form_row-n in
-    let own = own_there (goal.at.take-number-requires c).Else-sender-own in
+pub take-requires : goal.take-requires
+take-requires c =
+    let f = (goal.at.take-requires c).After-form_row-n in
+    let own = own_there (goal.at.take-requires c).Else-sender-own in
     let h = head_of c.args.state.now in
     let g = given_formed f in
     let r = c.requires in
     let long = long_there f own in
     record {
       state_size_in_bounds = (
-        r.state_size_in_bounds.0,
-        r.state_size_in_bounds.1,
-        r.least_le_greatest.2,
-        heed-fits c.args.sender _ c.args.readings _ c.heed-tested.ensures r.least_le_greatest.3,
+        r.state_size_in_bounds,
+        (r.least_le_greatest.2.0, heed-fits c.args.message.now.sender _ c.args.readings _ c.heed-tested.ensures r.least_le_greatest.2.1),
       );
       p_nonzero = rw (formed_there f own)
-          (arrived-some h g, omega (arith, long, c.if-n-gt-DATUM_TERMS.false), arrived-normal h g, arrived-single h g, c.grow-new.ensures.both_split);
+          ((arrived-some h g, omega (arith, long, c.if-n-gt-DATUM_TERMS.false), arrived-normal h g), arrived-single h g, c.grow-new.ensures.both_split);
     }
 
 -- what is known of a datum that was given to `take`
-record Taken (c : After-take-number) : Type 0 where
+record Taken (c : After-take) : Type 0 where
   pub from : Heard (given_taken c)
-  pub own : c.get32-own.result ≡ (head_of c.args.state.now).own
+  pub own : c.own-own.result ≡ (head_of c.args.state.now).own
   pub risen_value : c.hear-heard.result.risen ≡ risen (head_of c.args.state.now) (given_taken c)
   pub late_value : c.hear-heard.result.late ≡ late (head_of c.args.state.now) (given_taken c)
   pub new_value : datum_of c.grow-new.result (take c.form_row-n.result c.form_row-n.new.row) ≡ arrived (head_of c.args.state.now) (given_taken c)
-  pub other : c.args.sender ≡ (state_of c.args.state.now).head.own → ⊥
+  pub other : c.args.message.now.sender ≡ (state_of c.args.state.now).head.own → ⊥
   pub below : (grown (state_of c.args.state.now).head (given_taken c)).right < end_limit
   pub few : length (arrived (state_of c.args.state.now).head (given_taken c)).terms ≤ 8
 
 -- the identifiers that have risen
-risen-heard : (c : After-take-number) → c.get32-own.result ≡ (head_of c.args.state.now).own
+risen-heard : (c : After-take) → c.own-own.result ≡ (head_of c.args.state.now).own
     → c.hear-heard.result.risen ≡ risen (head_of c.args.state.now) (given_taken c)
 unfolding head_of
 risen-heard c own = risen_there c.args.state.now (given_taken c) _ own _ c.hear-heard.ensures.risen_value
 
 -- the datum that is taken is the one that arrives
-new-arrived : (c : After-take-number) → take c.form_row-n.result c.form_row-n.new.row ≡ (arrived (head_of c.args.state.now) (given_taken c)).terms
+new-arrived : (c : After-take) → take c.form_row-n.result c.form_row-n.new.row ≡ (arrived (head_of c.args.state.now) (given_taken c)).terms
     → datum_of c.grow-new.result (take c.form_row-n.result c.form_row-n.new.row) ≡ arrived (head_of c.args.state.now) (given_taken c)
 new-arrived c terms = datum-arrived c.args.state.now (given_taken c) _ _ _ c.grow-new.ensures.left_value c.grow-new.ensures.right_value terms
 
 -- from the facts of the points before
-told : (c : After-take-number) (a : Heard (given_taken c)) (own : c.get32-own.result ≡ (head_of c.args.state.now).own)
+told : (c : After-take) (a : Heard (given_taken c)) (own : c.own-own.result ≡ (head_of c.args.state.now).own)
     → c.hear-heard.result.late ≡ late (head_of c.args.state.now) (given_taken c)
     → take c.form_row-n.result c.form_row-n.new.row ≡ (arrived (head_of c.args.state.now) (given_taken c)).terms
-    → (c.args.sender ≡ (state_of c.args.state.now).head.own → ⊥)
+    → (c.args.message.now.sender ≡ (state_of c.args.state.now).head.own → ⊥)
     → (grown (state_of c.args.state.now).head (given_taken c)).right < end_limit
     → c.form_row-n.result ≡ length (arrived (state_of c.args.state.now).head (given_taken c)).terms
     → Taken c
@@ -219,95 +194,95 @@ told c a own late terms other below long =
     }
 
 -- the readings are tested as the definition says
-violation_there : (c : After-take-number) → Taken c
-    → violated_by (head_of c.args.state.now).drift (clock_of (head_of c.args.state.now) c.args.sender) c.heed-tested.result
+violation_there : (c : After-take) → Taken c
+    → violated_by (head_of c.args.state.now).drift (clock_of (head_of c.args.state.now) c.args.message.now.sender) c.heed-tested.result
     ≡ violated (head_of c.args.state.now) (given_taken c)
 unfolding set_union
 violation_there c t =
     let s = c.args.state.now in
-    tested_there (head_of s) (given_taken c) _ _ _ (sender_clock s c.args.sender c.requires.state_size_in_bounds.1 c.requires.least_le_greatest.2) t.late_value
+    tested_there (head_of s) (given_taken c) _ _ _ (sender_clock s c.args.message.now.sender c.requires.state_size_in_bounds.1 c.requires.least_le_greatest.2.0) t.late_value
     t.risen_value c.heed-tested.ensures
 
 -- the number that `take` gives is the receipt's
-number : (c : After-take-number) → Taken c → c.take-number.result ≡ receipt_refusal (state_of c.args.state.now) (given_taken c)
-number c t =
+numbered : (c : After-take) → Taken c → number c.take.result ≡ receipt_refusal (state_of c.args.state.now) (given_taken c)
+numbered c t =
     let s = c.args.state.now in
-    counts_there s (given_taken c) _ _ _ _ t.new_value (violation_there c t) t.risen_value c.take-number.ensures.result_value
+    counts_there s (given_taken c) _ _ _ _ t.new_value (violation_there c t) t.risen_value c.take.ensures.result_value
     ∙ sym (receipt-counts s (given_taken c) t.other t.from t.below t.few)
 
 -- what is held and known of a taken one is right
-right : (c : After-take-number) → Taken c → c.take-number.result ≡ 0
+right : (c : After-take) → Taken c → number c.take.result ≡ 0
     → T (state_ok (record { head = head_of c.args.state.now; store = made (head_of c.args.state.now) (store_of c.args.state.now) (receive (given_taken c)) }))
 unfolding state_of
 right c t zero =
     let s = c.args.state.now in
-    unsaved_ok (state_of s) (given_taken c) (form_ok s c.requires.state_size_in_bounds.1) t.from (sym (number c t) ∙ zero)
+    unsaved_ok (state_of s) (given_taken c) (form_ok s c.requires.state_size_in_bounds.1) t.from (sym (numbered c t) ∙ zero)
 
 -- the bytes of a taken one, before its epochs and readings are stored
-written : (c : After-take-number) → Taken c → c.take-number.result ≡ 0
-    → c.take-number.new.state
+written : (c : After-take) → Taken c → number c.take.result ≡ 0
+    → c.take.new.state
     ≡ put 0 (state_bytes (record { head = head_of c.args.state.now; store = made (head_of c.args.state.now) (store_of c.args.state.now) (receive (given_taken c)) }))
     c.args.state.now
 written c t zero =
     let r = c.requires.state_size_in_bounds in
-    receipt-written c.args.state.now r.1 r.0 (given_taken c) _ _ _ _ _ (right c t zero) t.new_value (violation_there c t) t.risen_value zero c.take-number.ensures.state_after
+    receipt-written c.args.state.now r.1 r.0 (given_taken c) _ _ _ _ _ (right c t zero) t.new_value (violation_there c t) t.risen_value zero c.take.ensures.state_after
 
 pub close-requires : goal.close-requires
 close-requires c =
-    let k = (goal.at.close-requires c).After-take-number in
+    let k = (goal.at.close-requires c).After-take in
     let o = (goal.at.close-requires c).Else-sender-own in
     let f = (goal.at.close-requires c).After-form_row-n in
     let own = own_there o in
     let below = below_limit (goal.at.close-requires c).Else-not-storable (right-grown (goal.at.close-requires c).After-grow-new) in
     let t = told k (heard (goal.at.close-requires c).Start) own (late-heard f own) (formed_there f own) (other o) below (long f own) in
     let s = c.args.state.now in
-    let zero = c.if-number-eq0.true in
+    let zero : number c.take.result ≡ 0 = ap number c.in_ok-take.was in
     let in_bounds = c.requires.state_size_in_bounds.0 in
     let kept = receipt-head s (given_taken k) _ in_bounds (right k t zero) (written k t zero) in
     record {
       state_size_in_bounds = (
-        rw (written k t zero) (rw (length-put) in_bounds),
-        rw (written k t zero) (put-form _ s (right k t zero) in_bounds),
+        (rw (written k t zero) (rw (length-put) in_bounds), rw (written k t zero) (put-form _ s (right k t zero) in_bounds)),
         c.requires.left_le_right.3,
       );
       sender_le_name_most = (
-        c.requires.least_le_greatest.2,
-        heed-fits c.args.sender _ c.args.readings _ c.heed-heeded.ensures c.requires.least_le_greatest.3,
-        risen-kept s _ _ c.args.names.now _ kept (risen_read f),
+        risen-kept s _ _ c.args.message.now.names.now _ kept (risen_read f),
+        (c.requires.least_le_greatest.2.0, heed-fits c.args.message.now.sender _ c.args.readings _ c.heed-heeded.ensures c.requires.least_le_greatest.2.1),
       );
     }
 
-pub returns-then-number-eq0 : goal.returns-then-number-eq0
+pub returns : goal.returns
 unfolding after
-returns-then-number-eq0 c =
-    let k = (goal.at.returns-then-number-eq0 c).After-take-number in
-    let o = (goal.at.returns-then-number-eq0 c).Else-sender-own in
-    let f = (goal.at.returns-then-number-eq0 c).After-form_row-n in
+returns c =
+    let k = (goal.at.returns c).After-take in
+    let o = (goal.at.returns c).Else-sender-own in
+    let f = (goal.at.returns c).After-form_row-n in
     let own = own_there o in
-    let below = below_limit (goal.at.returns-then-number-eq0 c).Else-not-storable (right-grown (goal.at.returns-then-number-eq0 c).After-grow-new) in
-    let t = told k (heard (goal.at.returns-then-number-eq0 c).Start) own (late-heard f own) (formed_there f own) (other o) below (long f own) in
+    let below = below_limit (goal.at.returns c).Else-not-storable (right-grown (goal.at.returns c).After-grow-new) in
+    let t = told k (heard (goal.at.returns c).Start) own (late-heard f own) (formed_there f own) (other o) below (long f own) in
     let s = c.args.state.now in
     let g = given_taken k in
-    let zero = c.if-number-eq0.true in
+    let zero : number c.take.result ≡ 0 = ap number c.in_ok-take.was in
     let r = c.requires.state_size_in_bounds in
-    let all_right = receive_ok (state_of s) g (form_ok s r.1) t.from (sym (number k t) ∙ zero) in
+    let all_right = receive_ok (state_of s) g (form_ok s r.1) t.from (sym (numbered k t) ∙ zero) in
     let readings = heeded_there (head_of s) g _ _ t.late_value c.heed-heeded.ensures in
     record {
-      result_value = number k t;
-      state_after = rw zero (receipt-closed s g _ _ _ _ _ r.0 (right k t zero) all_right own t.risen_value readings (written k t zero) c.close.ensures);
+      result_value = sym zero ∙ numbered k t;
+      state_after = (receipt-closed s g _ _ _ _ _ r.0 (right k t zero) all_right own t.risen_value readings (written k t zero) c.close.ensures);
     }
 
-pub returns-else-number-eq0 : goal.returns-else-number-eq0
-returns-else-number-eq0 c =
-    let k = (goal.at.returns-else-number-eq0 c).After-take-number in
-    let o = (goal.at.returns-else-number-eq0 c).Else-sender-own in
-    let f = (goal.at.returns-else-number-eq0 c).After-form_row-n in
+pub returns-in_err-take : goal.returns-in_err-take
+returns-in_err-take c =
+    let k = (goal.at.returns-in_err-take c).After-take in
+    let o = (goal.at.returns-in_err-take c).Else-sender-own in
+    let f = (goal.at.returns-in_err-take c).After-form_row-n in
     let own = own_there o in
-    let below = below_limit (goal.at.returns-else-number-eq0 c).Else-not-storable (right-grown (goal.at.returns-else-number-eq0 c).After-grow-new) in
-    let t = told k (heard (goal.at.returns-else-number-eq0 c).Start) own (late-heard f own) (formed_there f own) (other o) below (long f own) in
+    let below = below_limit (goal.at.returns-in_err-take c).Else-not-storable (right-grown (goal.at.returns-in_err-take c).After-grow-new) in
+    let t = told k (heard (goal.at.returns-in_err-take c).Start) own (late-heard f own) (formed_there f own) (other o) below (long f own) in
     let s = c.args.state.now in
-    let refused = c.if-number-eq0.false in
+    let refused = refused-number c.take.result (ap is_err c.in_err-take.was) in
+    let p = err_from_is_err_and c.from_residual.result c.from_residual.ensures.1 in
+    let same : number c.from_residual.result ≡ number c.take.result = rw (p.1, p.2) (sym (ap number c.in_err-take.was)) in
     record {
-      result_value = number k t;
-      state_after = c.take-number.ensures.state_after ∙ sym (after_stays s _ _ _ refused) ∙ after-refused _ _ s refused;
+      result_value = same ∙ numbered k t;
+      state_after = rw same (c.take.ensures.state_after ∙ sym (after_stays s _ _ _ refused) ∙ after-refused _ _ s refused);
     }

@@ -1,59 +1,135 @@
--- `receipts::receiving::take_in` meets its contract: in form, the columns hold what the state holds (`data_form`), the entries stand in its bytes, the four
+-- `receipts::receiving::take_in` meets its contract: in form, the rows hold what the state holds (`data_form`), the entries stand in its bytes, the four
 -- steps are taken (`settle`), and what they leave is counted (`many_live`) and then written.
 use Prim.Native.Nat.{ℕ, ◌≤◌}
 use mathlib.Core.Path.{◌≡◌, refl, sym, ap, subst, ◌∙◌}
 use mathlib.Core.Bool.{◌||◌}
-use mathlib.Core.List.{List}
+use mathlib.Core.List.{List, ◌++◌, map}
 use native.Mathlib.Omega.{arith}
 use lib.Dec.{ltb}
+use lib.ListN.{length, take, drop, replicate}
+use lib.Seq.{length-take-le}
+use Rattle.std.specs.Prelude.{All}
+use Rattle.numbers.specs.Numbers.{tab}
+use Rattle.numbers.proofs.NumberLaws.{length-tab}
 use Rattle.state.specs.Model.{Datum}
-use Rattle.state.specs.Layout.{store_of, entry_count}
+use Rattle.state.specs.Layout.{store_of, held_count, entry_count}
 use Rattle.state.specs.Refusal.{after}
-use Rattle.state.specs.code.Tables.{table_from, columns, datum_of, TableFits, store_in}
+use Rattle.state.specs.declared.holding.Held.{Held}
+use Rattle.state.specs.code.Tables.{table_from, datum_of, datum_row, datum_in, data_in, HeldFits, DataStand, TableFits, store_in}
 use Rattle.state.proofs.StateLaws.{held_count_le, entry_count_le}
-use Rattle.state.proofs.StoreLaws.{columns-fresh, table_awaiting, data_rows, datum_standing, data_form, data_columns}
+use Rattle.state.proofs.StoreLaws.{table_awaiting, rows-fit, data_rows, data_standing, data_form}
 use Rattle.settling.specs.code.Rows.{with_term}
 use Rattle.steps.specs.Steps.{settled, too_many}
 use Rattle.receipts.specs.code.Blame.{blamed_by}
-use Rattle.settling.proofs.OutcomeLaws.{held-live, entries-live, many_live, few-counts}
+use Rattle.settling.proofs.OutcomeLaws.{entries-live, many_live, few-counts}
+use Rattle.receipts.proofs.ReceivingLaws.{few_taken, length-read, rows_front, data_front, entries_stand_front, table_lent, entries_lent, store_lent}
 use Rattle.receipts.proofs.receiving.take_in.Goals as goal
-use Rattle.receipts.proofs.receiving.take_in.Goals.{After-count-live, After-settle-left, Start}
+use Rattle.receipts.proofs.receiving.take_in.Goals.{After-count-live, After-settle-left, After-get_data, Start}
 
 -- in form, at most 16 data and 32 entries
 few : (a : Start) → (a.args.old.held ≤ 16) × (a.args.old.known ≤ 32)
 few a =
     (omega (arith, a.requires.held_value.0, held_count_le a.args.state.now a.requires.state_size_in_bounds.1), omega (arith, a.requires.held_value.1, entry_count_le a.args.state.now a.requires.state_size_in_bounds.1))
 
+pub slice_bounds-held-end : goal.slice_bounds-held-end
+slice_bounds-held-end c = omega (arith, few (goal.at.slice_bounds-held-end c).Start)
+
+pub slice_bounds-get_data-end : goal.slice_bounds-get_data-end
+slice_bounds-get_data-end c = sym (length-take-le _ _ (omega (arith, few (goal.at.slice_bounds-get_data-end c).Start)))
+
 pub get_data-requires : goal.get_data-requires
 get_data-requires c =
     let some = few (goal.at.get_data-requires c).Start in
-    record { state_size_in_bounds = (omega arith, omega arith, omega arith, omega arith); n_in_bounds = (omega arith, omega arith) }
+    (c.requires.state_size_in_bounds.0, few_taken c.args.old.held 16 _ some.0)
 
-pub settle-left-requires : goal.settle-left-requires
-settle-left-requires c =
+-- the rows as they were made
+fresh : After-get_data → List Held
+fresh c = replicate 17 c.none-held.result
+
+-- those in use have been read
+front : (c : After-get_data) → c.args.old.held ≤ 16 → let h = c.args.old.held in take h (c.get_data.new.held ++ drop h (fresh c)) ≡ tab (held_count c.args.state.now) (datum_row c.args.state.now)
+unfolding fresh
+front c few =
+    rows_front c.args.state.now c.args.old.held (fresh c) c.get_data.new.held c.requires.held_value.0 (omega (arith, few)) c.get_data.ensures
+
+-- there are as many as were made
+long : (c : After-get_data) → c.args.old.held ≤ 16 → let h = c.args.old.held in length (c.get_data.new.held ++ drop h (fresh c)) ≡ 17
+unfolding fresh
+long c few = length-read c.args.state.now c.args.old.held (fresh c) c.get_data.new.held c.requires.held_value.0 (omega (arith, few)) c.get_data.ensures
+
+pub settle-left-requires-clause-fit : goal.settle-left-requires-clause-fit
+unfolding fresh
+settle-left-requires-clause-fit c =
+    let s = c.args.state.now in
+    let at = (goal.at.settle-left-requires-clause-fit c).After-get_data in
+    let some = few (goal.at.settle-left-requires-clause-fit c).Start in (
+      subst (λ (l : List Held). All HeldFits l) (sym (front at some.0)) (rows-fit s c.requires.state_size_in_bounds.1 (held_count s) (omega arith)),
+      omega (arith, some.0, long at some.0),
+      c.requires.p_nonzero.3,
+    )
+
+pub settle-left-requires-clause-table_fits : goal.settle-left-requires-clause-table_fits
+settle-left-requires-clause-table_fits c =
+    let some = few (goal.at.settle-left-requires-clause-table_fits c).Start in
+    table_awaiting c.args.old.known _ 48 c.args.state.now c.args.masks.now (omega (arith, some.0, some.1)) (omega (arith, c.requires.p_nonzero.2))
+
+pub settle-left-requires-clause-p_nonzero : goal.settle-left-requires-clause-p_nonzero
+settle-left-requires-clause-p_nonzero c =
+    let some = few (goal.at.settle-left-requires-clause-p_nonzero c).Start in
+    (c.requires.p_nonzero.0, c.requires.p_nonzero.1, omega (arith, some.0, some.1))
+
+pub settle-left-requires-clause-all_held : goal.settle-left-requires-clause-all_held
+unfolding fresh
+settle-left-requires-clause-all_held c =
     let s = c.args.state.now in
     let form = c.requires.state_size_in_bounds.1 in
-    let h = c.requires.held_value.0 in
-    let read = c.get_data.ensures in
-    let some = few (goal.at.settle-left-requires c).Start in
-    let rows = data_rows _ s form h _ _ _ _ _ _ _ _ read.lefts_after read.rights_after read.counts_after read.masks_after in
-    let held = data_form _ s form h _ _ _ _ _ _ _ _ read.lefts_after read.rights_after read.counts_after read.masks_after in record { columns_fit = data_columns _ s form h _ _ _ _ _ _ _ _ read.lefts_after read.rights_after read.counts_after read.masks_after _ (omega arith) (columns-fresh _ 34 34 17 136 (omega arith) (omega arith) (omega arith) (omega arith)); state_size_in_bounds = (c.requires.state_size_in_bounds.0, form, c.requires.held_value.1); table_fits = table_awaiting c.args.old.known _ 48 s c.args.masks.now (omega arith) (omega (arith, c.requires.p_nonzero.2)); p_nonzero = (c.requires.p_nonzero.0, c.requires.p_nonzero.1, omega arith, c.requires.p_nonzero.3); t = c.requires.t; c_value = rows ∙ sym held }
+    let read = front (goal.at.settle-left-requires-clause-all_held c).After-get_data (few (goal.at.settle-left-requires-clause-all_held c).Start).0 in
+    ap (λ (l : List Held). map datum_in l) read ∙ data_rows s form ∙ sym (ap data_in read ∙ data_form s form)
+
+pub slice_bounds-held-end-2 : goal.slice_bounds-held-end-2
+unfolding fresh
+slice_bounds-held-end-2 c =
+    let u = c.settle-left.ensures in
+    omega (arith, u.held_bound.0, u.held_bound.2 ∙ long (goal.at.slice_bounds-held-end-2 c).After-get_data (few (goal.at.slice_bounds-held-end-2 c).Start).0, few (goal.at.slice_bounds-held-end-2 c).Start)
+
+pub slice_bounds-held-end-3 : goal.slice_bounds-held-end-3
+unfolding fresh
+slice_bounds-held-end-3 c =
+    let u = c.settle-left.ensures in
+    omega (arith, u.held_bound.0, u.held_bound.2 ∙ long (goal.at.slice_bounds-held-end-3 c).After-get_data (few (goal.at.slice_bounds-held-end-3 c).Start).0, few (goal.at.slice_bounds-held-end-3 c).Start)
+
+pub slice_bounds-count-end : goal.slice_bounds-count-end
+unfolding fresh
+slice_bounds-count-end c =
+    let u = c.settle-left.ensures in
+    sym (length-take-le _ _ (omega (arith, u.held_bound.0, u.held_bound.2 ∙ long (goal.at.slice_bounds-count-end c).After-get_data (few (goal.at.slice_bounds-count-end c).Start).0, few (goal.at.slice_bounds-count-end c).Start)))
+
+pub slice_bounds-put_store-end : goal.slice_bounds-put_store-end
+unfolding fresh
+slice_bounds-put_store-end c =
+    let u = c.settle-left.ensures in
+    sym (length-take-le _ _ (omega (arith, u.held_bound.0, u.held_bound.2 ∙ long (goal.at.slice_bounds-put_store-end c).After-get_data (few (goal.at.slice_bounds-put_store-end c).Start).0, few (goal.at.slice_bounds-put_store-end c).Start)))
+
+-- the data that were read
+read : (c : After-get_data) → c.args.old.held ≤ 16
+    → data_in (take c.args.old.held (c.get_data.new.held ++ drop c.args.old.held (replicate 17 c.none-held.result))) ≡ (store_of c.args.state.now).held
+unfolding fresh
+read c few = ap data_in (front c few) ∙ data_form c.args.state.now c.requires.state_size_in_bounds.1
 
 -- what the steps leave is the store of the definition
-same : (c : After-settle-left) → let a = c.args in let u = c.settle-left in
-    store_in u.result.held (columns u.new.lefts u.new.rights u.new.held u.new.terms) u.result.known (table_from (entry_count a.state.now) a.state.now u.new.counts u.new.masks)
+same : (c : After-settle-left) → data_in (take c.args.old.held (c.get_data.new.held ++ drop c.args.old.held (replicate 17 c.none-held.result))) ≡ (store_of c.args.state.now).held
+    → let a = c.args in let u = c.settle-left in
+    store_in (take u.result.held u.new.held) u.result.known (table_from (entry_count a.state.now) a.state.now u.new.counts u.new.masks)
     ≡ settled (datum_of a.new a.p.now) (blamed_by a.blame (store_of a.state.now))
 unfolding blamed_by
-same c =
+same c held =
     let a = c.args in
     let s = a.state.now in
     let u = c.settle-left in
-    let read = c.get_data.ensures in
-    let held = data_form _ s c.requires.state_size_in_bounds.1 c.requires.held_value.0 _ _ _ _ _ _ _ _ read.lefts_after read.rights_after read.counts_after read.masks_after in
     subst
-    (λ (n : ℕ). store_in u.result.held (columns u.new.lefts u.new.rights u.new.held u.new.terms) u.result.known (table_from n s u.new.counts u.new.masks) ≡ settled (datum_of a.new a.p.now) (blamed_by a.blame (store_of s)))
+    (λ (n : ℕ). store_in (take u.result.held u.new.held) u.result.known (table_from n s u.new.counts u.new.masks) ≡ settled (datum_of a.new a.p.now) (blamed_by a.blame (store_of s)))
     c.requires.held_value.1
-    (u.ensures.masks_after ∙ ap (λ (x : List Datum). settled (datum_of a.new a.p.now) (record { held = x; entries = with_term a.blame (store_of s).entries })) held)
+    (u.ensures.store_after ∙ ap (λ (x : List Datum). settled (datum_of a.new a.p.now) (record { held = x; entries = with_term a.blame (store_of s).entries })) held)
 
 -- the table, told by the state's own count
 fits : (c : After-settle-left) → let a = c.args in let u = c.settle-left in TableFits 16 u.result.known (table_from (entry_count a.state.now) a.state.now u.new.counts u.new.masks)
@@ -61,34 +137,58 @@ fits c =
     let u = c.settle-left in
     subst (λ (n : ℕ). TableFits 16 u.result.known (table_from n c.args.state.now u.new.counts u.new.masks)) c.requires.held_value.1 u.ensures.table_fits_2.0
 
-pub count-live-requires : goal.count-live-requires
-count-live-requires c = let left = c.settle-left.ensures in (left.fact.0.table.counted, left.table_fits_2.0.counted)
-
 -- the test for 32
 many : (c : After-count-live) → let a = c.args in let u = c.settle-left in
-    store_in u.result.held (columns u.new.lefts u.new.rights u.new.held u.new.terms) u.result.known (table_from (entry_count a.state.now) a.state.now u.new.counts u.new.masks)
+    store_in (take u.result.held u.new.held) u.result.known (table_from (entry_count a.state.now) a.state.now u.new.counts u.new.masks)
     ≡ settled (datum_of a.new a.p.now) (blamed_by a.blame (store_of a.state.now)) →
     TableFits 16 u.result.known (table_from (entry_count a.state.now) a.state.now u.new.counts u.new.masks) →
     too_many (settled (datum_of a.new a.p.now) (blamed_by a.blame (store_of a.state.now))) ≡ (ltb 16 c.count-live.result.held || ltb 32 c.count-live.result.known)
 many c left fit =
-    ap too_many (sym left) ∙ many_live _ _ _ _ c.settle-left.ensures.fact.0 fit ∙ rw (← c.count-live.ensures.0, ← c.count-live.ensures.1)
+    ap too_many (sym left) ∙ many_live _ _ _ fit ∙ rw (← c.count-live.ensures.0, ← c.count-live.ensures.1)
 
-pub returns-then-live : goal.returns-then-live
+pub returns-then-live-clause-value : goal.returns-then-live-clause-value
+returns-then-live-clause-value c =
+    let at = goal.at.returns-then-live-clause-value c in
+    rw (many at.After-count-live (same at.After-settle-left (read at.After-get_data (few at.Start).0)) (fits at.After-settle-left) ∙ c.if-live.true)
+
+pub returns-then-live-clause-state_after : goal.returns-then-live-clause-state_after
 unfolding after
-returns-then-live c = record { value = rw (many (goal.at.returns-then-live c).After-count-live (same (goal.at.returns-then-live c).After-settle-left) (fits (goal.at.returns-then-live c).After-settle-left) ∙ c.if-live.true); state_after = refl }
+returns-then-live-clause-state_after c = refl
 
-pub put_store-requires : goal.put_store-requires
-put_store-requires c =
+pub put_store-requires-clause-table_fits : goal.put_store-requires-clause-table_fits
+put_store-requires-clause-table_fits c =
+    let u = c.settle-left in
+    table_lent u.result.known (entry_count c.args.state.now) c.args.state.now u.new.counts u.new.masks (fits (goal.at.put_store-requires-clause-table_fits c).After-settle-left)
+
+pub put_store-requires-clause-masks_len_bound : goal.put_store-requires-clause-masks_len_bound
+put_store-requires-clause-masks_len_bound c =
     let s = c.args.state.now in
-    let left = c.settle-left.ensures in
-    let read = c.get_data.ensures in
-    let counted = c.count-live.ensures in
-    let some = few (goal.at.put_store-requires c).Start in
+    let u = c.settle-left in
+    let fit = fits (goal.at.put_store-requires-clause-masks_len_bound c).After-settle-left in
     let enough = few-counts c.count-live.result.held c.count-live.result.known c.if-live.false in
-    let there = datum_standing _ s c.requires.state_size_in_bounds.1 c.requires.held_value.0 _ _ _ _ _ _ _ _ read.lefts_after read.rights_after read.counts_after read.masks_after in record { columns_fit = left.fact.0; table_fits = fits (goal.at.put_store-requires c).After-settle-left; terms_len_bound = omega (arith, held-live _ _ _ _ left.fact.0 (fits (goal.at.put_store-requires c).After-settle-left), counted.0, enough.0); masks_len_bound = omega (arith, entries-live _ _ _ _ left.fact.0 (fits (goal.at.put_store-requires c).After-settle-left), counted.1, enough.1); h_bound = (omega (arith, left.held_bound.0, some.0), omega (arith, left.held_bound.1, some.0, some.1), c.requires.state_size_in_bounds.0, c.requires.state_size_in_bounds.1); data_stand = (λ i h k. left.fact.1 i (omega (arith, c.requires.held_value.0)) k ∙ there i (omega (arith, c.requires.held_value.0)), left.table_fits_2.1) }
+    omega (arith, ap length (entries_lent u.result.known (entry_count s) s u.new.counts u.new.masks fit), entries-live (take u.result.held u.new.held) _ _ fit, c.count-live.ensures.1, enough.1)
 
-pub returns : goal.returns
+pub put_store-requires-clause-data_stand : goal.put_store-requires-clause-data_stand
+unfolding fresh
+put_store-requires-clause-data_stand c =
+    let s = c.args.state.now in
+    let form = c.requires.state_size_in_bounds.1 in
+    let u = c.settle-left in
+    let read = front (goal.at.put_store-requires-clause-data_stand c).After-get_data (few (goal.at.put_store-requires-clause-data_stand c).Start).0 in (
+      data_front s _ u.new.held u.result.held (ap length read ∙ length-tab (held_count s) (datum_row s)) u.ensures.fact.1
+          (subst (λ (l : List Held). DataStand s l) (sym read) (data_standing s form)),
+      entries_stand_front s u.new.counts u.result.known u.ensures.table_fits_2.0.counted u.ensures.table_fits_2.1,
+    )
+
+pub returns-clause-value : goal.returns-clause-value
+returns-clause-value c =
+    let at = goal.at.returns-clause-value c in
+    rw (many at.After-count-live (same at.After-settle-left (read at.After-get_data (few at.Start).0)) (fits at.After-settle-left) ∙ c.if-live.false)
+
+pub returns-clause-state_after : goal.returns-clause-state_after
 unfolding after
-returns c =
-    let e = many (goal.at.returns c).After-count-live (same (goal.at.returns c).After-settle-left) (fits (goal.at.returns c).After-settle-left) ∙ c.if-live.false in
-    record { value = rw e; state_after = rw (same (goal.at.returns c).After-settle-left) at c.put_store.ensures }
+returns-clause-state_after c =
+    let s = c.args.state.now in
+    let u = c.settle-left in
+    let at = goal.at.returns-clause-state_after c in
+    rw (store_lent u.result.known (entry_count s) s u.new.counts u.new.masks (fits at.After-settle-left) (take u.result.held u.new.held) ∙ same at.After-settle-left (read at.After-get_data (few at.Start).0)) at c.put_store.ensures

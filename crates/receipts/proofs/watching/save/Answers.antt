@@ -11,15 +11,15 @@ use Rattle.receipts.proofs.watching.save.Goals as goal
 pub returns-in_default : goal.returns-in_default
 unfolding Bytes
 returns-in_default c =
-    without-saved c.args.state.now c.args.sender _ c.requires.1 (search rules) c.requires.0 c.in_default.is
+    without-saved c.args.state.now c.args.sender _ c.requires.0.1 (search rules) c.requires.0.0 c.in_default.is
 
 pub save-requires : goal.save-requires
 save-requires c =
-    let near : c.args.sender < clocks_most = omega (arith, c.requires.2) in
-    (omega (arith, c.requires.0, near), form-place c.args.state.now c.requires.1 c.args.sender near, (with_fits _ _ _ c.in-With.is c.requires.3).0)
+    let near : c.args.sender < clocks_most = omega (arith, c.requires.1.0) in
+    (omega (arith, c.requires.0.0, near), form-place c.args.state.now c.requires.0.1 c.args.sender near, (with_fits _ _ c.in-Some.is c.requires.1.1).0)
 
 pub returns : goal.returns
 unfolding Bytes
 returns c =
-    with_saved c.args.state.now _ c.args.sender _ _ _ c.requires.1 (search rules) c.requires.0 (omega (arith, c.requires.2))
-    c.in-With.is c.save.ensures
+    with_saved c.args.state.now _ c.args.sender _ _ c.requires.0.1 (search rules) c.requires.0.0 (omega (arith, c.requires.1.0))
+    c.in-Some.is c.save.ensures

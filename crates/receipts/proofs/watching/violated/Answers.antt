@@ -14,11 +14,11 @@ returns-in_default c = sym (violated-none _ _ _ c.in_default.is)
 pub violated-requires : goal.violated-requires
 violated-requires c =
     let s = c.args.state.now in
-    let fit = with_fits _ _ _ c.in-With.is c.requires.3 in
-    let near : c.args.sender < clocks_most = omega (arith, c.requires.2) in
-    (omega (arith, c.requires.0, near), form-place s c.requires.1 c.args.sender near, omega (arith, c.get32-own.ensures.0, drift-held s c.requires.1), fit.1, fit.0)
+    let fit = with_fits _ _ c.in-Some.is c.requires.1.1 in
+    let near : c.args.sender < clocks_most = omega (arith, c.requires.1.0) in
+    (omega (arith, c.requires.0.0, near), form-place s c.requires.0.1 c.args.sender near, omega (arith, c.drift-own.ensures.value, drift-held s c.requires.0.1), fit.1, fit.0)
 
 pub returns : goal.returns
 returns c =
-    let near : c.args.sender < clocks_most = omega (arith, c.requires.2) in
-    c.violated.ensures ∙ with_violated c.args.state.now c.args.sender _ _ _ _ near c.in-With.is c.get32-own.ensures.0
+    let near : c.args.sender < clocks_most = omega (arith, c.requires.1.0) in
+    c.violated.ensures ∙ with_violated c.args.state.now c.args.sender _ _ _ near c.in-Some.is c.drift-own.ensures.value

@@ -1,22 +1,25 @@
--- `search::stretches::last_end` meets its contract: the greatest so far is kept.
-use mathlib.Core.Path.{◌≡◌}
-use native.Mathlib.Nat.{le_refl}
+-- `last_end` meets its contract: the greatest so far is kept.
+use mathlib.Core.Path.{◌≡◌, sym}
 use native.Mathlib.Omega.{arith}
-use Rattle.search.proofs.EndSteps.{last_none, last-take, last_pass}
-use borrow.Author.Rules.{rules}
+use Rattle.search.proofs.EndSteps.{left_at, last_none, last-took, last-passed}
 use Rattle.search.proofs.stretches.last_end.Goals as goal
-use Rattle.search.proofs.stretches.last_end.Goals.{else-last-end, then-last-end}
+use Rattle.search.proofs.stretches.last_end.Goals.{then-last-end, else-last-end}
 
 pub loop-i-init : goal.loop-i-init
-loop-i-init c = (le_refl _, search rules, last_none _ _ _ _)
+loop-i-init c = (c.requires.0, last_none _ _ _ _)
 
 pub loop-i-preserved : goal.loop-i-preserved
 loop-i-preserved c =
     let head = c.loop-i in
-    elim c.if-last-end.branch [ then-last-end w ↦ (omega arith, omega arith, rw w.last-is (last-take _ _ head.i _ _ _ head.invariant.0 head.invariant.2 w.if-last-end.true)) | else-last-end w ↦ (omega arith, omega arith, rw w.last-is (last_pass _ _ head.i _ _ _ head.invariant.0 head.invariant.2 w.if-last-end.false)) ]
+    let at = sym (left_at c.args.ends.now head.i) in (
+      omega arith,
+      elim c.if-last-end.branch [
+        | then-last-end w ↦ rw w.last-is (last-took _ _ head.i _ _ _ head.auto.i head.invariant.1 _ at w.if-last-end.true)
+        | else-last-end w ↦ rw w.last-is (last-passed _ _ head.i _ _ _ head.auto.i head.invariant.1 _ at w.if-last-end.false)
+      ],
+    )
 
 pub returns : goal.returns
 returns c =
-    let head = c.loop-i in
-    let done : head.i ≡ c.args.to = omega (arith, head.invariant.1, c.loop-i-test.false) in
-    rw done at head.invariant.2
+    let done : c.loop-i.i ≡ c.args.to = omega (arith, c.loop-i.invariant.0, c.loop-i-test.false) in
+    rw done at c.loop-i.invariant.1

@@ -1,10 +1,11 @@
--- Invariant: it is the least of the ends in places `from` to i. Measure: the places still to look at.
-use Prim.Native.Nat.{◌-◌, ◌≤◌}
+-- Invariant: it is the least of the ends in places `from` to i.
+use Prim.Native.Nat.{ℕ, ◌≤◌}
+use mathlib.Core.Path.{◌≡◌}
+use mathlib.Core.List.{map}
+use Rattle.search.specs.declared.rows.Span.{Span}
 use Rattle.search.specs.code.LeftEnds.{Next}
 use Rattle.search.proofs.stretches.next_end.Given as goal
 
 abbrev pub invariant-loop-i : goal.invariant-loop-i
-invariant-loop-i l = (l.from ≤ l.i) × (l.i ≤ l.to) × Next l.ends l.from l.i l.floor l.least
-
-abbrev pub decreases-loop-i : goal.decreases-loop-i
-decreases-loop-i l = l.to - l.i
+invariant-loop-i g l =
+    (l.i ≤ l.to) × ((f : Span → ℕ) → ((s : Span) (r : ℕ) → goal.F-post g l.side s r → r ≡ f s) → Next (map f l.ends) l.from l.i l.floor l.least)

@@ -20,14 +20,14 @@ returns-then-not-head_fits c = rw (sym c.head_fits.ensures ∙ c.if-not-head_fit
 pub data_fit-requires : goal.data_fit-requires
 data_fit-requires c =
     let ranges = head_out _ (fits (goal.at.data_fit-requires c).Else-not-head_fits) in
-    (omega (arith, c.get32-held.ensures.0), omega (arith, c.get32-own.ensures.0), search rules)
+    (omega (arith, c.held.ensures.value), omega (arith, c.own-own.ensures.value), search rules)
 
 pub entries_fit-requires : goal.entries_fit-requires
 entries_fit-requires c =
     let ranges = head_out _ (fits (goal.at.entries_fit-requires c).Else-not-head_fits) in
-    (omega (arith, c.get32-entries.ensures.0), omega (arith, c.get32-own.ensures.0), search rules)
+    (omega (arith, c.known.ensures.value), omega (arith, c.own-own.ensures.value), search rules)
 
 pub returns : goal.returns
 unfolding in_form data_fit entries_fit epochs_fit
 returns c =
-    rw (fits (goal.at.returns c).Else-not-head_fits, c.data_fit.ensures, c.entries_fit.ensures, c.clocks_fit.ensures, c.fits.ensures, c.get32-own.ensures.0, c.get32-held.ensures.0, c.get32-entries.ensures.0)
+    rw (fits (goal.at.returns c).Else-not-head_fits, c.data_fit.ensures, c.entries_fit.ensures, c.clocks_fit.ensures, c.fits.ensures, c.own-own.ensures.value, c.held.ensures.value, c.known.ensures.value)

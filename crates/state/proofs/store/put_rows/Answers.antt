@@ -22,24 +22,24 @@ table-alone s counts masks = refl
 pub put_held-requires : goal.put_held-requires
 put_held-requires c =
     let p = c.requires in
-    record { columns_fit = p.columns_fit.0; masks_len_bound = p.terms_len_bound; n_bound = (c.requires.h_bound.0, c.requires.h_bound.2); used_le_data_most = data_rest c.args.s.now c.requires.h_bound.3 _ c.get32-data.ensures.0; by_index = λ i h f. absurd (omega (arith, h)) }
+    let rest = data_rest c.args.s.now p.form.1 _ c.held-data.ensures.value in
+    record { fit = (p.fit.0, p.fit.1); few = p.few; used_le_data_most = (rest.0, rest.1, p.form.0); in_place = λ i d h. absurd (omega (arith, h)) }
 
 pub put_known-requires : goal.put_known-requires
 put_known-requires c =
     let p = c.requires in
     let s = c.args.s.now in
-    let rest = rest_stays s c.requires.h_bound.3 _ _ _ p.columns_fit.0.table p.terms_len_bound c.put_held.ensures _ c.get32-entries.ensures.0 in
-    record { table_fits = rw (table-alone) p.columns_fit.1; masks_len_bound = rw (table-alone) p.masks_len_bound; n_le_rows_most = (c.requires.h_bound.1, omega arith, search rules); by_index = λ i h f. absurd (omega (arith, h)); used_le_entries_most = rest }
+    let rest = rest_stays s p.form.1 _ _ p.fit.0 p.few c.put_held.ensures _ c.known-entries.ensures.value in
+    record { table_fits = rw (table-alone) p.table_fits; masks_len_bound = rw (table-alone) p.masks_len_bound; n_le_rows_most = (p.fit.2, omega arith, search rules); by_index = λ i h f. absurd (omega (arith, h)); used_le_entries_most = rest }
 
 pub returns : goal.returns
 unfolding Bytes parts state_bytes state_of store_in
 returns c =
     let p = c.requires in
-    let q = c.requires.h_bound in
     let s = c.args.s.now in
-    let begun = begins-form s c.requires.h_bound.3 (λ i. (c.slice_known-1.given i).fits) q.2 in
-    let rows = part_stored 5 _ _ _ _ _ (omega arith) (length-data_in _ _ p.columns_fit.0.table p.terms_len_bound) refl begun in
+    let begun = begins-form s p.form.1 (λ i. (c.slice_known-1.given i).fits) p.form.0 in
+    let rows = part_stored 5 _ _ _ _ _ (omega arith) (length-data_in _ p.fit.0 p.few) refl begun in
     let count = part_stored 3 _ _ _ _ _ (omega arith) (length-bytes 4 _) c.put_held.ensures rows in
-    let entries = part_stored 6 _ _ _ _ _ (omega arith) (length-entries_in _ _ p.columns_fit.1 p.masks_len_bound) refl count in
+    let entries = part_stored 6 _ _ _ _ _ (omega arith) (length-entries_in _ _ p.table_fits p.masks_len_bound) refl count in
     let known = part_stored 4 _ _ _ _ _ (omega arith) (length-bytes 4 _) (rw (table-alone) at c.put_known.ensures) entries in
     known.stored

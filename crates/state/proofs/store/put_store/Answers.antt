@@ -32,28 +32,29 @@ unfolding Bytes
 put_held-requires c =
     let p = c.requires in
     let s = c.args.s.now in
-    let n = c.get32-data.ensures.0 in
-    record { columns_fit = p.columns_fit; masks_len_bound = p.terms_len_bound; n_bound = (c.requires.h_bound.0, c.requires.h_bound.2); used_le_data_most = data_rest s c.requires.h_bound.3 _ n; by_index = data_stand s c.requires.h_bound.3 (λ i. (c.slice_known-1.given i).fits) c.requires.h_bound.2 _ c.requires.data_stand.0 _ n }
+    let n = c.held-data.ensures.value in
+    let rest = data_rest s p.form.1 _ n in
+    record { fit = (p.fit.0, p.fit.1); few = p.few; used_le_data_most = (rest.0, rest.1, p.form.0); in_place = data_stand s p.form.1 (λ i. (c.slice_known-1.given i).fits) p.form.0 _ p.data_stand.0 _ n }
 
 pub put_known-requires : goal.put_known-requires
 unfolding Bytes
 put_known-requires c =
     let p = c.requires in
     let s = c.args.s.now in
-    let n = c.get32-entries.ensures.0 in
-    let same = table_stays s c.requires.h_bound.3 _ _ _ p.columns_fit.table p.terms_len_bound c.put_held.ensures _ n _ _ in
-    let rest = rest_stays s c.requires.h_bound.3 _ _ _ p.columns_fit.table p.terms_len_bound c.put_held.ensures _ n in
-    let stand = entries_stand s c.requires.h_bound.3 _ _ _ p.columns_fit.table p.terms_len_bound c.put_held.ensures _ n (λ i. (c.slice_known-1.given i).fits) c.requires.h_bound.2 _ _ c.requires.data_stand.1 in
-    record { table_fits = fits-same _ _ _ same p.table_fits; masks_len_bound = few-same _ _ _ same p.masks_len_bound; n_le_rows_most = (c.requires.h_bound.1, rest.0, search rules); by_index = stand; used_le_entries_most = rest }
+    let n = c.known-entries.ensures.value in
+    let same = table_stays s p.form.1 _ _ p.fit.0 p.few c.put_held.ensures _ n _ _ in
+    let rest = rest_stays s p.form.1 _ _ p.fit.0 p.few c.put_held.ensures _ n in
+    let stand = entries_stand s p.form.1 _ _ p.fit.0 p.few c.put_held.ensures _ n (λ i. (c.slice_known-1.given i).fits) p.form.0 _ _ p.data_stand.1 in
+    record { table_fits = fits-same _ _ _ same p.table_fits; masks_len_bound = few-same _ _ _ same p.masks_len_bound; n_le_rows_most = (p.fit.2, rest.0, search rules); by_index = stand; used_le_entries_most = rest }
 
 pub returns : goal.returns
 unfolding Bytes parts state_bytes state_of store_in
 returns c =
     let p = c.requires in
     let s = c.args.s.now in
-    let same = table_stays s c.requires.h_bound.3 _ _ _ p.columns_fit.table p.terms_len_bound c.put_held.ensures _ c.get32-entries.ensures.0 _ _ in
-    let begun = begins-form s c.requires.h_bound.3 (λ i. (c.slice_known-1.given i).fits) c.requires.h_bound.2 in
-    let rows = part_stored 5 _ _ _ _ _ (omega arith) (length-data_in _ _ p.columns_fit.table p.terms_len_bound) refl begun in
+    let same = table_stays s p.form.1 _ _ p.fit.0 p.few c.put_held.ensures _ c.known-entries.ensures.value _ _ in
+    let begun = begins-form s p.form.1 (λ i. (c.slice_known-1.given i).fits) p.form.0 in
+    let rows = part_stored 5 _ _ _ _ _ (omega arith) (length-data_in _ p.fit.0 p.few) refl begun in
     let count = part_stored 3 _ _ _ _ _ (omega arith) (length-bytes 4 _) c.put_held.ensures rows in
     let entries = part_stored 6 _ _ _ _ _ (omega arith) (length-entries_in _ _ p.table_fits p.masks_len_bound) refl count in
     let known = part_stored 4 _ _ _ _ _ (omega arith) (length-bytes 4 _) (put_same _ _ _ _ _ same c.put_known.ensures) entries in

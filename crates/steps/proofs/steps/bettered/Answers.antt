@@ -1,35 +1,16 @@
--- `steps::steps::bettered` meets its contract: the loop stops at the first held datum that betters the new one.
-use mathlib.Core.Path.{◌≡◌, refl, sym, ◌∙◌}
-use native.Mathlib.Omega.{arith}
-use Rattle.state.specs.code.Tables.{datum_of}
-use Rattle.entries.specs.code.Marks.{any_below}
-use Rattle.entries.proofs.TableLaws.{any_below_next, any_below-here}
-use Rattle.state.proofs.RowLaws.{table-room}
-use Rattle.steps.proofs.StepLaws.{bettered-rows}
-use borrow.Author.Rules.{rules}
+-- `steps::steps::bettered` meets its contract: a held datum is a row that has terms (`any-data`).
+use mathlib.Core.Path.{sym, ◌∙◌}
+use mathlib.Core.Bool.{◌&&◌}
+use Rattle.std.proofs.Common.{rules, tests}
+use Rattle.std.proofs.lemmas.Iterator.{YieldsList-from_slice}
+use Rattle.std.proofs.lemmas.Iterator.Search.{any_from_yields_List}
+use Rattle.state.specs.code.Tables.{has_terms, terms_of, datum_of, datum_in}
+use Rattle.steps.specs.Steps.{betters}
+use Rattle.steps.proofs.HeldLaws.{any-data}
 use Rattle.steps.proofs.steps.bettered.Goals as goal
-
-pub loop-i-init : goal.loop-i-init
-unfolding any_below
-loop-i-init c = (search rules, refl)
-
-pub row_betters-requires : goal.row_betters-requires
-row_betters-requires c =
-    let i = c.loop-i.i in record { i_in_bounds = (omega (arith, c.requires.0.table.counted), table-room 8 _ _ _ c.requires.0.table i c.loop-i-test.true); i_in_bounds_2 = (omega (arith, c.requires.0.lefts-long), c.requires.0.lefts_split, omega (arith, c.requires.0.rights-long), c.requires.0.rights_split, c.requires.1) }
-
-pub returns-then-row_betters : goal.returns-then-row_betters
-returns-then-row_betters c =
-    let a = c.args in
-    sym (bettered-rows a.h a.lefts.now a.rights.now a.held.now a.terms.now (datum_of a.new a.p.now)
-    ∙ any_below-here a.h c.loop-i.i _ c.loop-i-test.true (sym c.row_betters.ensures ∙ c.if-row_betters.true))
-
-pub loop-i-preserved : goal.loop-i-preserved
-loop-i-preserved c =
-    let head = c.loop-i in
-    (search rules, any_below_next head.i _ head.invariant.1 (sym c.row_betters.ensures ∙ c.if-row_betters.false))
 
 pub returns : goal.returns
 returns c =
-    let a = c.args in
-    let done : c.loop-i.i ≡ a.h = omega arith in
-    sym (bettered-rows a.h a.lefts.now a.rights.now a.held.now a.terms.now (datum_of a.new a.p.now) ∙ rw done at c.loop-i.invariant.1)
+    let n = datum_of c.args.new c.args.p.now in
+    let rows = any_from_yields_List (λ r. has_terms (terms_of r) && betters (datum_in r) n) _ _ c.any.result c.any.ensures.ran (YieldsList-from_slice c.args.held.now cc) (λ x b q k. search (rules, tests)) in
+    rows ∙ sym (any-data (λ d. betters d n) c.args.held.now)

@@ -1,75 +1,39 @@
--- `steps::steps::learn_all` meets its contract: held datum by held datum, oldest first.
-use Prim.Native.Nat.{◌+◌, ◌*◌, ◌≤◌}
-use mathlib.Core.Path.{◌≡◌, refl, ◌∙◌}
+-- `steps::steps::learn_all` meets its contract: held datum by held datum, oldest first (`learnt-more`).
+use mathlib.Core.Path.{refl}
 use native.Mathlib.Omega.{arith}
-use lib.ListN.{length, get_or}
-use Rattle.numbers.specs.Numbers.{tab}
+use lib.ListN.{length}
+use Rattle.std.proofs.Math.Seq.{take_all}
 use Rattle.steps.specs.Steps.{learnt}
-use Rattle.state.specs.code.Tables.{columns, datum_in}
-use Rattle.state.proofs.RowLaws.{table_less, table-room, row-lent, row-length}
-use Rattle.steps.proofs.StepLaws.{learnt_next, table-held}
-use borrow.Author.Rules.{rules}
+use Rattle.state.specs.code.Tables.{datum_of}
+use Rattle.state.proofs.StoreLaws.{length-terms}
+use Rattle.entries.proofs.LoanLaws.{kept_refl, kept_trans, room_left}
+use Rattle.steps.proofs.HeldLaws.{learnt-more}
 use Rattle.steps.proofs.steps.learn_all.Goals as goal
-use Rattle.steps.proofs.steps.learn_all.Goals.{In-loop-i}
 
-pub loop-i-init : goal.loop-i-init
-unfolding tab learnt
-loop-i-init c =
-    (search rules, search rules, search rules, refl, refl, table_less 16 _ _ _ _ c.requires.table_fits (omega arith), refl, refl, c.requires.marked.0, λ i l f. refl)
+pub loop-row-init : goal.loop-row-init
+unfolding learnt
+loop-row-init c = (kept_refl c.args.entries.now, omega arith, refl)
 
--- row i lies within its array
-room : (c : In-loop-i) → c.loop-i.i * 8 + get_or c.args.held.now c.loop-i.i 0 ≤ length c.args.terms.now
-room c = table-room 8 _ _ _ c.requires.columns_fit.table c.loop-i.i c.loop-i-test.true
+pub learn_from-requires-clause-room : goal.learn_from-requires-clause-room
+learn_from-requires-clause-room c =
+    room_left (length c.args.held.now) c.loop-row.row-index c.args.entries.now c.loop-row.entries c.requires.room c.loop-row.invariant.0 c.loop-row.invariant.1
+    c.loop-row-test.true
 
-pub overflow_cast-to : goal.overflow_cast-to
-overflow_cast-to c = omega (arith, c.requires.columns_fit.table.narrow c.loop-i.i)
+pub learn_from-requires-clause-q_len_bound : goal.learn_from-requires-clause-q_len_bound
+learn_from-requires-clause-q_len_bound c =
+    let p = c.requires.p_nonzero in
+    (rw c.terms.ensures (length-terms _ (c.requires.fit.0 c.loop-row.row-index _ c.loop-row-test.true)), p.0, p.1)
 
-pub overflow_add-to : goal.overflow_add-to
-overflow_add-to c = omega (arith, room (goal.at.overflow_add-to c).In-loop-i)
-
-pub both-old-requires : goal.both-old-requires
-both-old-requires c =
-    let fit = c.requires.columns_fit in
-    (omega (arith, fit.lefts-long), fit.lefts_split, omega (arith, fit.rights-long), fit.rights_split)
-
-pub slice_bounds-learn_from-start : goal.slice_bounds-learn_from-start
-slice_bounds-learn_from-start c = omega (arith, room (goal.at.slice_bounds-learn_from-start c).In-loop-i)
-
-pub slice_bounds-learn_from-end : goal.slice_bounds-learn_from-end
-slice_bounds-learn_from-end c = omega (arith, room (goal.at.slice_bounds-learn_from-end c).In-loop-i)
-
-pub slice_bounds-learn_from-count : goal.slice_bounds-learn_from-count
-slice_bounds-learn_from-count c = omega (arith, room (goal.at.slice_bounds-learn_from-count c).In-loop-i)
-
-pub learn_from-known-requires : goal.learn_from-known-requires
-learn_from-known-requires c =
-    let head = c.loop-i in
-    let i = c.loop-i.i in
-    let held = c.args.held.now in
-    let near = room (goal.at.learn_from-known-requires c).In-loop-i in
-    let p = c.requires.p_nonzero in record { state_size_in_bounds = (c.requires.state_size_in_bounds.0, c.requires.state_size_in_bounds.1, head.invariant.1); table_fits = table-held _ _ _ _ _ _ c.requires.table_fits _ head.invariant.5 head.invariant.3 head.invariant.4 _ (omega arith); q_len_bound = rw (row-lent 8 i held c.args.terms.now) (omega (arith, row-length 8 i held c.args.terms.now near, c.requires.columns_fit.table.narrow i), p.0, p.1, omega (arith, p.2)); marked = (head.invariant.8, c.both-old.ensures.2, c.requires.marked.1) }
-
-pub loop-i-preserved : goal.loop-i-preserved
-unfolding datum_in
-loop-i-preserved c =
-    let head = c.loop-i in
-    let a = c.args in
-    let made = c.learn_from-known.ensures in (
-      omega (arith, c.loop-i-test.true),
-      omega (arith, made.fact.0),
-      omega (arith, made.fact.1),
-      search rules,
-      search rules,
-      made.fact.2,
-      learnt_next _ (datum_in (columns a.lefts.now a.rights.now a.held.now a.terms.now)) head.i _ _ _ head.invariant.6
-          (rw (c.both-old.ensures.0, c.both-old.ensures.1, row-lent 8 head.i a.held.now a.terms.now) at made.masks_after),
-      search rules,
-      made.fact.3,
-      λ k l f. let same = made.fact.4 k (omega arith) f in same ∙ head.invariant.9 k l (λ z. f (same ∙ z)),
+pub loop-row-preserved : goal.loop-row-preserved
+loop-row-preserved c =
+    let made = c.learn_from.ensures in (
+      kept_trans c.args.entries.now c.loop-row.entries c.learn_from.new.entries c.loop-row.invariant.0 made.kept.0,
+      omega (arith, made.kept.1, c.loop-row.invariant.1),
+      learnt-more (datum_of c.args.new c.args.p.now) c.args.held.now c.loop-row.row-index _ c.loop-row-test.true _ _ _ c.loop-row.invariant.2
+          (rw c.terms.ensures at made.entries_after),
     )
 
 pub returns : goal.returns
 returns c =
-    let head = c.loop-i in
-    let done : head.i ≡ c.args.rows.held = omega arith in
-    record { fact = (omega arith, head.invariant.5, head.invariant.8, head.invariant.9, head.invariant.3, head.invariant.4, head.invariant.7); masks_after = rw done at head.invariant.6 }
+    let all = take_all c.loop-row.row-index c.args.held.now c.loop-row-test.false in
+    record { kept = (c.loop-row.invariant.0, omega arith); entries_after = rw all at c.loop-row.invariant.2 }

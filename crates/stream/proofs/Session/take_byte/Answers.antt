@@ -1,0 +1,31 @@
+-- `stream::Session::take_byte` meets its contract: a line feed ends the line; another byte stands behind the line's, as long as there are not 601.
+-- Assumes nothing.
+use Rattle.std.proofs.Common.{arith}
+use borrow.Author.Tests.{eq-eqb, ne_eqb}
+use Rattle.numbers.specs.Numbers.{put}
+use Rattle.stream.specs.Kept.{kept_next, text_next}
+use Rattle.stream.proofs.StreamLaws.{kept_byte, kept_full}
+use Rattle.stream.proofs.Session.take_byte.Goals as goal
+
+pub returns-then-b-eq10 : goal.returns-then-b-eq10
+unfolding kept_next text_next
+returns-then-b-eq10 c =
+    let feed = eq-eqb _ _ c.if-b-eq10.true in
+    let call = c.end_line.ensures in
+    (rw feed call.0, rw feed call.1, call.2, rw feed call.3)
+
+pub returns-then-self-le-LINE_MOST : goal.returns-then-self-le-LINE_MOST
+unfolding kept_next text_next put
+returns-then-self-le-LINE_MOST c =
+    let s = c.self.inside in
+    let other = ne_eqb _ _ c.if-b-eq10.false in
+    let line = kept_byte s.line s.size c.args.b (omega arith) (omega arith) in
+    (rw (← c.self.view_is, other, line), rw other, omega arith, rw other)
+
+pub returns-else-self-le-LINE_MOST : goal.returns-else-self-le-LINE_MOST
+unfolding kept_next text_next put
+returns-else-self-le-LINE_MOST c =
+    let s = c.self.inside in
+    let other = ne_eqb _ _ c.if-b-eq10.false in
+    let line = kept_full s.line s.size c.args.b (omega arith) (omega arith) (omega arith) in
+    (rw (← c.self.view_is, other, ← line), rw other, omega arith, rw other)

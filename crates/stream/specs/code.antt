@@ -1,2 +1,0 @@
--- The definitions that serve the code alone.
-pub mod Sessions
