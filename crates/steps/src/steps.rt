@@ -1,5 +1,5 @@
-// The four steps of receiving, on the held data in rows and the entries in a table. The new datum has the ends `new` and the terms p, apart, since step 3
-// gives it other ends under the same terms.
+// The four steps of receiving, on the held data in rows and the entries in a table. The new datum has the ends `new` and the terms p, apart, since
+// step 3 gives it other ends under the same terms.
 ghost use Rattle.std.specs.Prelude.{Bool, ◌≡◌, ◌&&◌, ◌||◌, cond, ◌++◌, ◌+◌, ◌≤◌, ◌<◌, ltb, length, All, map, position};
 ghost use Rattle.std.specs.List.{list_any};
 ghost use Rattle.predicates.specs.Predicates.{normal};
