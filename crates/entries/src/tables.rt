@@ -12,7 +12,6 @@ ghost use Rattle.state.specs.Form.{in_form};
 ghost use Rattle.state.specs.code.Tables.{Table, table_from, entry_masks, TableFits, row_of, has_terms, entries_in};
 ghost use Rattle.entries.specs.code.Marks.{Marked, Left, given_up};
 
-// The first n rows are in use.
 // The first n rows are in use; behind them is room for what is learnt, since there is no heap.
 #[derive(Drop)]
 pub struct Entries<'a> {
@@ -27,6 +26,20 @@ pub struct Entries<'a> {
     pub ghost marked: { Marked n (table_from first state.now counts.now masks.now) marks.now },
 }
 
+// The same rows, lent to be read alone.
+#[derive(Clone, Copy)]
+pub struct Standing<'a> {
+    pub state: &'a [u8],
+    pub first: usize,
+    pub counts: &'a [u32],
+    pub masks: &'a [u32],
+    pub marks: &'a [u32],
+    pub n: usize,
+    pub ghost own: { (state_size ≤ length state.now) × (first ≤ entries_most) },
+    pub ghost fits: { TableFits entry_terms n (table_from first state.now counts.now masks.now) },
+    pub ghost marked: { Marked n (table_from first state.now counts.now masks.now) marks.now },
+}
+
 // Whether no predicate of one of these marks implies one whose mark is `bound`, as far as marks tell.
 fn all_apart(marks: &[u32], bound: u32) -> bool
     ensures { result ≡ true → (i : ℕ) → i < length marks.now → Apart (get_or marks.now i 0) bound }
@@ -34,14 +47,14 @@ fn all_apart(marks: &[u32], bound: u32) -> bool
     !predicates::marks::any_may_imply(marks, bound)
 }
 
-impl Entries<'_> {
-    ghost use Rattle.entries.specs.Entries.{explained, learn};
-    ghost use Rattle.entries.specs.code.Rows.{row_in, known, Room, Kept};
+impl Standing<'_> {
+    ghost use Rattle.entries.specs.Entries.{explained};
+    ghost use Rattle.entries.specs.code.Rows.{row_at, standing};
 
     // The terms of row i: read into `room` where they stand in the bytes.
     fn row<'b>(&'b self, i: usize, room: &'b mut [u32; state::ENTRY_TERMS]) -> &'b [u32]
         requires { i < self.now.n }
-        ensures { result.now ≡ row_in self.now i }
+        ensures { result.now ≡ row_at self.now i }
     {
         let count = self.counts[i] as usize;
         if i < self.first {
@@ -60,7 +73,7 @@ impl Entries<'_> {
     fn row_implies(&self, i: usize, p: &[u32], bound: u32) -> bool
         requires i_in_bounds { i < self.now.n }
         requires bound_value { bound ≡ mark_of p.now }
-        ensures { result ≡ has_terms (row_in self.now i) && implies (row_in self.now i) p.now }
+        ensures { result ≡ has_terms (row_at self.now i) && implies (row_at self.now i) p.now }
     {
         if !predicates::marks::may_imply(self.marks[i], bound) {
             return false;
@@ -72,7 +85,7 @@ impl Entries<'_> {
 
     // Whether an entry implies p. All of them are held against p, so its mark is made once, and where no mark lets an entry imply p none is read.
     pub fn explained(&self, p: &[u32]) -> bool
-        ensures { result ≡ explained (known self.now) p.now }
+        ensures { result ≡ explained (standing self.now) p.now }
     {
         if self.n == 0 {
             return false;
@@ -88,6 +101,33 @@ impl Entries<'_> {
         }
         false
     }
+}
+
+impl Entries<'_> {
+    ghost use Rattle.entries.specs.Entries.{explained, learn};
+    ghost use Rattle.entries.specs.code.Rows.{row_in, known, row_at, standing, Room, Kept};
+
+    // The rows as they stand.
+    pub fn standing(&self) -> Standing<'_>
+        ensures rows { (result.n ≡ self.now.n) × ((i : ℕ) → row_at result i ≡ row_in self.now i) × (result.marks.now ≡ self.now.marks.now) }
+        ensures all { standing result ≡ known self.now }
+    {
+        Standing {
+            state: self.state,
+            first: self.first,
+            counts: self.counts,
+            masks: self.masks,
+            marks: self.marks,
+            n: self.n,
+        }
+    }
+
+    // Whether an entry implies p.
+    pub fn explained(&self, p: &[u32]) -> bool
+        ensures { result ≡ explained (known self.now) p.now }
+    {
+        self.standing().explained(p)
+    }
 
     // Whether e, which has terms, implies the predicate in row i; e's mark is given. No predicate of any terms implies one of none.
     // It stays beside `row_implies`: one function with the test as a closure would have to say in its contract what the closure may ask of a row.
@@ -100,7 +140,8 @@ impl Entries<'_> {
             return false;
         }
         let mut room = [0u32; state::ENTRY_TERMS];
-        let row = self.row(i, &mut room);
+        let standing = self.standing();
+        let row = standing.row(i, &mut room);
         !row.is_empty() && predicates::marks::implies_by_mark(e, row, self.marks[i])
     }
 

@@ -73,23 +73,16 @@ pub fn monitor_message_read(message: &[u8], reading: &mut [u8]) -> u32
     refusals::number(try_message_read(message, reading))
 }
 
-// Writes a message in ends form at the front of an output, which may be too short. It stands alone so that reading takes no stack for what it writes.
-#[inline(never)]
-fn put_message(out: &mut [u8], told: &Message<'_>) -> Result<(), Refusal>
-    requires sender_bound { (told.now.sender < 32) × (told.now.left < ends_limit) × (told.now.right < ends_limit)
-        × (length told.now.terms.now ≤ terms_most) }
-    requires few_words { length told.now.names.now + length told.now.terms.now + 6 ≤ words_most }
-    ensures value { (let written : List ℕ = bytes_of (words_of_message told.now) in
-        number result ≡ refuse (ltb (length out.old) (length written)) 24 0) }
-    ensures out_after { out.new ≡ after (number result) (bytes_of (words_of_message told.now)) out.old }
+// Writes a message's words at the front of an output, which may be too short.
+fn put_message(out: &mut [u8], words: &[u32]) -> Result<(), Refusal>
+    requires { length words.now ≤ words_most }
+    ensures value { number result ≡ refuse (ltb (length out.old) (length (bytes_of words.now))) 24 0 }
+    ensures out_after { out.new ≡ after (number result) (bytes_of words.now) out.old }
 {
-    let size = told.names.len() + told.terms.len() + 6;
-    if out.len() < size * 4 {
+    if out.len() < words.len() * 4 {
         return Err(Refusal::Buffer);
     }
-    let mut words = [0u32; radio::WORDS_MOST];
-    message::write::write(&mut words, told);
-    numbers::put_words(out, 0, &words[..size]);
+    numbers::put_words(out, 0, words);
     Ok(())
 }
 
@@ -99,8 +92,10 @@ fn try_message_rewrite(message: &[u8], out: &mut [u8]) -> Result<(), Refusal>
     ensures out_after { out.new ≡ rewrite_output message.now out.old }
 {
     let mut room = [0u32; radio::WORDS_MOST];
-    let told = radio::read::read(take_words(message, &mut room))?;
-    put_message(out, &told)
+    let mut words = [0u32; radio::WORDS_MOST];
+    let told = radio::write::rewrite(take_words(message, &mut room), &mut words)?;
+    let size = told.names.len() + told.terms.len() + 6;
+    put_message(out, &words[..size])
 }
 
 // Writes a message again in ends form, with the sender, epoch words, interval and terms that it has.

@@ -98,7 +98,7 @@ pub fn settle(
         n: first,
     };
     learn(&held[..h], new, p, &mut entries, blame);
-    steps::steps::drop_explained(&mut held[..h], &entries);
+    steps::steps::drop_explained(&mut held[..h], &entries.standing());
     let known = entries.n;
     if entries.explained(p) {
         return Rows { held: h, known };

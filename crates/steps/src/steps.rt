@@ -1,6 +1,6 @@
 // The four steps of receiving, on the held data in rows and the entries in a table. The new datum has the ends `new` and the terms p, apart, since
 // step 3 gives it other ends under the same terms.
-ghost use Rattle.std.specs.Prelude.{Bool, ◌≡◌, ◌&&◌, ◌||◌, cond, ◌++◌, ◌+◌, ◌≤◌, ◌<◌, ltb, length, All, map, position};
+ghost use Rattle.std.specs.Prelude.{Bool, ◌≡◌, ◌&&◌, ◌||◌, cond, ◌++◌, ℕ, ◌+◌, ◌≤◌, ◌<◌, ltb, length, get_or, All, map, position};
 ghost use Rattle.std.specs.List.{list_any};
 ghost use Rattle.predicates.specs.Predicates.{normal};
 ghost use Rattle.ends.specs.Ends.{count_of, BothSplit};
@@ -8,14 +8,14 @@ ghost use Rattle.state.specs.Model.{Datum};
 ghost use Rattle.state.specs.Layout.{datum_terms};
 ghost use Rattle.state.specs.code.Tables.{HeldFits, terms_of, has_terms, datum_of, datum_in, data_in};
 ghost use Rattle.entries.specs.Entries.{explained, learn};
-ghost use Rattle.entries.specs.code.Rows.{known, Room, Kept};
+ghost use Rattle.entries.specs.code.Rows.{known, standing, Room, Kept};
 ghost use Rattle.state.specs.declared.holding.Held.{Held};
 ghost use Rattle.steps.specs.code.Rows.{given_up_if, first_given_up};
 ghost use Rattle.steps.specs.Steps.{disjoint, learnt};
 ghost use Rattle.steps.specs.Steps.{same, met, without, betters};
 
 use ends::Ends;
-use entries::tables::Entries;
+use entries::tables::{Entries, Standing};
 use state::holding::Held;
 
 // Whether two intervals have no instant in common. The whole microseconds nearly always tell that they have one.
@@ -58,11 +58,11 @@ pub fn learn_all(held: &[Held], new: Ends, p: &[u32], entries: &mut Entries<'_>)
     }
 }
 
-// Gives up the rows that pass a test, which looks at fitting rows.
+// Gives up the rows that pass a test, which looks at these rows.
 fn give_up<F: Fn(&Held) -> bool>(held: &mut [Held], test: F)
-    requires fit { All HeldFits held.old }
-    requires looks { (r : _) → HeldFits r.now → F.pre test r }
-    ensures { (t : Held → Bool) → ((r : _) (b : Bool) → HeldFits r.now → F.post test r b → b ≡ t r.now)
+    requires { (i : ℕ) (d : Held) (r : _) → i < length held.old → r.now ≡ get_or held.old i d → F.pre test r }
+    ensures { (t : Held → Bool)
+        → ((i : ℕ) (d : Held) (r : _) (b : Bool) → i < length held.old → r.now ≡ get_or held.old i d → F.post test r b → b ≡ t r.now)
         → held.new ≡ map (λ r. given_up_if (t r) r) held.old }
 {
     for row in held.iter_mut() {
@@ -72,10 +72,10 @@ fn give_up<F: Fn(&Held) -> bool>(held: &mut [Held], test: F)
     }
 }
 
-// Step 2: held data whose predicate is implied by one entry go.
-pub fn drop_explained(held: &mut [Held], entries: &Entries<'_>)
-    requires { All HeldFits held.old }
-    ensures { held.new ≡ map (λ r. given_up_if (explained (known entries.now) (terms_of r)) r) held.old }
+// Step 2: held data whose predicate is implied by one entry go. It looks at no ends.
+pub fn drop_explained(held: &mut [Held], entries: &Standing<'_>)
+    requires { All (λ r. r.count ≤ datum_terms) held.old }
+    ensures { held.new ≡ map (λ r. given_up_if (explained (standing entries.now) (terms_of r)) r) held.old }
 {
     give_up(held, |row| entries.explained(row.terms()));
 }

@@ -5,6 +5,7 @@ use Rattle.state.specs.Layout.{entry_terms}
 use Rattle.state.specs.code.Tables.{table_from, row_of, entries_in}
 use Rattle.entries.specs.code.Marks.{Left}
 use Rattle.entries.specs.declared.tables.Entries.{Entries}
+use Rattle.entries.specs.declared.tables.Standing.{Standing}
 
 -- the terms of row i
 abbrev pub row_in : Entries → ℕ → List ℕ
@@ -13,6 +14,13 @@ row_in e i = row_of entry_terms (table_from e.first e.state.now e.counts.now e.m
 -- the entries in use
 abbrev pub known : Entries → List (List ℕ)
 known e = entries_in e.n (table_from e.first e.state.now e.counts.now e.masks.now)
+
+-- the same of rows that are lent to be read alone
+abbrev pub row_at : Standing → ℕ → List ℕ
+row_at e i = row_of entry_terms (table_from e.first e.state.now e.counts.now e.masks.now) i
+
+abbrev pub standing : Standing → List (List ℕ)
+standing e = entries_in e.n (table_from e.first e.state.now e.counts.now e.masks.now)
 
 -- the rows in the bytes are among those in use, and the arrays have room for k rows more
 pub record Room (k : ℕ) (e : Entries) : Type 0 where

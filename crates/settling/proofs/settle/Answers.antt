@@ -3,7 +3,7 @@
 -- store of the definition (`settled_by`).
 use Prim.Native.Nat.{ℕ, ◌≤◌, ◌<◌}
 use mathlib.Core.Path.{◌≡◌, refl, sym, ap, ◌∙◌}
-use mathlib.Core.List.{List, ◌++◌}
+use mathlib.Core.List.{List, ◌++◌, map}
 use native.Mathlib.Omega.{arith}
 use lib.ListN.{length, take, drop, length-append, length-drop}
 use Rattle.std.specs.Prelude.{All}
@@ -20,6 +20,7 @@ use Rattle.state.proofs.StateLaws.{entry_count_le}
 use Rattle.state.proofs.StoreLaws.{column_front, length-entry_masks, table_standing, entries_standing}
 use Rattle.entries.proofs.StandingLaws.{marks_standing}
 use Rattle.steps.specs.Steps.{learnt, unexplained, held_after, settled}
+use Rattle.steps.specs.code.Rows.{given_up_if}
 use Rattle.settling.specs.code.Rows.{DataLeft, with_term}
 use Rattle.settling.proofs.LeftLaws.{fits-gone, left-gone, left-trans, left-behind, taken-front}
 use Rattle.settling.proofs.SettleLaws.{data_unexplained, held-explained, held-placed, settled_by}
@@ -60,14 +61,21 @@ lent c = c.drop_explained.auto.held ∙ length-take-le c.args.rows.held c.args.h
 front : (c : After-drop_explained) → take c.args.rows.held (c.drop_explained.new.held ++ drop c.args.rows.held c.args.held.now) ≡ c.drop_explained.new.held
 front c = taken-front c.drop_explained.new.held (drop c.args.rows.held c.args.held.now) c.args.rows.held (lent c)
 
+-- what was lent to step 2 are the entries that were learnt
+told : (c : After-drop_explained)
+    → c.drop_explained.new.held ≡ map (λ r. given_up_if (explained (known c.learn.new.entries) (terms_of r)) r) (take c.args.rows.held c.args.held.now)
+told c =
+    c.drop_explained.ensures
+    ∙ ap (λ es. map (λ r. given_up_if (explained es (terms_of r)) r) (take c.args.rows.held c.args.held.now)) c.standing.ensures.all
+
 fits : (c : After-drop_explained) → All HeldFits c.drop_explained.new.held
-fits c = rw c.drop_explained.ensures (fits-gone (λ r. explained (known c.learn.new.entries) (terms_of r)) (take c.args.rows.held c.args.held.now) c.requires.fit.0)
+fits c = rw (told c) (fits-gone (λ r. explained (known c.learn.new.entries) (terms_of r)) (take c.args.rows.held c.args.held.now) c.requires.fit.0)
 
 left : (c : After-drop_explained) → DataLeft (take c.args.rows.held c.args.held.now) c.drop_explained.new.held
-left c = rw c.drop_explained.ensures (left-gone (λ r. explained (known c.learn.new.entries) (terms_of r)) (take c.args.rows.held c.args.held.now))
+left c = rw (told c) (left-gone (λ r. explained (known c.learn.new.entries) (terms_of r)) (take c.args.rows.held c.args.held.now))
 
 left-data : (c : After-drop_explained) → data_in c.drop_explained.new.held ≡ unexplained (known c.learn.new.entries) (data_in (take c.args.rows.held c.args.held.now))
-left-data c = rw c.drop_explained.ensures (data_unexplained (known c.learn.new.entries) (take c.args.rows.held c.args.held.now))
+left-data c = rw (told c) (data_unexplained (known c.learn.new.entries) (take c.args.rows.held c.args.held.now))
 
 -- what the arrays hold when the loan has ended
 table-fits : (s : List ℕ) (first : ℕ) (e : Entries) (counts masks : List ℕ) → e.state.now ≡ s → e.first ≡ first → counts ≡ e.counts.now → masks ≡ e.masks.now

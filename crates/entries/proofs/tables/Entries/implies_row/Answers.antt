@@ -17,13 +17,13 @@ returns-then-not-may_imply c =
 
 pub implies_by_mark-requires : goal.implies_by_mark-requires
 implies_by_mark-requires c =
-    let got = c.row-row.ensures in
+    let got = c.row-row.ensures ∙ c.standing-standing.ensures.rows.1 c.args.i in
     let some : 0 < length c.row-row.result.now = search rules in
     c.args.self.now.marked.mark c.args.i c.requires.i_in_bounds (λ z. omega (arith, some, ap length got ∙ row-none c.args.i _ _ z)) ∙ ap mark_of (sym got)
 
 pub returns-then-not-is_empty : goal.returns-then-not-is_empty
-returns-then-not-is_empty c = rw (sym c.row-row.ensures) c.implies_by_mark.ensures
+returns-then-not-is_empty c = rw (sym (c.row-row.ensures ∙ c.standing-standing.ensures.rows.1 c.args.i)) c.implies_by_mark.ensures
 
 pub returns-else-not-is_empty : goal.returns-else-not-is_empty
 returns-else-not-is_empty c =
-    rw (sym c.row-row.ensures, implies_nothing c.args.e.now c.row-row.result.now c.requires.mark_value.1 (search rules), c.if-not-is_empty.false)
+    rw (sym (c.row-row.ensures ∙ c.standing-standing.ensures.rows.1 c.args.i), implies_nothing c.args.e.now c.row-row.result.now c.requires.mark_value.1 (search rules), c.if-not-is_empty.false)

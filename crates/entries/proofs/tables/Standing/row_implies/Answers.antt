@@ -1,10 +1,10 @@
--- `entries::tables::Entries::row_implies` meets its contract: a row whose mark has a name more than that of p does not imply p (`row_apart`), nor does
+-- `entries::tables::Standing::row_implies` meets its contract: a row whose mark has a name more than that of p does not imply p (`row_apart`), nor does
 -- one without terms; else its terms are tested.
 use mathlib.Core.Path.{sym}
 use Rattle.state.proofs.RowLaws.{has_some}
 use Rattle.entries.proofs.TableLaws.{row_apart, has_none}
 use borrow.Author.Rules.{rules}
-use Rattle.entries.proofs.tables.Entries.row_implies.Goals as goal
+use Rattle.entries.proofs.tables.Standing.row_implies.Goals as goal
 
 pub returns-then-not-may_imply : goal.returns-then-not-may_imply
 returns-then-not-may_imply c =

@@ -1,4 +1,4 @@
--- `entries::tables::Entries::row` meets its contract: a row below `first` is read from the bytes (`row_read`), one from there on is a part of the array
+-- `entries::tables::Standing::row` meets its contract: a row below `first` is read from the bytes (`row_read`), one from there on is a part of the array
 -- (`row_lent`).
 use Prim.Native.Nat.{◌+◌, ◌*◌, ◌-◌, ◌≤◌}
 use mathlib.Core.Path.{◌∙◌}
@@ -8,8 +8,8 @@ use lib.ListN.{length}
 use Rattle.state.specs.code.Tables.{entry_masks}
 use Rattle.state.proofs.RowLaws.{table_less}
 use Rattle.entries.proofs.StandingLaws.{array_room, row_read, row_lent, row-taken}
-use Rattle.entries.proofs.tables.Entries.row.Goals as goal
-use Rattle.entries.proofs.tables.Entries.row.Goals.{Else-i-self}
+use Rattle.entries.proofs.tables.Standing.row.Goals as goal
+use Rattle.entries.proofs.tables.Standing.row.Goals.{Else-i-self}
 
 pub returns-then-i-self : goal.returns-then-i-self
 returns-then-i-self c =

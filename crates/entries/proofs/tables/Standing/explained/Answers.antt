@@ -1,4 +1,4 @@
--- `entries::tables::Entries::explained` meets its contract: p's mark is made, no row implies p where no mark lets one (`rows_apart`), and else the loop
+-- `entries::tables::Standing::explained` meets its contract: p's mark is made, no row implies p where no mark lets one (`rows_apart`), and else the loop
 -- stops at the first row that does.
 use mathlib.Core.Path.{◌≡◌, refl, sym, subst, ◌∙◌}
 use mathlib.Core.List.{◌++◌}
@@ -9,7 +9,7 @@ use Rattle.predicates.specs.code.Marks.{Apart}
 use Rattle.state.specs.code.Tables.{entry_masks}
 use Rattle.entries.specs.code.Marks.{any_below}
 use Rattle.entries.proofs.TableLaws.{any_below_next, any_below-none, any_below-here, rows_apart, explained-rows}
-use Rattle.entries.proofs.tables.Entries.explained.Goals as goal
+use Rattle.entries.proofs.tables.Standing.explained.Goals as goal
 
 -- there are no rows
 pub returns-then-self-eq0 : goal.returns-then-self-eq0
