@@ -71,6 +71,29 @@ digits-length (suc k) n =
 
 -- ---- lines
 
+-- a word and a number
+pub with_one_lem : (word : List ℕ) (a i j end : ℕ) (s t u v : List ℕ) → i ≡ 0 + length word → t ≡ put 0 word s
+    → j ≡ i + length (decimal a) → u ≡ put i (decimal a) t → end ≡ j + 1 → v ≡ put j (10 ∷ []) u
+    → (end ≡ length (with_one word a)) × (v ≡ put 0 (with_one word a) s)
+unfolding with_one
+with_one_lem word a i j end s t u v e₁ p₁ e₂ p₂ e₃ p₃ =
+    let tail = text_then i j end (decimal a) (10 ∷ []) t u v e₂ p₂ e₃ p₃ in
+    let all = text_then 0 i end word _ s t v e₁ p₁ tail.0 tail.1 in
+    (omega arith, all.1)
+
+-- a word and two numbers
+pub with_two_lem : (word : List ℕ) (a b i j k l end : ℕ) (s t u v w x : List ℕ) → i ≡ 0 + length word → t ≡ put 0 word s
+    → j ≡ i + length (decimal a) → u ≡ put i (decimal a) t → k ≡ j + 1 → v ≡ put j (32 ∷ []) u
+    → l ≡ k + length (decimal b) → w ≡ put k (decimal b) v → end ≡ l + 1 → x ≡ put l (10 ∷ []) w
+    → (end ≡ length (with_two word a b)) × (x ≡ put 0 (with_two word a b) s)
+unfolding with_two
+with_two_lem word a b i j k l end s t u v w x e₁ p₁ e₂ p₂ e₃ p₃ e₄ p₄ e₅ p₅ =
+    let last = text_then k l end (decimal b) (10 ∷ []) v w x e₄ p₄ e₅ p₅ in
+    let third = text_then j k end (32 ∷ []) _ u v x e₃ p₃ last.0 last.1 in
+    let second = text_then i j end (decimal a) _ t u x e₂ p₂ third.0 third.1 in
+    let all = text_then 0 i end word _ s t x e₁ p₁ second.0 second.1 in
+    (omega arith, all.1)
+
 -- a word with numbers: a space and the next one, and the line feed behind them all
 pub line_next : (word ns : List ℕ) (i : ℕ) → i < length ns →
     word ++ spaced (take (i + 1) ns) ≡ ((word ++ spaced (take i ns)) ++ (32 ∷ [])) ++ decimal (get_or ns i 0)

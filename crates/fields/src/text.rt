@@ -1,7 +1,7 @@
 // Texts and decimal numbers, as bytes at a place of the output, and the lines that they make. Each function answers the place behind what it stored.
 ghost use Rattle.std.specs.Prelude.{◌≡◌, ◌+◌, ◌*◌, ◌^◌, ◌≤◌, ◌<◌, length};
 ghost use Rattle.numbers.specs.Numbers.{put};
-ghost use Rattle.fields.specs.Decimal.{digits, decimal};
+ghost use Rattle.fields.specs.Decimal.{digits, decimal, with_one, with_two};
 ghost use Rattle.fields.specs.code.Lines.{with_numbers};
 
 // Stores the bytes of `text` in `out` from index `at` on, and answers the place behind them.
@@ -64,4 +64,29 @@ pub fn put_line(out: &mut [u8], word: &[u8], numbers: &[u64]) -> usize
         end = put_decimal(out, end, *number);
     }
     put_text(out, end, b"\n")
+}
+
+// The line of a word and a number right behind it at the front of the output; answers how many bytes it has. A number has at most 20 digits, and a
+// line feed or a space behind it.
+pub fn put_one(out: &mut [u8], word: &[u8], a: u64) -> usize
+    requires { length word.now + 21 ≤ length out.old }
+    ensures value { result ≡ length (with_one word.now a) }
+    ensures out_after { out.new ≡ put 0 (with_one word.now a) out.old }
+{
+    let first = put_text(out, 0, word);
+    let second = put_decimal(out, first, a);
+    put_text(out, second, b"\n")
+}
+
+// The line of a word and two numbers at the front of the output, with a space between the two.
+pub fn put_two(out: &mut [u8], word: &[u8], a: u64, b: u64) -> usize
+    requires { length word.now + 42 ≤ length out.old }
+    ensures value { result ≡ length (with_two word.now a b) }
+    ensures out_after { out.new ≡ put 0 (with_two word.now a b) out.old }
+{
+    let first = put_text(out, 0, word);
+    let second = put_decimal(out, first, a);
+    let third = put_text(out, second, b" ");
+    let last = put_decimal(out, third, b);
+    put_text(out, last, b"\n")
 }

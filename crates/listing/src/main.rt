@@ -35,7 +35,7 @@ const OUT_SIZE: usize = ANSWER_MOST * PIECE_MOST;
 const READ_MOST: u64 = 72_057_594_037_927_936;
 
 // How far a run has come: what it keeps, and what it has done.
-#[derive(Drop)]
+#[derive(Clone, Copy)]
 struct Progress {
     session: Session,
     tally: Tally,

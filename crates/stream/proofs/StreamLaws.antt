@@ -1,4 +1,4 @@
--- Laws of `specs.Kept`: a byte more at the end of those that were taken, and the bytes of a line that are kept.
+-- Laws of `specs.Kept`: a byte more at the end of those that were taken, the bytes of a line that are kept, and the zeros behind them.
 -- The idea: `kept_after` and `text_after` go from the first byte on, the loop adds one behind. No contract cites this file. Assumes nothing.
 use Prim.Native.Nat.{ℕ, ◌+◌, ◌*◌, ◌-◌, ◌≤◌, ◌<◌}
 use mathlib.Core.Path.{◌≡◌, refl, sym, ◌∙◌}
@@ -6,10 +6,11 @@ use mathlib.Core.List.{List, [], ◌∷◌, ◌++◌, append_assoc, append-nil}
 use native.Mathlib.Numerals.{add-one}
 use native.Mathlib.Omega.{arith}
 use lib.Dec.{eqb}
-use lib.ListN.{length, get_or, take, drop, set, length-append, length-drop, drop_of_length-le}
+use lib.ListN.{length, get_or, take, drop, set, replicate, length-append, length-drop, drop_of_length-le, replicate-append-replicate}
 use borrow.Rule.Slice.PartMut.{put_mid}
 use borrow.Author.Tests.{ne_eqb}
 use lib.Seq.{take-suc, take-suc-set, take_all, take_at, length-take-le, drop-drop, sets-eq}
+use Rattle.std.proofs.lemmas.List.{drop-set-lt, drop-replicate}
 use Rattle.numbers.specs.Numbers.{put}
 use Rattle.numbers.proofs.NumberLaws.{put_then, put_front}
 use Rattle.predicates.proofs.ListLaws.{cond_ind}
@@ -30,6 +31,23 @@ pub kept_full : (l : List ℕ) (n b : ℕ) → n ≤ line_most + 1 → line_most
 kept_full l n b h k m =
     let front : length (take n l) ≡ line_most + 1 = length-take-le n l (omega arith) ∙ omega arith in
     sym (take_at (take n l) (b ∷ []) (line_most + 1) front)
+
+-- ---- behind the line so far
+
+-- there are zeros alone, also when a byte more has come
+pub zeros_byte : (l : List ℕ) (n b : ℕ) → drop n l ≡ replicate (line_most + 1 - n) 0 → n < line_most + 1
+    → drop (n + 1) (set l n b) ≡ replicate (line_most + 1 - (n + 1)) 0
+zeros_byte l n b zeros h =
+    let rest : drop (n + 1) l ≡ drop 1 (drop n l) = sym (drop-drop 1 n l) in
+    let count : (line_most + 1 - n) - 1 ≡ line_most + 1 - (n + 1) = omega arith in
+    rw (drop-set-lt (n + 1) l n b (omega arith), rest, zeros, drop-replicate {X = ℕ} 1 (line_most + 1 - n) 0, count)
+
+-- and when the line has ended and its bytes are cleared
+pub zeros_line : (l ys : List ℕ) (n : ℕ) → drop n l ≡ replicate (line_most + 1 - n) 0 → n ≤ line_most + 1 → ys ≡ replicate n 0
+    → put_mid 0 n l ys ≡ replicate (line_most + 1) 0
+zeros_line l ys n zeros h e =
+    let count : n + (line_most + 1 - n) ≡ line_most + 1 = omega arith in
+    rw (e, zeros, replicate-append-replicate, count)
 
 -- ---- bytes behind others
 

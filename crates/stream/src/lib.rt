@@ -14,8 +14,9 @@ use std::marker::Model;
 
 // What is kept between two pieces: whether a `set` was taken, the bytes of the line that have come, and the state. `begun` stands beside the state,
 // which is no Option: a `set` that is refused works on its bytes too.
-// There is no heap, so the line's length stands beside its bytes.
-#[derive(Drop)]
+// There is no heap, so the line's length stands beside its bytes. Those behind them are zero: so a session is what it keeps and no more, and can be
+// copied.
+#[derive(Clone, Copy)]
 pub struct Session {
     begun: bool,
     size: usize,
@@ -24,11 +25,28 @@ pub struct Session {
 }
 
 impl Model for Session {
+    ghost use Rattle.std.specs.Prelude.{◌≡◌, ◌+◌, ◌-◌, ◌≤◌, ◌++◌, length, take, drop, replicate};
+    ghost use Rattle.std.proofs.Common.{arith};
+    ghost use Rattle.std.proofs.Math.Seq.{length-take-le};
+    ghost use Rattle.std.proofs.lemmas.List.{take-append-drop};
+    ghost use Rattle.lines.specs.Lines.{line_most};
+    ghost use Rattle.stream.specs.Kept.{Kept, kept};
+
     ghost Value = { Kept };
 
     ghost view = { λ s. kept s.begun s.state (take s.size s.line) };
 
-    ghost invariant = { λ s. (s.size ≤ line_most + 1) × (length s.line ≡ line_most + 1) };
+    ghost inverse = { λ k. record {
+      begun = k.begun;
+      size = length k.line;
+      line = k.line ++ replicate (line_most + 1 - length k.line) 0;
+      state = k.state;
+    } };
+
+    ghost invariant = { λ s. (s.size ≤ line_most + 1) × (length s.line ≡ line_most + 1)
+        × (drop s.size s.line ≡ replicate (line_most + 1 - s.size) 0) };
+
+    ghost inverse_ok = { λ s h. rw (length-take-le s.size s.line (omega (arith, h.0, h.1)), ← h.2, take-append-drop) };
 }
 
 impl Session {
@@ -54,6 +72,7 @@ impl Session {
     {
         let line = &self.line[..self.size];
         let filled = lines::answer(line, &mut self.state, &mut self.begun, out);
+        self.line[..self.size].fill(0);
         self.size = 0;
         filled
     }

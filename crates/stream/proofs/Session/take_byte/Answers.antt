@@ -1,10 +1,10 @@
 -- `stream::Session::take_byte` meets its contract: a line feed ends the line; another byte stands behind the line's, as long as there are not 601.
 -- Assumes nothing.
-use Rattle.std.proofs.Common.{arith}
+use Rattle.std.proofs.Common.{arith, length-set}
 use borrow.Author.Tests.{eq-eqb, ne_eqb}
 use Rattle.numbers.specs.Numbers.{put}
 use Rattle.stream.specs.Kept.{kept_next, text_next}
-use Rattle.stream.proofs.StreamLaws.{kept_byte, kept_full}
+use Rattle.stream.proofs.StreamLaws.{kept_byte, kept_full, zeros_byte}
 use Rattle.stream.proofs.Session.take_byte.Goals as goal
 
 pub returns-then-b-eq10 : goal.returns-then-b-eq10
@@ -13,6 +13,12 @@ returns-then-b-eq10 c =
     let feed = eq-eqb _ _ c.if-b-eq10.true in
     let call = c.end_line.ensures in
     (rw feed call.0, rw feed call.1, call.2, rw feed call.3)
+
+pub invariant_of-self : goal.invariant_of-self
+invariant_of-self c =
+    let s = c.self.inside in
+    let held = c.self.invariant in
+    (omega arith, rw length-set held.1, zeros_byte s.line s.size c.args.b held.2 (omega arith))
 
 pub returns-then-self-le-LINE_MOST : goal.returns-then-self-le-LINE_MOST
 unfolding kept_next text_next put
