@@ -101,7 +101,7 @@ module _ (s : List ℕ) where
   unfolding scale_of
   scale_counted base e c = rw (e, c)
 
-  pub scale_ranked : countable s ≡ false → Ranks ≡ scale_of s
+  pub scale_ranked : countable s ≡ false → Ranks 0 ≡ scale_of s
   unfolding scale_of
   scale_ranked c = rw c
 

@@ -27,11 +27,11 @@ pub const LAST: u64 = state::LAST_WHOLE * RANK_STEP;
 // Fewer whole microseconds, 2^44, have a count of millionths within 64 bits.
 const COUNT_LIMIT: u64 = 17_592_186_044_416;
 
-// How keys are made and read: by counts from a whole microsecond on, or by ranks. Ranks are a scale too, so this is no Option.
+// How keys are made and read: by counts or by ranks, and the whole microsecond that they start from. Ranks are a scale too, so this is no Option.
 #[derive(Clone, Copy, Debug, PartialEq, Eq)]
 pub enum Scale {
     Counts(u64),
-    Ranks,
+    Ranks(u64),
 }
 
 // From the least whole microsecond of the held data's left ends to the greatest of their right ends.
@@ -146,7 +146,7 @@ pub fn get_ends(s: InForm<'_>, n: usize, ends: &mut [Span]) -> Scale
     }
     let parts = parts_of(s);
     put_keys(s, n, |e: End| rank_key(&parts, e), ends);
-    Scale::Ranks
+    Scale::Ranks(0)
 }
 
 // What a whole microsecond is in a key.
@@ -155,7 +155,7 @@ fn step(scale: Scale) -> u64
 {
     match scale {
         Scale::Counts(_) => ends::MILLION,
-        Scale::Ranks => RANK_STEP,
+        Scale::Ranks(_) => RANK_STEP,
     }
 }
 
@@ -166,7 +166,7 @@ pub fn down(scale: Scale, key: u64) -> u64
 {
     match scale {
         Scale::Counts(base) => base + key / ends::MILLION,
-        Scale::Ranks => key / RANK_STEP,
+        Scale::Ranks(base) => base + key / RANK_STEP,
     }
 }
 

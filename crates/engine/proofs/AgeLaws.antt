@@ -5,9 +5,9 @@ use Prim.Native.Nat.{ℕ, zero, suc, ◌+◌, ◌*◌, ◌-◌, ◌/◌, ◌%◌
 use mathlib.Core.Path.{◌≡◌, refl, sym, ap, ◌∙◌}
 use mathlib.Core.Bool.{Bool, true, false, ◌&&◌, ◌||◌, not, cond, and-true, and_assoc}
 use mathlib.Core.List.{List, [], ◌∷◌, ◌++◌, map}
-use native.Mathlib.Nat.{add-mul, mul_assoc, mul_comm, mod-add-div'}
+use native.Mathlib.Nat.{mul-add, add-mul, mul_assoc, mul_comm, mod-add-div'}
 use native.Mathlib.Omega.{arith}
-use borrow.Author.Tests.{ltb-true, ltb-false, le-ltb, lt-leb, le-leb}
+use borrow.Author.Tests.{ltb-true, ltb-false, lt-ltb, le-ltb, lt-leb, le-leb}
 use lib.Dec.{T, leb, ltb, ltb→lt}
 use Rattle.std.specs.List.{list_any, list_all}
 use Rattle.predicates.specs.Lists.{all_below}
@@ -35,6 +35,17 @@ drift_split r d =
     let f : q * million * r ≡ q * r * million =
     mul_assoc q million r ∙ ap (λ (x : ℕ). q * x) (mul_comm million r) ∙ sym (mul_assoc q r million) in
     omega arith
+
+-- the drift takes d × r from a time at least, and adds it at most: d × (1,000,000 − r) and d × (1,000,000 + r)
+pub least-drift : (r d : ℕ) → r ≤ drift_most → least_advance r d + d * r ≡ d * million
+unfolding least_advance
+least-drift r d h =
+    let e : (million - r) + r ≡ million = omega arith in
+    sym (mul-add d (million - r) r) ∙ ap (λ (x : ℕ). d * x) e
+
+pub greatest-drift : (r d : ℕ) → greatest_advance r d ≡ d * million + d * r
+unfolding greatest_advance
+greatest-drift r d = mul-add d million r
 
 -- ---- the right ends
 
@@ -79,6 +90,15 @@ passes_stays lo hi k = go k.held
     go (d ∷ ds) = rw (leb_not end_limit (d.right + hi) (ltb (d.right + hi) end_limit) refl, go ds) (or_not (ltb (d.right + hi) end_limit) (list_all (λ e. ltb (e.right + hi) end_limit) ds))
 
 -- ---- the refusals
+
+pub age_early : (s : List ℕ) (reading : ℕ) → reading_limit ≤ reading → age_refusal (state_of s) reading ≡ 3
+unfolding age_refusal
+age_early s reading h = rw (le-leb reading_limit reading h)
+
+pub age_back : (s : List ℕ) (reading last : ℕ) → last ≡ num reading_at 8 s → reading < reading_limit → reading < last
+    → age_refusal (state_of s) reading ≡ 20
+unfolding age_refusal state_of head_of
+age_back s reading last e h k = rw (lt-leb reading_limit reading h, ← e, lt-ltb reading last k)
 
 -- the drift that the state holds
 pub drift-held : (s : List ℕ) → T (in_form s) → num drift_at 4 s ≤ drift_most

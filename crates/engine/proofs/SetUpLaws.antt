@@ -5,7 +5,7 @@ use Prim.Native.Nat.{ℕ, ◌+◌, ◌*◌, ◌≤◌, ◌<◌}
 use mathlib.Core.Path.{◌≡◌, refl, ◌∙◌}
 use mathlib.Core.List.{List, []}
 use native.Mathlib.Omega.{arith}
-use borrow.Author.Tests.{le-ltb, lt-leb}
+use borrow.Author.Tests.{lt-ltb, le-ltb, lt-leb, le-leb}
 use lib.ListN.{length, set, replicate, length-set, length-replicate}
 use Rattle.clocks.specs.Clocks.{nothing}
 use Rattle.clocks.specs.Places.{place_size, saved_bytes}
@@ -21,10 +21,31 @@ use Rattle.engine.specs.Refusals.{set_up_refusal}
 
 -- ---- the refusals
 
-pub set_up-taken : (u : Setup) → u.own ≤ name_most → u.epoch ≤ epoch_most → u.drift ≤ drift_most → u.reading < reading_limit → set_up_refusal u ≡ 0
-unfolding set_up_refusal
-set_up-taken u own epoch drift reading =
-    rw (le-ltb name_most u.own own, le-ltb epoch_most u.epoch epoch, le-ltb drift_most u.drift drift, lt-leb reading_limit u.reading reading)
+module _ (u : Setup) where
+  pub own-refused : name_most < u.own → set_up_refusal u ≡ 1
+  unfolding set_up_refusal
+  own-refused h = rw (lt-ltb name_most u.own h)
+
+  module _ (own : u.own ≤ name_most) where
+    pub epoch-refused : epoch_most < u.epoch → set_up_refusal u ≡ 41
+    unfolding set_up_refusal
+    epoch-refused h = rw (le-ltb name_most u.own own, lt-ltb epoch_most u.epoch h)
+
+    module _ (epoch : u.epoch ≤ epoch_most) where
+      pub drift-refused : drift_most < u.drift → set_up_refusal u ≡ 2
+      unfolding set_up_refusal
+      drift-refused h = rw (le-ltb name_most u.own own, le-ltb epoch_most u.epoch epoch, lt-ltb drift_most u.drift h)
+
+      module _ (drift : u.drift ≤ drift_most) where
+        pub reading-refused : reading_limit ≤ u.reading → set_up_refusal u ≡ 3
+        unfolding set_up_refusal
+        reading-refused h =
+            rw (le-ltb name_most u.own own, le-ltb epoch_most u.epoch epoch, le-ltb drift_most u.drift drift, le-leb reading_limit u.reading h)
+
+        pub set_up-taken : u.reading < reading_limit → set_up_refusal u ≡ 0
+        unfolding set_up_refusal
+        set_up-taken h =
+            rw (le-ltb name_most u.own own, le-ltb epoch_most u.epoch epoch, le-ltb drift_most u.drift drift, lt-leb reading_limit u.reading h)
 
 -- ---- the bytes
 

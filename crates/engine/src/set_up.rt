@@ -21,7 +21,7 @@ fn put_fresh(s: &mut [u8], own: u32, drift: u32, reading: u64, epoch: u64)
     numbers::put32(s, state::DRIFT_AT, drift);
     numbers::put64(s, state::READING_AT, reading);
     numbers::put32(s, state::HELD_AT, 0);
-    state::rows::clear(s, state::DATA_AT, state::ENTRIES_AT);
+    state::rows::clear(s, state::DATA_AT, state::DATA_END);
     let known = state::knowledge::fresh();
     state::store::put_known(s, 0, known.counts(), &known.masks, state::ENTRIES_MOST);
     state::rows::clear(s, state::CLOCKS_AT, state::EPOCHS_AT);
@@ -48,7 +48,7 @@ pub fn set_up(
     if (epochs::EPOCH_MOST as u64) < epoch {
         return Err(Refusal::OwnEpoch);
     }
-    if clocks::DRIFT_MOST < drift {
+    if state::DRIFT_MOST < drift {
         return Err(Refusal::Drift);
     }
     if state::READING_LIMIT <= reading {

@@ -8,6 +8,7 @@ use native.Mathlib.Omega.{arith}
 use native.Mathlib.Nat.{suc-add}
 use lib.Dec.{T, eqb, eqb→eq}
 use lib.ListN.{length, get_or, set, take, drop, replicate, length-map}
+use lib.Seq.{length-take-le, take_at, drop_at}
 use Rattle.names.specs.Sets.{set_union, minus, subset}
 use Rattle.names.specs.code.Parts.{shared}
 use Rattle.names.proofs.SetLaws.{union_left, union-none, subset-empty, empty-subset}
@@ -85,6 +86,16 @@ withdraw_stays r l k e =
     let w = withdraw-none r l k (true_T _ e) in
     let z : length l - length l ≡ 0 = omega arith in
     (ap length (sym w), rw (w, z) (sym (append-nil l)))
+
+-- what a normal form of the first n terms, without the names of r, leaves; what is behind n stays
+pub withdraw_calls : (n r : ℕ) (l u : List ℕ) → n ≤ length l → u ≡ map (λ t. minus t r) (take n l) ++ drop n l
+    → (normal (take n u) ≡ withdraw r (take n l)) × (drop n u ≡ drop n l)
+unfolding withdraw
+withdraw_calls n r l u h e =
+    let k : length (map (λ t. minus t r) (take n l)) ≡ n = length-map (take n l) (λ t. minus t r) ∙ length-take-le n l h in (
+      ap (λ (v : List ℕ). normal (take n v)) e ∙ ap normal (take_at (map (λ t. minus t r) (take n l)) (drop n l) n k),
+      ap (λ (v : List ℕ). drop n v) e ∙ drop_at (map (λ t. minus t r) (take n l)) (drop n l) n k,
+    )
 
 -- a predicate with the empty term has it alone as its normal form
 normal_true : (q : List ℕ) → holds 0 q ≡ true → normal q ≡ 0 ∷ []

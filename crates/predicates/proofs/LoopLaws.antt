@@ -8,7 +8,7 @@ use native.Mathlib.Omega.{arith}
 use lib.ListN.{length, get_or, take, drop, drop_of_length-le, length-drop}
 use lib.Seq.{drop-cons, take_all}
 use lib.Count.{ones}
-use Rattle.std.specs.List.{list_all}
+use Rattle.std.specs.List.{list_any, list_all}
 use Rattle.predicates.specs.Predicates.{degree, precedes, is_normal}
 
 -- ---- a loop that tests the elements from i on
@@ -18,6 +18,10 @@ pub drop_next : (l : List ℕ) (i : ℕ) → i < length l → drop i l ≡ get_o
 drop_next l i h = rw (add-one, drop-cons l i 0 h)
 
 module _ (f : ℕ → Bool) (l : List ℕ) (i : ℕ) where
+  -- no element passes behind the last
+  pub any-done : length l ≤ i → list_any f (drop i l) ≡ false
+  any-done h = rw (drop_of_length-le l {i = i} h)
+
   pub all_here : i < length l → f (get_or l i 0) ≡ false → list_all f (drop i l) ≡ false
   all_here h e = rw (drop_next l i h, e)
 

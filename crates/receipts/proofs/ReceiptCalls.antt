@@ -57,10 +57,17 @@ row-front : (m z r : List ℕ) → length m ≤ length z → r ≡ sets z 0 m �
 row-front m z r h e =
     ap (λ (l : List ℕ). take (length m) l) (e ∙ sets-eq m z 0 (omega arith)) ∙ take_at m (drop (0 + length m) z) (length m) refl
 
+-- the predicate formed of a row that the terms of words stand at the front of
+pub formed-front : (ws z r : List ℕ) (own same sender : ℕ) → length ws ≤ length z → r ≡ sets z 0 (masks ws) → own ≡ same
+    → formed own sender (take (length ws) r) ≡ formed same sender (masks ws)
+formed-front ws z r own same sender h e o =
+    let front = row-front (masks ws) z r (omega (arith, length-masks ws)) e in
+    rw (o, rw (length-masks ws) at front)
+
 -- the terms in a row that they stand at the front of, with room for one more
-pub formed-front : (ws z r : List ℕ) → length ws < length z → r ≡ sets z 0 (masks ws)
+pub terms-front : (ws z r : List ℕ) → length ws < length z → r ≡ sets z 0 (masks ws)
     → take (length (take (length ws + 1) r) - 1) (take (length ws + 1) r) ≡ masks ws
-formed-front ws z r h e =
+terms-front ws z r h e =
     let long : length (take (length ws + 1) r) ≡ length ws + 1 = length-take-le (length ws + 1) r (omega (arith, h, ap length e, length-sets z 0 (masks ws))) in
     let same : length ws + 1 - 1 ≡ length ws = omega arith in
     let front : take (length ws) r ≡ masks ws = rw (length-masks ws) at (row-front (masks ws) z r (omega (arith, length-masks ws)) e) in

@@ -100,7 +100,7 @@ fn head_fits(s: &[u8]) -> bool
     ensures { result ≡ head_fits s.now }
 {
     (super::own(s) <= super::NAME_MOST)
-        & ((super::drift(s) <= clocks::DRIFT_MOST)
+        & ((super::drift(s) <= super::DRIFT_MOST)
             & ((super::reading(s) < super::READING_LIMIT)
                 & ((super::held(s) <= super::DATA_MOST)
                     & (super::known(s) <= super::ENTRIES_MOST))))
@@ -113,7 +113,7 @@ fn data_fit(s: &[u8], own: u32, n: usize) -> bool
     ensures { result ≡ all_below n (datum_fits own s.now) && is_zero (datum_place n) (datum_place data_most) s.now }
 {
     super::places::each(n, |i| datum_fits(s, i, own))
-        & is_zero(&s[super::DATA_AT + n * super::DATUM_SIZE..super::ENTRIES_AT])
+        & is_zero(&s[super::DATA_AT + n * super::DATUM_SIZE..super::DATA_END])
 }
 
 // Whether the first n entries fit, and the places behind them are zero.

@@ -46,14 +46,21 @@ pub const RIGHT_MILLIONTHS_IN: usize = LEFT_MILLIONTHS_IN + 4;
 
 pub const DATUM_SIZE: usize = RIGHT_MILLIONTHS_IN + 4;
 
-// The places of entries: the first one's, how many there are, and an entry's terms and bytes.
-pub const ENTRIES_AT: usize = DATA_AT + DATA_MOST * DATUM_SIZE;
+// How many words a datum has, and where the places of data end.
+pub const DATUM_WORDS: usize = DATUM_SIZE / 4;
+
+pub const DATA_END: usize = DATA_AT + DATA_MOST * DATUM_SIZE;
+
+// The places of entries: the first one's, how many there are, and an entry's terms, bytes and words.
+pub const ENTRIES_AT: usize = DATA_END;
 
 pub const ENTRIES_MOST: usize = 32;
 
 pub const ENTRY_TERMS: usize = 16;
 
 pub const ENTRY_SIZE: usize = 4 + ENTRY_TERMS * 4;
+
+pub const ENTRY_WORDS: usize = ENTRY_SIZE / 4;
 
 // The places of the names' clocks: the first one's, and how many there are.
 pub const CLOCKS_AT: usize = ENTRIES_AT + ENTRIES_MOST * ENTRY_SIZE;
@@ -71,9 +78,11 @@ pub const ROWS_MOST: usize = DATA_MOST + ENTRIES_MOST;
 
 pub const ENTRY_MASKS: usize = ENTRIES_MOST * ENTRY_TERMS;
 
-// The last whole microsecond that can be stored, the first reading that cannot, and the highest own name.
+// The last whole microsecond that can be stored, the first reading that cannot, the highest own name, and the greatest own drift.
 pub const LAST_WHOLE: u64 = READING_LIMIT - 1;
 
 pub const READING_LIMIT: u64 = 288_230_376_151_711_744;
 
 pub const NAME_MOST: u32 = 28;
+
+pub const DRIFT_MOST: u32 = clocks::DRIFT_MOST;

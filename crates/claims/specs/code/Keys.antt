@@ -42,10 +42,10 @@ Counted s base = (countable s ≡ true) × (base ≡ base_of s)
 abbrev pub count_from : ℕ → ℕ → ℕ
 count_from base x = x - base * million
 
--- how keys are made and read; ranks are not counted from a base
+-- how keys are made and read; the ranks of a state start from 0
 abbrev pub scale_by : Bool → ℕ → Scale
 scale_by true base = Counts base
-scale_by false base = Ranks
+scale_by false base = Ranks 0
 
 unfoldable pub scale_of : List ℕ → Scale
 scale_of s = scale_by (countable s) (base_of s)
@@ -80,17 +80,17 @@ parts_of s = tab (held_count s * 2) (millionths_at s) ++ drop (held_count s * 2)
 
 abbrev pub key_by : Scale → List ℕ → ℕ → ℕ
 key_by (Counts base) parts x = count_from base x
-key_by Ranks parts x = rank_key parts x
+key_by (Ranks base) parts x = rank_key parts x
 
 -- the whole microsecond that keys start from
 abbrev pub start_of : Scale → ℕ
 start_of (Counts base) = base
-start_of Ranks = 0
+start_of (Ranks base) = base
 
 -- what a whole microsecond is in a key
 abbrev pub step_of : Scale → ℕ
 step_of (Counts base) = million
-step_of Ranks = rank_step
+step_of (Ranks base) = rank_step
 
 -- the whole microseconds on either side of the end that a key tells
 abbrev pub down_by : Scale → ℕ → ℕ

@@ -10,7 +10,7 @@ use Rattle.predicates.proofs.PredicateLaws.{formed-normal}
 use Rattle.message.specs.Words.{masks}
 use Rattle.epochs.specs.Epochs.{withdraw}
 use Rattle.epochs.proofs.WithdrawLaws.{withdraw_zero}
-use Rattle.receipts.proofs.ReceiptCalls.{formed-front, kept-front}
+use Rattle.receipts.proofs.ReceiptCalls.{kept-front, terms-front}
 use Rattle.receipts.proofs.receipt.form_row.Goals as goal
 use Rattle.receipts.proofs.receipt.form_row.Goals.{After-form-n}
 
@@ -18,7 +18,7 @@ use Rattle.receipts.proofs.receipt.form_row.Goals.{After-form-n}
 there : (c : After-form-n) → c.form-n.result ≡ length (formed c.args.own c.args.sender (masks c.args.words.now))
 there c =
     c.form-n.ensures.value.0
-    ∙ ap (λ (p : List ℕ). length (formed c.args.own c.args.sender p)) (formed-front c.args.words.now _ _ c.requires.0 c.copy_masks.ensures)
+    ∙ ap (λ (p : List ℕ). length (formed c.args.own c.args.sender p)) (terms-front c.args.words.now _ _ c.requires.0 c.copy_masks.ensures)
 
 -- what stands at the front of it
 kept : (c : After-form-n) → take c.form-n.result (c.form-n.new.terms ++ drop (length c.args.words.now + 1) c.copy_masks.new.row)
@@ -26,7 +26,7 @@ kept : (c : After-form-n) → take c.form-n.result (c.form-n.new.terms ++ drop (
 kept c =
     kept-front _ _ _ (drop (length c.args.words.now + 1) c.copy_masks.new.row) _ c.form-n.ensures.value.0
     (ap (λ (l : List ℕ). l ++ drop (length c.args.words.now + 1) c.copy_masks.new.row) c.form-n.ensures.terms_after)
-    ∙ ap (formed c.args.own c.args.sender) (formed-front c.args.words.now _ _ c.requires.0 c.copy_masks.ensures)
+    ∙ ap (formed c.args.own c.args.sender) (terms-front c.args.words.now _ _ c.requires.0 c.copy_masks.ensures)
 
 pub returns-then-late-eq0 : goal.returns-then-late-eq0
 returns-then-late-eq0 c =
