@@ -51,12 +51,12 @@ fn precedes_all(t: u32, p: &[u32]) -> bool
     p.iter().all(|u| t < *u && !names::subset(t, *u))
 }
 
-// Whether p is in normal form.
+// Whether p is in normal form. Every message read goes through this loop: by indices it is faster than by an iterator.
 pub fn is_normal(p: &[u32]) -> bool
     ensures { result ≡ is_normal p.now }
 {
-    for (i, t) in p.iter().enumerate() {
-        if !precedes_all(*t, &p[i + 1..]) {
+    for i in 0..p.len() {
+        if !precedes_all(p[i], &p[i + 1..]) {
             return false;
         }
     }
