@@ -122,7 +122,8 @@ impl Entries<'_> {
         }
     }
 
-    // Whether an entry implies p.
+    // Whether an entry implies p. It stands alone so that a receipt's frame has no room for the rows that it lends.
+    #[inline(never)]
     pub fn explained(&self, p: &[u32]) -> bool
         ensures { result ≡ explained (known self.now) p.now }
     {

@@ -46,7 +46,9 @@ fn put_terms(out: &mut [u32], at: usize, terms: &[u32])
     }
 }
 
-// Writes a message in ends form, its names right behind its head; its terms are the low 29 bits of `terms`, masks or term words.
+// Writes a message in ends form, its names right behind its head; its terms are the low 29 bits of `terms`, masks or term words. It stands alone so
+// that rewriting and writing take less stack.
+#[inline(never)]
 pub fn write(out: &mut [u32], message: &Message<'_>)
     requires sender_bound { (message.now.sender < 32) × (message.now.left < ends_limit) × (message.now.right < ends_limit)
         × (length message.now.terms.now ≤ terms_most) }
